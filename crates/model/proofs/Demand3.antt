@@ -1,0 +1,79 @@
+-- Demand 3, whole: what holds of any list of pushes (Shortest), of the plan (Balance), and of the bytes that the planner writes (Calls).
+use mathlib.Core.Path.{_≡_, sym, ap, _∙_}
+use mathlib.Core.Logic.{_↔_}
+use mathlib.Core.List.{List}
+use mathlib.Core.Option.{none}
+use Prim.Native.Nat.{ℕ, _*_, _≤_, _/_, _-_}
+use native.Mathlib.Omega.{arith}
+use lib.ListN.{length, take, drop}
+use lib.Dec.{leb}
+use Rattle.model.specs.Yard.{Yard, size, pebble, target, shortest, pebbleCount, Matched}
+use Rattle.model.specs.Judge.{row, Tree}
+use Rattle.model.specs.Push.{Move, run, Solved}
+use Rattle.model.specs.Plan.{plan}
+use Rattle.model.specs.Calls.{answered, refused, bytes, movesOf, planTests, planFault, planAnswer, planList}
+use Rattle.model.specs.Sheets.{programPlanBytes}
+use Rattle.model.specs.Demand3.{Optimal, Demand3}
+use Rattle.model.proofs.Sums.{sum-cong}
+use Rattle.model.proofs.Demands.{even-solved, solved-iff}
+use Rattle.model.proofs.Bounds.{shortest-bound, shortest-max, shortest-fits}
+use Rattle.model.proofs.Runs.{obeys, run-tree, pebbleCount-run}
+use Rattle.model.proofs.Shortest.{shortest-least, thrifty-crosses, thrifty-once, good-tree, good-thrifty}
+use Rattle.model.proofs.Balance.{plan-good, plan-even}
+use Rattle.model.proofs.Calls.{answer-answered, movesOf-bytes, length-bytes, take-overwrite, plan-none, other-unless, seven}
+
+module _ (y : Yard) (t : Tree y) where
+  -- pushes bring no pebble in or out, so a yard that some list solves has as many as targets
+  pub solved-matched : (ms : List Move) → Solved (run y ms) → Matched y
+  solved-matched ms h = sym (pebbleCount-run y t ms) ∙ sum-cong (size y) (pebble (run y ms)) (target y) h
+
+  module _ (m : Matched y) where
+    pub plan-solves : Solved (run y (plan y))
+    plan-solves = even-solved (run y (plan y)) (good-tree y t (plan y) (plan-good y t m)) (plan-even y t m)
+
+    -- Theorem 14: the plan has as many moves as the shortest length says
+    pub plan-length : length (plan y) ≡ shortest y
+    plan-length = omega (arith, plan-good y t m .spends, solved-iff (run y (plan y)) (good-tree y t (plan y) (plan-good y t m)) .0 plan-solves)
+
+    -- Corollary 15, and the same against the number of nodes: so the program's plan list is always long enough
+    pub plan-bound : length (plan y) ≤ pebbleCount y * (size y - 1)
+    plan-bound = rw plan-length (shortest-bound y t m)
+
+    pub plan-max : length (plan y) ≤ size y * size y / 4
+    plan-max = rw plan-length (shortest-max y t m)
+
+    pub plan-fits : planFault y programPlanBytes ≡ none
+    plan-fits = plan-none y programPlanBytes .1 (t, m, rw plan-length (shortest-fits y t m))
+
+    pub plan-optimal : Optimal y (plan y)
+    plan-optimal = record {
+      obeyed = plan-good y t m .obeyed;
+      solves = plan-solves;
+      crossed = λ v l. omega (arith, thrifty-crosses y t (plan y) (good-thrifty y t (plan y) (plan-good y t m)) v l, plan-even y t m v l);
+      least = λ ps h. omega (arith, plan-length, shortest-least y t ps h);
+      simple = λ ps h e s _ _ v l. thrifty-once y t ps (omega (arith, e, plan-length, solved-iff (run y ps) (run-tree (obeys ps y t) t) .0 h)) s v l;
+    }
+
+module _ (y : Yard) (list : List ℕ) where
+  -- the moves read back are those of the plan
+  pub written : (m : ℕ) → planAnswer y list ≡ answered m → (length (plan y) ≡ m) × (movesOf (take (2 * m) (planList y list)) ≡ plan y)
+  written m e =
+      let a = answer-answered (planFault y (length list)) (length (plan y)) m e in
+      (a .1, rw (a .0, take-overwrite (bytes (plan y)) list (2 * m) (length-bytes (plan y) ∙ ap (λ (x : ℕ). 2 * x) (a .1))) (movesOf-bytes (plan y)))
+
+  pub plan-seven : Tree y → (planAnswer y list ≡ refused (row 7 0)) ↔ (¬ Matched y)
+  unfolding planFault
+  plan-seven t = seven y t (length (plan y)) (drop 2 (planTests y (length list))) (other-unless 7 8 (length (plan y)) (omega arith) (leb (2 * length (plan y)) (length list)), tt)
+
+  pub demand-3 : Demand3 y list
+  demand-3 = record {
+    accepts = ((λ a. n .0 (answer-answered (planFault y (length list)) (length (plan y)) (a .0) (a .1) .0)), λ h. (length (plan y), rw (n .1 h)));
+    planned = λ m e.
+        let w = written m e in
+        let a = n .0 (answer-answered (planFault y (length list)) (length (plan y)) m e .0) in
+        (rw (w .1) (w .0), rw (w .1) (plan-optimal y (a .0) (a .1)));
+    no-plan = λ t. ((λ e ps h. plan-seven t .0 e (solved-matched y t ps h)), λ h. plan-seven t .1 (λ m. h (plan y) (plan-solves y t m)));
+  }
+    where
+      n : (planFault y (length list) ≡ none) ↔ (Tree y × Matched y × (2 * length (plan y) ≤ length list))
+      n = plan-none y (length list)

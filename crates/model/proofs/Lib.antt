@@ -1,0 +1,24 @@
+-- Laws and theorems about the definitions, from the bottom up.
+pub mod Basics
+pub mod Sums
+pub mod Climb
+pub mod Trees
+pub mod Judged
+pub mod Demands
+pub mod Bounds
+pub mod Step
+pub mod Signed
+pub mod Runs
+pub mod Shortest
+pub mod Choice
+pub mod Plan
+pub mod Serve
+pub mod Balance
+pub mod Calls
+pub mod Demand3
+pub mod Moves
+pub mod Demand2
+pub mod Trial
+pub mod Lines
+pub mod Sheets
+pub mod Worked

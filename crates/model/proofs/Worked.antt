@@ -1,0 +1,153 @@
+-- The starred yards of document 01 ('Yards worked by hand'), the examples of its table of refusals, and yards that pin each choice of a child,
+-- as one list of inputs and outcomes: the definitions, computed, give what is written here.
+use mathlib.Core.Path.{_≡_, refl}
+use mathlib.Core.Bool.{true, false}
+use mathlib.Core.List.{List, [], _∷_, map}
+use mathlib.Core.Option.{Option}
+use Prim.Native.Nat.{ℕ}
+use Prim.Native.String.{String}
+use lib.ListN.{length, take, set, replicate}
+use lib.IntN.{ℤ, pos, negsuc}
+use Rattle.model.specs.Yard.{Yard, sum, below, roots, climbs, inside, subtotal, shortest}
+use Rattle.model.specs.Judge.{Fault, row, fault, judge}
+use Rattle.model.specs.Push.{Move, push, moveFault, pushFault, legal, shifted, after}
+use Rattle.model.specs.Plan.{needy, choice, inject, extract, turn, settle, each, balance, planWithin, plan}
+use Rattle.model.specs.Calls.{Answer, answered, refused, range, demandsFault, demandsList, bytes, movesOf, planFault, planAnswer, planList, movesFault, Verdict, checkFault, checkAnswer, Trial, trialFault, trialAnswer, trialPebbles}
+use Rattle.model.specs.Sheets.{text, digits, decimal, line, lines, header, cut, same, value, field, nodeLine, readNodes, readYard, moveSheet, refusalSheet, program}
+
+-- a list of n marks with a 1 at some nodes
+marks : ℕ → List ℕ → List ℕ
+marks n [] = replicate n 0
+marks n (v ∷ vs) = set (marks n vs) v 1
+
+-- a yard by its three lists
+lists : List ℕ → List ℕ → List ℕ → Yard
+lists parents pebbles targets = record { parents = parents; pebbles = pebbles; targets = targets }
+
+-- a yard by its parents, the nodes that hold a pebble and the target nodes
+yard : List ℕ → List ℕ → List ℕ → Yard
+yard parents pebbles targets = lists parents (marks (length parents) pebbles) (marks (length parents) targets)
+
+data Input : Type 0 where
+  demandsOf : Yard → Input
+  lengthOf : Yard → Input
+  testOf : Yard → Input
+  -- the plan, and its first move alone
+  planOf : Yard → Input
+  openingOf : Yard → Input
+  -- the planner with a list of so many bytes, all 9
+  planInto : ℕ → Yard → Input
+  checkOf : List ℕ → Yard → Input
+  trialOf : List ℕ → ℕ → Yard → Input
+  printOf : String → Input
+
+data Outcome : Type 0 where
+  demands : List ℤ → Outcome
+  number : ℕ → Outcome
+  refusal : Option Fault → Outcome
+  moves : List Move → Outcome
+  planned : Answer ℕ → List ℕ → Outcome
+  checked : Answer Verdict → Outcome
+  tried : Answer Trial → List ℕ → Outcome
+  printed : List ℕ → Outcome
+
+outcome : Input → Outcome
+outcome (demandsOf y) = demands (demandsList y (map (λ (_ : ℕ). pos 0) (y .parents)))
+outcome (lengthOf y) = number (shortest y)
+outcome (testOf y) = refusal (judge y)
+outcome (planOf y) = moves (plan y)
+outcome (openingOf y) = moves (take 1 (plan y))
+outcome (planInto n y) = planned (planAnswer y (replicate n 9)) (planList y (replicate n 9))
+outcome (checkOf bs y) = checked (checkAnswer y bs)
+outcome (trialOf bs budget y) = tried (trialAnswer y bs budget) (trialPebbles y bs budget)
+outcome (printOf sheet) = printed (program (text sheet))
+
+record Case : Type 0 where
+  input : Input
+  expected : Outcome
+
+infix 1 _gives_
+_gives_ : Input → Outcome → Case
+i gives o = record { input = i; expected = o }
+
+yardA : Yard
+yardA = yard (0 ∷ 0 ∷ 0 ∷ 1 ∷ 1 ∷ []) (1 ∷ 3 ∷ []) (2 ∷ 4 ∷ [])
+
+yardB : Yard
+yardB = yard (0 ∷ 0 ∷ 1 ∷ []) (0 ∷ 1 ∷ []) (1 ∷ 2 ∷ [])
+
+planB : List ℕ
+planB = 1 ∷ 2 ∷ 0 ∷ 1 ∷ []
+
+cases : List Case
+cases =
+    -- A
+    (demandsOf yardA gives demands (pos 0 ∷ negsuc 0 ∷ pos 1 ∷ negsuc 0 ∷ pos 1 ∷ []))
+    ∷ (lengthOf yardA gives number 4)
+    ∷ (planOf yardA gives moves (push 1 0 ∷ push 0 2 ∷ push 3 1 ∷ push 1 4 ∷ []))
+    ∷ (printOf "berth parent car target\n0 0 0 0\n1 0 1 0\n2 0 0 1\n3 1 1 0\n4 1 0 1\n" gives printed (text "from to\n1 0\n0 2\n3 1\n1 4\n"))
+    -- B
+    ∷ (planInto 4 yardB gives planned (answered 2) planB)
+    -- C
+    ∷ (planOf (yard (0 ∷ []) (0 ∷ []) (0 ∷ [])) gives moves [])
+    ∷ (planOf (yard (0 ∷ []) [] []) gives moves [])
+    -- D
+    ∷ (planOf (yard (0 ∷ 0 ∷ []) [] []) gives moves [])
+    ∷ (planOf (yard (0 ∷ 0 ∷ []) (0 ∷ []) (0 ∷ [])) gives moves [])
+    ∷ (planOf (yard (0 ∷ 0 ∷ []) (1 ∷ []) (1 ∷ [])) gives moves [])
+    ∷ (planOf (yard (0 ∷ 0 ∷ []) (0 ∷ 1 ∷ []) (0 ∷ 1 ∷ [])) gives moves [])
+    ∷ (checkOf (0 ∷ 1 ∷ 1 ∷ 0 ∷ []) (yard (0 ∷ 0 ∷ []) (0 ∷ []) (0 ∷ [])) gives checked (answered (record { moves = 2; excess = 2 })))
+    -- E
+    ∷ (planInto 7 yardA gives planned (refused (row 8 4)) (9 ∷ 9 ∷ 9 ∷ 9 ∷ 9 ∷ 9 ∷ 9 ∷ []))
+    ∷ (planInto 8 yardA gives planned (answered 4) (1 ∷ 0 ∷ 0 ∷ 2 ∷ 3 ∷ 1 ∷ 1 ∷ 4 ∷ []))
+    ∷ (planInto 9 yardA gives planned (answered 4) (1 ∷ 0 ∷ 0 ∷ 2 ∷ 3 ∷ 1 ∷ 1 ∷ 4 ∷ 9 ∷ []))
+    -- F
+    ∷ (trialOf planB 0 yardB gives tried (answered (record { taken = 0; planEnded = false })) (1 ∷ 1 ∷ 0 ∷ []))
+    ∷ (trialOf planB 1 yardB gives tried (answered (record { taken = 1; planEnded = false })) (1 ∷ 0 ∷ 1 ∷ []))
+    ∷ (trialOf planB 2 yardB gives tried (answered (record { taken = 2; planEnded = true })) (0 ∷ 1 ∷ 1 ∷ []))
+    -- G
+    ∷ (checkOf (0 ∷ 1 ∷ []) yardB gives checked (refused (row 13 0)))
+    -- H, and 5 with no root
+    ∷ (testOf (yard (1 ∷ 0 ∷ []) [] []) gives refusal (fault 5 0))
+    ∷ (testOf (yard (0 ∷ 1 ∷ []) [] []) gives refusal (fault 5 1))
+    ∷ (testOf (yard (0 ∷ 2 ∷ 1 ∷ []) [] []) gives refusal (fault 6 1))
+    ∷ (checkOf [] (yard (0 ∷ 0 ∷ []) (0 ∷ []) (1 ∷ [])) gives checked (refused (row 14 1)))
+    -- the table's examples of the other refusals, and some more of the reader's
+    ∷ (testOf (yard [] [] []) gives refusal (fault 1 0))
+    ∷ (testOf (lists (0 ∷ 0 ∷ []) (1 ∷ []) (0 ∷ 0 ∷ [])) gives refusal (fault 2 0))
+    ∷ (testOf (lists (0 ∷ 0 ∷ []) (0 ∷ 2 ∷ []) (0 ∷ 0 ∷ [])) gives refusal (fault 3 1))
+    ∷ (testOf (lists (0 ∷ 0 ∷ 0 ∷ []) (0 ∷ 0 ∷ 2 ∷ []) (2 ∷ 0 ∷ 0 ∷ [])) gives refusal (fault 3 2))
+    ∷ (testOf (yard (0 ∷ 2 ∷ []) [] []) gives refusal (fault 4 1))
+    ∷ (planInto 2 (yard (0 ∷ 0 ∷ []) (0 ∷ []) (0 ∷ 1 ∷ [])) gives planned (refused (row 7 0)) (9 ∷ 9 ∷ []))
+    ∷ (checkOf (0 ∷ 1 ∷ 1 ∷ []) (yard (0 ∷ 0 ∷ []) (0 ∷ []) (0 ∷ 1 ∷ [])) gives checked (refused (row 7 0)))
+    ∷ (checkOf (0 ∷ 1 ∷ 1 ∷ []) (yard (0 ∷ 0 ∷ []) (0 ∷ []) (0 ∷ [])) gives checked (refused (row 9 0)))
+    ∷ (checkOf (0 ∷ 2 ∷ []) (yard (0 ∷ 0 ∷ []) (0 ∷ []) (0 ∷ [])) gives checked (refused (row 10 0)))
+    ∷ (checkOf (0 ∷ 0 ∷ []) (yard (0 ∷ 0 ∷ []) (0 ∷ []) (0 ∷ [])) gives checked (refused (row 11 0)))
+    ∷ (checkOf (0 ∷ 1 ∷ 0 ∷ 1 ∷ []) (yard (0 ∷ 0 ∷ []) (0 ∷ []) (0 ∷ [])) gives checked (refused (row 12 1)))
+    ∷ (trialOf (0 ∷ 1 ∷ 0 ∷ 1 ∷ []) 2 (yard (0 ∷ 0 ∷ []) (0 ∷ []) []) gives tried (refused (row 12 1)) (1 ∷ 0 ∷ []))
+    ∷ (trialOf (0 ∷ 1 ∷ 0 ∷ 1 ∷ []) 1 (yard (0 ∷ 0 ∷ []) (0 ∷ []) []) gives tried (answered (record { taken = 1; planEnded = false })) (0 ∷ 1 ∷ []))
+    ∷ (printOf "berth parent\n" gives printed (text "refusal place\n15 1\n"))
+    ∷ (printOf "berth parent car target" gives printed (text "refusal place\n15 1\n"))
+    ∷ (printOf "berth parent car target\n" gives printed (text "refusal place\n1 2\n"))
+    ∷ (printOf "berth parent car target\n0 00 1 1\n" gives printed (text "refusal place\n16 2\n"))
+    ∷ (printOf "berth parent car target\n0 0 0 256\n" gives printed (text "refusal place\n16 2\n"))
+    ∷ (printOf "berth parent car target\n0 0 0 0\n1 0 0 0" gives printed (text "refusal place\n16 3\n"))
+    ∷ (printOf "berth parent car target\n1 0 1 1\n" gives printed (text "refusal place\n17 2\n"))
+    ∷ (printOf "berth parent car target\n0 0 2 0\n" gives printed (text "refusal place\n3 0\n"))
+    -- children are balanced in rising number
+    ∷ (planOf (yard (0 ∷ 0 ∷ 0 ∷ 1 ∷ 1 ∷ 2 ∷ 2 ∷ []) (3 ∷ 5 ∷ []) (4 ∷ 6 ∷ [])) gives moves (push 3 1 ∷ push 1 4 ∷ push 5 2 ∷ push 2 6 ∷ []))
+    -- clearing fills the lowest child that lacks a pebble
+    ∷ (planOf (yard (0 ∷ 0 ∷ 1 ∷ 1 ∷ []) (0 ∷ 1 ∷ []) (2 ∷ 3 ∷ [])) gives moves (push 1 2 ∷ push 0 1 ∷ push 1 3 ∷ []))
+    -- drawing draws from the lowest child with one too many
+    ∷ (planOf (yard (0 ∷ 0 ∷ 1 ∷ 1 ∷ []) (2 ∷ 3 ∷ []) (0 ∷ 1 ∷ [])) gives moves (push 2 1 ∷ push 1 0 ∷ push 3 1 ∷ []))
+    -- a turn fills the lowest child that lacks a pebble
+    ∷ (planOf (yard (0 ∷ 0 ∷ 0 ∷ 0 ∷ []) (0 ∷ 3 ∷ []) (1 ∷ 2 ∷ [])) gives moves (push 0 1 ∷ push 3 0 ∷ push 0 2 ∷ []))
+    -- a turn draws from the lowest child with one too many, not the one with most
+    ∷ (openingOf (yard (0 ∷ 0 ∷ 0 ∷ 2 ∷ 0 ∷ 4 ∷ 5 ∷ []) (1 ∷ 2 ∷ 3 ∷ []) (4 ∷ 5 ∷ 6 ∷ [])) gives moves (push 1 0 ∷ []))
+    -- the root is not 0, and parents have higher numbers than their children
+    ∷ (planOf (yard (3 ∷ 3 ∷ 3 ∷ 4 ∷ 4 ∷ []) (0 ∷ 1 ∷ []) (2 ∷ 4 ∷ [])) gives moves (push 0 3 ∷ push 3 4 ∷ push 1 3 ∷ push 3 2 ∷ []))
+    ∷ []
+
+worked : map (λ (c : Case). outcome (c .input)) cases ≡ map (λ (c : Case). c .expected) cases
+unfolding cases _gives_ outcome lists yard marks yardA yardB planB sum below roots climbs inside subtotal shortest judge moveFault pushFault legal shifted after needy choice inject extract turn settle each balance planWithin plan range demandsFault bytes movesOf planFault movesFault checkFault trialFault text digits decimal line lines header cut same value field nodeLine readNodes readYard moveSheet refusalSheet program
+worked = refl

@@ -1,0 +1,35 @@
+-- Demand 2: what the planner gives and what the checker accepts, on every tree with as many pebbles as targets.
+use mathlib.Core.Path.{_≡_}
+use mathlib.Core.List.{List, [], _∷_}
+use mathlib.Core.Logic.{_≢_, _↔_, _⊎_}
+use Prim.Native.Nat.{ℕ, _+_, _*_, _≤_, _<_}
+use lib.ListN.{length, getD, set, take}
+use Rattle.model.specs.Yard.{Yard, up, shortest}
+use Rattle.model.specs.Push.{Move, push}
+use Rattle.model.specs.Plan.{plan}
+use Rattle.model.specs.Calls.{answered, bytes, movesOf, planAnswer, planList, Verdict, checkAnswer}
+
+-- each of a list of moves takes one pebble to an adjacent empty node, and together they turn some marks into others: both nodes are in the
+-- yard, one is the other's parent and they differ, the first holds a pebble and the second none, and the marks follow
+pub data Carries (parents : List ℕ) : List ℕ → List Move → List ℕ → Type 0 where
+  done : {marks : List ℕ} → Carries parents marks [] marks
+  next : {marks end : List ℕ} {a b : ℕ} {ms : List Move}
+      → a < length parents
+      → b < length parents
+      → (up parents a ≡ b) ⊎ (up parents b ≡ a)
+      → a ≢ b
+      → getD marks a 0 ≡ 1
+      → getD marks b 0 ≡ 0
+      → Carries parents (set (set marks a 0) b 1) ms end
+      → Carries parents marks (push a b ∷ ms) end
+
+pub record Demand2 (y : Yard) : Type 0 where
+  -- given a list long enough, the planner writes the plan of Algorithms 1 to 4 at its front
+  pub planner : (list : List ℕ) → 2 * length (plan y) ≤ length list
+      → (planAnswer y list ≡ answered (length (plan y))) × (take (2 * length (plan y)) (planList y list) ≡ bytes (plan y))
+  -- the checker accepts at most 65,535 whole moves exactly if each carries a pebble and they end on exactly the targets
+  pub checker : (bs : List ℕ) (m : ℕ) → length bs ≡ 2 * m → m ≤ 65_535
+      → ((v : Verdict) × (checkAnswer y bs ≡ answered v)) ↔ Carries (y .parents) (y .pebbles) (movesOf bs) (y .targets)
+  -- its excess is what the moves are more than the shortest length, which is never less than none, and none for the plan
+  pub excess : (bs : List ℕ) (v : Verdict) → checkAnswer y bs ≡ answered v → (v .moves ≡ length (movesOf bs)) × (v .moves ≡ shortest y + v .excess)
+  pub spare-none : checkAnswer y (bytes (plan y)) ≡ answered (record { moves = length (plan y); excess = 0 })

@@ -1,0 +1,70 @@
+-- Refusals 1 to 6 of document 01 ('Refusals with an example each'): the first that meets a yard, with its place, or none.
+use mathlib.Core.Path.{_≡_}
+use mathlib.Core.Bool.{Bool, true, false, not, _&&_}
+use mathlib.Core.List.{List, [], _∷_}
+use mathlib.Core.Option.{Option, none, some}
+use Prim.Native.Nat.{ℕ}
+use lib.ListN.{length}
+use lib.Dec.{leb, ltb, eqb}
+use Rattle.model.specs.Yard.{Yard, size, maxSize, parent, pebble, target, capacity, below, climbs, roots, root}
+
+-- a refusal: its number in the table, and its place
+pub record Fault : Type 0 where
+  pub number : ℕ
+  pub place : ℕ
+
+abbrev pub row : ℕ → ℕ → Fault
+row n p = record { number = n; place = p }
+
+abbrev pub fault : ℕ → ℕ → Option Fault
+fault n p = some (row n p)
+
+-- the first refusal of a list
+abbrev pub firstOf : List (Option Fault) → Option Fault
+firstOf [] = none
+firstOf (none ∷ fs) = firstOf fs
+firstOf (some f ∷ fs) = some f
+
+-- a refusal that a passed test takes away
+abbrev pub unless : Bool → Option Fault → Option Fault
+unless true f = none
+unless false f = f
+
+-- refusal `number` at the lowest of these nodes
+abbrev pub atLowest : ℕ → List ℕ → Option Fault
+atLowest number [] = none
+atLowest number (v ∷ vs) = fault number v
+
+-- 1: n is 0 or above 256
+abbrev pub sizeFault : Yard → Option Fault
+sizeFault y = unless ((ltb 0 (size y)) && (leb (size y) maxSize)) (fault 1 0)
+
+-- 2: a list's length is not n
+abbrev pub lengthFault : Yard → Option Fault
+lengthFault y = unless ((eqb (length (y .pebbles)) (size y)) && (eqb (length (y .targets)) (size y))) (fault 2 0)
+
+-- 5: no root, or several: place 0, or the second-lowest root
+abbrev pub rootFault : List ℕ → Option Fault
+rootFault [] = fault 5 0
+rootFault (r ∷ []) = none
+rootFault (r ∷ s ∷ rs) = fault 5 s
+
+-- refusals 1 to 6, in their order: 3 is a mark above 1, at the lowest such node, all pebbles before targets; 4 a parent of n or more, at
+-- the lowest such node; 6 a circle, at the lowest node from which climbing does not reach the root (in n steps: so in none, `never-root`)
+abbrev pub tests : Yard → List (Option Fault)
+tests y =
+    sizeFault y
+    ∷ lengthFault y
+    ∷ atLowest 3 (below (size y) (λ v. ltb (capacity y v) (pebble y v)))
+    ∷ atLowest 3 (below (size y) (λ v. ltb (capacity y v) (target y v)))
+    ∷ atLowest 4 (below (size y) (λ v. leb (size y) (parent y v)))
+    ∷ rootFault (roots (y .parents))
+    ∷ atLowest 6 (below (size y) (λ v. not (climbs (size y) (y .parents) v (root y))))
+    ∷ []
+
+unfoldable pub judge : Yard → Option Fault
+judge y = firstOf (tests y)
+
+-- a yard is a tree if none of refusals 1 to 6 meets it ('The words of demand 3')
+abbrev pub Tree : Yard → Type 0
+Tree y = judge y ≡ none

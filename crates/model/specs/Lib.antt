@@ -1,0 +1,9 @@
+-- What a reader must believe, in the order of document 01.
+pub mod Yard
+pub mod Judge
+pub mod Push
+pub mod Plan
+pub mod Calls
+pub mod Sheets
+pub mod Demand2
+pub mod Demand3

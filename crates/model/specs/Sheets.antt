@@ -1,0 +1,196 @@
+-- Sheets ('Sheets'): the yard sheet of three lists, what the reader finds in bytes, the writer, and all that the move program prints.
+use mathlib.Core.Bool.{Bool, true, false, _&&_}
+use mathlib.Core.List.{List, [], _∷_, _++_, map, head?}
+use mathlib.Core.Option.{Option, none, some}
+use Prim.Native.Nat.{ℕ, zero, suc, _+_, _/_, _%_}
+use Prim.Native.Char.{code}
+use Prim.Native.String.{String}
+use lib.ListN.{length, take, drop}
+use lib.Dec.{leb, ltb, eqb}
+use Rattle.model.specs.Yard.{Yard, size, maxSize, parent, pebble, target, below}
+use Rattle.model.specs.Judge.{Fault, row, fault, firstOf, unless, sizeFault, lengthFault}
+use Rattle.model.specs.Push.{Move}
+use Rattle.model.specs.Plan.{plan}
+use Rattle.model.specs.Calls.{Answer, answered, refused, answer, mapAnswer, lent, overwrite, range, planFault}
+
+-- a reading that needs what another finds
+abbrev pub _>>=_ : {A B : Type 0} → Option A → (A → Option B) → Option B
+_>>=_ none f = none
+_>>=_ (some a) f = f a
+
+-- the bytes of a text
+unfoldable pub text : String → List ℕ
+text String.[] = []
+text (String._∷_ c cs) = code c ∷ text cs
+
+abbrev pub space : ℕ
+space = code " "
+
+abbrev pub lineFeed : ℕ
+lineFeed = code "\n"
+
+-- a number in decimal, without leading zeros (0 itself is one digit); k bounds its digits
+unfoldable pub digits : ℕ → ℕ → List ℕ
+digits zero n = []
+digits (suc k) n = elim (ltb n 10) [ true ↦ [] | false ↦ digits k (n / 10) ] ++ ((code "0" + n % 10) ∷ [])
+
+unfoldable pub decimal : ℕ → List ℕ
+decimal n = digits (suc n) n
+
+-- a line: values with one space between, and a line feed
+unfoldable pub line : List ℕ → List ℕ
+line [] = lineFeed ∷ []
+line (v ∷ []) = decimal v ++ (lineFeed ∷ [])
+line (v ∷ w ∷ vs) = decimal v ++ (space ∷ line (w ∷ vs))
+
+unfoldable pub lines : List (List ℕ) → List ℕ
+lines [] = []
+lines (vs ∷ vss) = line vs ++ lines vss
+
+-- the yard sheet: its header, and a line for each node in rising number from 0: the node, its parent, its pebble mark, its target mark
+unfoldable pub header : List ℕ
+header = text "berth parent car target\n"
+
+abbrev pub nodeValues : Yard → ℕ → List ℕ
+nodeValues y v = v ∷ parent y v ∷ pebble y v ∷ target y v ∷ []
+
+unfoldable pub yardSheet : Yard → List ℕ
+yardSheet y = header ++ lines (map (nodeValues y) (range 0 (size y)))
+
+-- the longest legal sheet
+abbrev pub maxSheetBytes : ℕ
+maxSheetBytes = 4_010
+
+-- The reader. What stands before the first byte `stop` of a list, and what behind it
+pub record Part : Type 0 where
+  pub before : List ℕ
+  pub behind : List ℕ
+
+unfoldable pub cut : ℕ → List ℕ → Option Part
+cut stop [] = none
+cut stop (b ∷ bs) = elim (eqb b stop) [
+  | true ↦ some (record { before = []; behind = bs })
+  | false ↦ (do
+    p ← cut stop bs
+    some (record { before = b ∷ p .before; behind = p .behind }))
+]
+
+unfoldable pub same : List ℕ → List ℕ → Bool
+same [] [] = true
+same [] (b ∷ bs) = false
+same (a ∷ xs) [] = false
+same (a ∷ xs) (b ∷ bs) = (eqb a b) && (same xs bs)
+
+-- the value that a word writes: the number from 0 to 255 whose decimal it is
+abbrev pub valueCount : ℕ
+valueCount = 256
+
+unfoldable pub value : List ℕ → Option ℕ
+value word = head? (below valueCount (λ v. same (decimal v) word))
+
+-- a value and the byte that ends it, and the bytes behind
+pub record Field : Type 0 where
+  pub value : ℕ
+  pub rest : List ℕ
+
+unfoldable pub field : ℕ → List ℕ → Option Field
+field stop bs = do
+  p ← cut stop bs
+  v ← value (p .before)
+  some (record { value = v; rest = p .behind })
+
+-- the line of a node, and the bytes behind; none if it is of another shape, has a value above 255, or lacks its line feed
+pub record NodeLine : Type 0 where
+  pub node : ℕ
+  pub parent : ℕ
+  pub pebble : ℕ
+  pub target : ℕ
+  pub rest : List ℕ
+
+unfoldable pub nodeLine : List ℕ → Option NodeLine
+nodeLine bs = do
+  v ← field space bs
+  p ← field space (v .rest)
+  c ← field space (p .rest)
+  t ← field lineFeed (c .rest)
+  some (record { node = v .value; parent = p .value; pebble = c .value; target = t .value; rest = t .rest })
+
+-- the three lists of no node, and with one node more at their front
+abbrev pub noNode : Yard
+noNode = record { parents = []; pebbles = []; targets = [] }
+
+abbrev pub withNode : NodeLine → Yard → Yard
+withNode l y = record { parents = l .parent ∷ y .parents; pebbles = l .pebble ∷ y .pebbles; targets = l .target ∷ y .targets }
+
+-- the nodes from v on, whose lines are those from v + 2 on, if k more may follow. Line by line: 1, a byte follows line 257; 16, the line is of
+-- another shape; 17, its node is not the next
+unfoldable pub readNodes : ℕ → ℕ → List ℕ → Answer Yard
+readNodes zero v [] = answered noNode
+readNodes zero v (b ∷ bs) = refused (row 1 (v + 2))
+readNodes (suc k) v [] = answered noNode
+readNodes (suc k) v (b ∷ bs) = elim (nodeLine (b ∷ bs)) [
+  | none ↦ refused (row 16 (v + 2))
+  | some l ↦ elim (eqb (l .node) v) [
+    | true ↦ mapAnswer (withNode l) (readNodes k (suc v) (l .rest))
+    | false ↦ refused (row 17 (v + 2))
+  ]
+]
+
+-- what a sheet says: 15, the header line differs or lacks its line feed; the lines in turn; 1 with place 2 if no line follows the header
+unfoldable pub readYard : List ℕ → Answer Yard
+readYard bs = elim (same (take (length header) bs) header) [
+  | false ↦ refused (row 15 1)
+  | true ↦ elim (drop (length header) bs) [ [] ↦ refused (row 1 2) | (b ∷ rest) ↦ readNodes maxSize 0 (b ∷ rest) ]
+]
+
+-- the reader's call: 18, one of its three lists is shorter than 256; then as the sheet says. It answers n and fills the first n entries of each
+unfoldable pub reader : List ℕ → List ℕ → List ℕ → List ℕ → Answer Yard
+reader bs ps cs ts = elim ((leb maxSize (length ps)) && ((leb maxSize (length cs)) && (leb maxSize (length ts)))) [
+  | true ↦ readYard bs
+  | false ↦ refused (row 18 0)
+]
+
+abbrev pub readAnswer : List ℕ → List ℕ → List ℕ → List ℕ → Answer ℕ
+readAnswer bs ps cs ts = mapAnswer size (reader bs ps cs ts)
+
+abbrev pub filled : (Yard → List ℕ) → Answer Yard → List ℕ → List ℕ
+filled entries (answered y) list = overwrite (entries y) list
+filled entries (refused f) list = list
+
+-- The writer: 1, 2, then 8 with the bytes needed as place. It fills the front of its list, leaves the bytes behind and answers its byte count.
+abbrev pub writeTests : Yard → ℕ → List (Option Fault)
+writeTests y room = sizeFault y ∷ lengthFault y ∷ unless (leb (length (yardSheet y)) room) (fault 8 (length (yardSheet y))) ∷ []
+
+unfoldable pub writeFault : Yard → ℕ → Option Fault
+writeFault y room = firstOf (writeTests y room)
+
+abbrev pub writeAnswer : Yard → List ℕ → Answer ℕ
+writeAnswer y list = answer (writeFault y (length list)) (length (yardSheet y))
+
+abbrev pub writeList : Yard → List ℕ → List ℕ
+writeList y list = lent (writeFault y (length list)) (overwrite (yardSheet y) list) list
+
+-- The move program: a move sheet, or the refusal and its place
+unfoldable pub moveSheet : List Move → List ℕ
+moveSheet ms = text "from to\n" ++ lines (map (λ (m : Move). m .from ∷ m .to ∷ []) ms)
+
+unfoldable pub refusalSheet : Fault → List ℕ
+refusalSheet f = text "refusal place\n" ++ line (f .number ∷ f .place ∷ [])
+
+-- it judges only so many bytes of its input, and its plan list has so many bytes
+abbrev pub judgedBytes : ℕ
+judgedBytes = 4_200
+
+abbrev pub programPlanBytes : ℕ
+programPlanBytes = 32_768
+
+abbrev pub sheetOf : Answer (List Move) → List ℕ
+sheetOf (answered ms) = moveSheet ms
+sheetOf (refused f) = refusalSheet f
+
+abbrev pub planOf : Answer Yard → Answer (List Move)
+planOf (answered y) = answer (planFault y programPlanBytes) (plan y)
+planOf (refused f) = refused f
+
+unfoldable pub program : List ℕ → List ℕ
+program input = sheetOf (planOf (readYard (take judgedBytes input)))
