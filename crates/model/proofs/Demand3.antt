@@ -51,7 +51,7 @@ module _ (y : Yard) (t : Tree y) where
       solves = plan-solves;
       crossed = λ v l. omega (arith, thrifty-crosses y t (plan y) (good-thrifty y t (plan y) (plan-good y t m)) v l, plan-even y t m v l);
       least = λ ps h. omega (arith, plan-length, shortest-least y t ps h);
-      simple = λ ps h e s _ _ v l. thrifty-once y t ps (omega (arith, e, plan-length, solved-iff (run y ps) (run-tree (obeys ps y t) t) .0 h)) s v l;
+      simple = λ ps h e s _ _ v l. omega (arith, thrifty-once y t ps (omega (arith, e, plan-length, solved-iff (run y ps) (run-tree (obeys ps y t) t) .0 h)) s v l);
     }
 
 module _ (y : Yard) (list : List ℕ) where

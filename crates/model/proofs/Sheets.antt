@@ -11,7 +11,7 @@ use lib.ListN.{length, take, drop, getD, replicate, length-append, take-append-d
 use lib.Seq.{take-nil, take-take, take-append-seam, drop-append-seam}
 use lib.Dec.{leb, ltb, eqb}
 use borrow.Author.Tests.{ltb-true, leb-true, eqb-true, eq-eqb}
-use Rattle.model.specs.Yard.{Yard, size, maxSize, parent, pebble, target}
+use Rattle.model.specs.Yard.{Yard, yardOf, size, maxSize, parent, pebble, target}
 use Rattle.model.specs.Judge.{Fault, row}
 use Rattle.model.specs.Calls.{Answer, answered, refused, mapAnswer, range}
 use Rattle.model.specs.Sheets.{text, digits, decimal, line, lines, header, yardSheet, maxSheetBytes, writeTests, writeFault, cut, same, field, NodeLine, nodeLine, noNode, withNode, readNodes, readYard, judgedBytes, sheetOf, planOf, program}
@@ -125,9 +125,6 @@ reads-bytes (next {y = y} b e r) =
     let g = reads-bytes r in
     let s = b .small in
     (bytes-cons (y .parents) (s .parent) (g .0), bytes-cons (y .pebbles) (s .pebble) (g .1), bytes-cons (y .targets) (s .target) (g .2))
-
-abbrev yardOf : List ℕ → List ℕ → List ℕ → Yard
-yardOf ps cs ts = record { parents = ps; pebbles = cs; targets = ts }
 
 lists-reads : (k v : ℕ) (ps cs ts : List ℕ) → v + k ≤ 256 → Sizes k (yardOf ps cs ts) → AllBytes (yardOf ps cs ts)
     → Reads k v (nodeLines v (yardOf ps cs ts)) (yardOf ps cs ts)
@@ -290,13 +287,13 @@ pub read-cut : (bs : List ℕ) → readYard (take judgedBytes bs) ≡ readYard b
 unfolding readYard header text
 read-cut bs =
     ap (λ (w : List ℕ). afterHeader (same w header) (drop 24 (take judgedBytes bs))) (take-take 24 judgedBytes bs (omega arith))
-    ∙ ap (afterHeader (same (take 24 bs) header)) (drop-take 24 4_176 bs)
+    ∙ ap (afterHeader (same (take 24 bs) header)) (drop-take 24 (judgedBytes - 24) bs)
     ∙ go (same (take 24 bs) header) (drop 24 bs)
   where
-    go : (t : Bool) (rest : List ℕ) → afterHeader t (take 4_176 rest) ≡ afterHeader t rest
+    go : (t : Bool) (rest : List ℕ) → afterHeader t (take (judgedBytes - 24) rest) ≡ afterHeader t rest
     go false rest = refl
     go true [] = refl
-    go true (b ∷ rest) = readNodes-take maxSize 0 4_176 (b ∷ rest) (omega (arith, lineRoom-all))
+    go true (b ∷ rest) = readNodes-take maxSize 0 (judgedBytes - 24) (b ∷ rest) (omega (arith, lineRoom-all))
 
 pub program-cut : (input : List ℕ) → program input ≡ sheetOf (planOf (readYard input))
 unfolding program

@@ -8,7 +8,7 @@ use Prim.Native.Nat.{ℕ}
 use Prim.Native.String.{String}
 use lib.ListN.{length, take, set, replicate}
 use lib.IntN.{ℤ, pos, negsuc}
-use Rattle.model.specs.Yard.{Yard, sum, below, roots, climbs, inside, subtotal, shortest}
+use Rattle.model.specs.Yard.{Yard, yardOf, sum, below, roots, climbs, inside, subtotal, shortest}
 use Rattle.model.specs.Judge.{Fault, row, fault, judge}
 use Rattle.model.specs.Push.{Move, push, moveFault, pushFault, legal, shifted, after}
 use Rattle.model.specs.Plan.{needy, choice, inject, extract, turn, settle, each, balance, planWithin, plan}
@@ -20,13 +20,9 @@ marks : ℕ → List ℕ → List ℕ
 marks n [] = replicate n 0
 marks n (v ∷ vs) = set (marks n vs) v 1
 
--- a yard by its three lists
-lists : List ℕ → List ℕ → List ℕ → Yard
-lists parents pebbles targets = record { parents = parents; pebbles = pebbles; targets = targets }
-
 -- a yard by its parents, the nodes that hold a pebble and the target nodes
 yard : List ℕ → List ℕ → List ℕ → Yard
-yard parents pebbles targets = lists parents (marks (length parents) pebbles) (marks (length parents) targets)
+yard parents pebbles targets = yardOf parents (marks (length parents) pebbles) (marks (length parents) targets)
 
 data Input : Type 0 where
   demandsOf : Yard → Input
@@ -105,6 +101,7 @@ cases =
     ∷ (trialOf planB 0 yardB gives tried (answered (record { taken = 0; planEnded = false })) (1 ∷ 1 ∷ 0 ∷ []))
     ∷ (trialOf planB 1 yardB gives tried (answered (record { taken = 1; planEnded = false })) (1 ∷ 0 ∷ 1 ∷ []))
     ∷ (trialOf planB 2 yardB gives tried (answered (record { taken = 2; planEnded = true })) (0 ∷ 1 ∷ 1 ∷ []))
+    ∷ (trialOf planB 3 yardB gives tried (answered (record { taken = 2; planEnded = true })) (0 ∷ 1 ∷ 1 ∷ []))
     -- G
     ∷ (checkOf (0 ∷ 1 ∷ []) yardB gives checked (refused (row 13 0)))
     -- H, and 5 with no root
@@ -114,15 +111,16 @@ cases =
     ∷ (checkOf [] (yard (0 ∷ 0 ∷ []) (0 ∷ []) (1 ∷ [])) gives checked (refused (row 14 1)))
     -- the table's examples of the other refusals, and some more of the reader's
     ∷ (testOf (yard [] [] []) gives refusal (fault 1 0))
-    ∷ (testOf (lists (0 ∷ 0 ∷ []) (1 ∷ []) (0 ∷ 0 ∷ [])) gives refusal (fault 2 0))
-    ∷ (testOf (lists (0 ∷ 0 ∷ []) (0 ∷ 2 ∷ []) (0 ∷ 0 ∷ [])) gives refusal (fault 3 1))
-    ∷ (testOf (lists (0 ∷ 0 ∷ 0 ∷ []) (0 ∷ 0 ∷ 2 ∷ []) (2 ∷ 0 ∷ 0 ∷ [])) gives refusal (fault 3 2))
+    ∷ (testOf (yardOf (0 ∷ 0 ∷ []) (1 ∷ []) (0 ∷ 0 ∷ [])) gives refusal (fault 2 0))
+    ∷ (testOf (yardOf (0 ∷ 0 ∷ []) (0 ∷ 2 ∷ []) (0 ∷ 0 ∷ [])) gives refusal (fault 3 1))
+    ∷ (testOf (yardOf (0 ∷ 0 ∷ 0 ∷ []) (0 ∷ 0 ∷ 2 ∷ []) (2 ∷ 0 ∷ 0 ∷ [])) gives refusal (fault 3 2))
     ∷ (testOf (yard (0 ∷ 2 ∷ []) [] []) gives refusal (fault 4 1))
     ∷ (planInto 2 (yard (0 ∷ 0 ∷ []) (0 ∷ []) (0 ∷ 1 ∷ [])) gives planned (refused (row 7 0)) (9 ∷ 9 ∷ []))
     ∷ (checkOf (0 ∷ 1 ∷ 1 ∷ []) (yard (0 ∷ 0 ∷ []) (0 ∷ []) (0 ∷ 1 ∷ [])) gives checked (refused (row 7 0)))
     ∷ (checkOf (0 ∷ 1 ∷ 1 ∷ []) (yard (0 ∷ 0 ∷ []) (0 ∷ []) (0 ∷ [])) gives checked (refused (row 9 0)))
     ∷ (checkOf (0 ∷ 2 ∷ []) (yard (0 ∷ 0 ∷ []) (0 ∷ []) (0 ∷ [])) gives checked (refused (row 10 0)))
     ∷ (checkOf (0 ∷ 0 ∷ []) (yard (0 ∷ 0 ∷ []) (0 ∷ []) (0 ∷ [])) gives checked (refused (row 11 0)))
+    ∷ (checkOf (1 ∷ 2 ∷ []) (yard (0 ∷ 0 ∷ 0 ∷ []) (1 ∷ []) (2 ∷ [])) gives checked (refused (row 11 0)))
     ∷ (checkOf (0 ∷ 1 ∷ 0 ∷ 1 ∷ []) (yard (0 ∷ 0 ∷ []) (0 ∷ []) (0 ∷ [])) gives checked (refused (row 12 1)))
     ∷ (trialOf (0 ∷ 1 ∷ 0 ∷ 1 ∷ []) 2 (yard (0 ∷ 0 ∷ []) (0 ∷ []) []) gives tried (refused (row 12 1)) (1 ∷ 0 ∷ []))
     ∷ (trialOf (0 ∷ 1 ∷ 0 ∷ 1 ∷ []) 1 (yard (0 ∷ 0 ∷ []) (0 ∷ []) []) gives tried (answered (record { taken = 1; planEnded = false })) (0 ∷ 1 ∷ []))
@@ -149,5 +147,5 @@ cases =
     ∷ []
 
 worked : map (λ (c : Case). outcome (c .input)) cases ≡ map (λ (c : Case). c .expected) cases
-unfolding cases _gives_ outcome lists yard marks yardA yardB planB sum below roots climbs inside subtotal shortest judge moveFault pushFault legal shifted after needy choice inject extract turn settle each balance planWithin plan range demandsFault bytes movesOf planFault movesFault checkFault trialFault text digits decimal line lines header cut same value field nodeLine readNodes readYard moveSheet refusalSheet program
+unfolding cases _gives_ outcome yard marks yardA yardB planB sum below roots climbs inside subtotal shortest judge moveFault pushFault legal shifted after needy choice inject extract turn settle each balance planWithin plan range demandsFault bytes movesOf planFault movesFault checkFault trialFault text digits decimal line lines header cut same value field nodeLine readNodes readYard moveSheet refusalSheet program
 worked = refl

@@ -5,5 +5,6 @@ pub mod Push
 pub mod Plan
 pub mod Calls
 pub mod Sheets
+pub mod Paper
 pub mod Demand2
 pub mod Demand3

@@ -7,7 +7,7 @@ use Prim.Native.Char.{code}
 use Prim.Native.String.{String}
 use lib.ListN.{length, take, drop}
 use lib.Dec.{leb, ltb, eqb}
-use Rattle.model.specs.Yard.{Yard, size, maxSize, parent, pebble, target, below}
+use Rattle.model.specs.Yard.{Yard, yardOf, size, maxSize, parent, pebble, target, below}
 use Rattle.model.specs.Judge.{Fault, row, fault, firstOf, unless, sizeFault, lengthFault}
 use Rattle.model.specs.Push.{Move}
 use Rattle.model.specs.Plan.{plan}
@@ -117,10 +117,10 @@ nodeLine bs = do
 
 -- the three lists of no node, and with one node more at their front
 abbrev pub noNode : Yard
-noNode = record { parents = []; pebbles = []; targets = [] }
+noNode = yardOf [] [] []
 
 abbrev pub withNode : NodeLine → Yard → Yard
-withNode l y = record { parents = l .parent ∷ y .parents; pebbles = l .pebble ∷ y .pebbles; targets = l .target ∷ y .targets }
+withNode l y = yardOf (l .parent ∷ y .parents) (l .pebble ∷ y .pebbles) (l .target ∷ y .targets)
 
 -- the nodes from v on, whose lines are those from v + 2 on, if k more may follow. Line by line: 1, a byte follows line 257; 16, the line is of
 -- another shape; 17, its node is not the next

@@ -14,6 +14,9 @@ pub record Yard : Type 0 where
   pub pebbles : List ℕ
   pub targets : List ℕ
 
+abbrev pub yardOf : List ℕ → List ℕ → List ℕ → Yard
+yardOf parents pebbles targets = record { parents = parents; pebbles = pebbles; targets = targets }
+
 -- n, the parent list's length
 abbrev pub size : Yard → ℕ
 size y = length (y .parents)
@@ -24,7 +27,7 @@ maxSize = 256
 
 -- a fresh yard state: one node, its own parent, with no pebble and no target
 abbrev pub fresh : Yard
-fresh = record { parents = 0 ∷ []; pebbles = 0 ∷ []; targets = 0 ∷ [] }
+fresh = yardOf (0 ∷ []) (0 ∷ []) (0 ∷ [])
 
 -- the parent of v in a list of parents, and in a yard
 abbrev pub up : List ℕ → ℕ → ℕ
@@ -51,7 +54,7 @@ held y v = ltb 0 (pebble y v)
 
 -- the yard with other pebbles
 abbrev pub holding : Yard → List ℕ → Yard
-holding y pebbles = record { parents = y .parents; pebbles = pebbles; targets = y .targets }
+holding y pebbles = yardOf (y .parents) pebbles (y .targets)
 
 -- 1 for a test that passes, 0 for one that fails
 abbrev pub one : Bool → ℕ

@@ -1,0 +1,54 @@
+-- What the cases of the answers mean, in document 01's numbers: the row and place of each refusal ('Refusals with an example each'), and the
+-- values of each answer.
+use mathlib.Core.Bool.{true, false}
+use mathlib.Core.Option.{Option, none, some}
+use Prim.Native.Nat.{ℕ}
+use Rattle.model.specs.declared.Refusal.{Refusal}
+use Rattle.model.specs.declared.Refusal.the-variants.{NodeCount, ListLength, Mark, ParentOutside, Roots, Circle, Totals, ListTooShort, PlanLength, NoSuchNode, NotAdjacent, FromEmpty, ToFull, TargetEmpty, Header, LineShape, NodeNumber, ReaderList}
+use Rattle.model.specs.declared.Done.{Done}
+use Rattle.model.specs.declared.Counted.{Counted}
+use Rattle.model.specs.declared.Checked.{Checked}
+use Rattle.model.specs.declared.Tried.{Tried}
+use Rattle.model.specs.Judge.{Fault, row}
+use Rattle.model.specs.Calls.{Answer, answered, refused, Verdict, Trial}
+
+abbrev pub paper : Refusal → Fault
+paper (NodeCount p) = row 1 p
+paper ListLength = row 2 0
+paper (Mark v) = row 3 v
+paper (ParentOutside v) = row 4 v
+paper (Roots v) = row 5 v
+paper (Circle v) = row 6 v
+paper Totals = row 7 0
+paper (ListTooShort needed) = row 8 needed
+paper PlanLength = row 9 0
+paper (NoSuchNode m) = row 10 m
+paper (NotAdjacent m) = row 11 m
+paper (FromEmpty m) = row 12 m
+paper (ToFull m) = row 13 m
+paper (TargetEmpty v) = row 14 v
+paper Header = row 15 1
+paper (LineShape l) = row 16 l
+paper (NodeNumber l) = row 17 l
+paper ReaderList = row 18 0
+
+-- accepted, or the refusal
+abbrev pub paperDone : Done → Option Fault
+paperDone Done.Accepted = none
+paperDone (Done.Refused r) = some (paper r)
+
+-- the number, or the refusal
+abbrev pub paperCounted : Counted → Answer ℕ
+paperCounted (Counted.Number n) = answered n
+paperCounted (Counted.Refused r) = refused (paper r)
+
+-- moves and excess, or the refusal
+abbrev pub paperChecked : Checked → Answer Verdict
+paperChecked (Checked.Accepted moves excess) = answered (record { moves = moves; excess = excess })
+paperChecked (Checked.Refused r) = refused (paper r)
+
+-- moves taken and which of the two ended it, or the refusal
+abbrev pub paperTried : Tried → Answer Trial
+paperTried (Tried.PlanEnded n) = answered (record { taken = n; planEnded = true })
+paperTried (Tried.BudgetEnded n) = answered (record { taken = n; planEnded = false })
+paperTried (Tried.Refused r) = refused (paper r)
