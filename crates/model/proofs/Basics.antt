@@ -95,3 +95,14 @@ pub first-join : (fs gs : List (Option Fault)) → firstOf (firstOf fs ∷ gs) �
 first-join [] gs = refl
 first-join (none ∷ fs) gs = first-join fs gs
 first-join (some f ∷ fs) gs = refl
+
+-- two lists of tests, one after the other
+pub first-refused : (fs gs : List (Option Fault)) (f : Fault) → firstOf fs ≡ some f → firstOf (fs ++ gs) ≡ some f
+first-refused [] gs f e = cc
+first-refused (none ∷ fs) gs f e = first-refused fs gs f e
+first-refused (some r ∷ fs) gs f e = e
+
+pub first-passed : (fs gs : List (Option Fault)) → firstOf fs ≡ none → firstOf (fs ++ gs) ≡ firstOf gs
+first-passed [] gs e = refl
+first-passed (none ∷ fs) gs e = first-passed fs gs e
+first-passed (some r ∷ fs) gs e = cc

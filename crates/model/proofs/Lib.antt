@@ -1,6 +1,8 @@
 -- Laws and theorems about the definitions, from the bottom up.
 pub mod Basics
+pub mod Found
 pub mod Sums
+pub mod Tests
 pub mod Climb
 pub mod Trees
 pub mod Judged

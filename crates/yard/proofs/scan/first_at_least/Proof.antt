@@ -1,0 +1,61 @@
+-- `yard::scan::first_at_least` meets its contract: every entry before the index is below the limit, so the first one met is the lowest, and past the
+-- end there is none.
+use Prim.Native.Nat.{ℕ, _-_, _<_, _≤_}
+use mathlib.Core.Path.{_≡_, _∙_}
+use mathlib.Core.Bool.{false}
+use native.Mathlib.Omega.{arith}
+use lib.ListN.{length, getD}
+use lib.Dec.{leb}
+use borrow.Author.Tests.{le-leb, lt-leb}
+use Rattle.model.proofs.Found.{found, missed, none-next}
+use Rattle.yard.proofs.scan.first_at_least.Statement.{statement}
+use Rattle.yard.proofs.scan.first_at_least.Tie as tie
+use Rattle.yard.proofs.scan.first_at_least.Reads as reads
+use Rattle.yard.proofs.scan.first_at_least.Lts as lts
+
+abbrev Inv-loop : tie.InvT-loop
+Inv-loop list limit i₀ i = (i ≤ length list) × ((v : ℕ) → v < i → leb limit (getD list v 0) ≡ false)
+
+abbrev μ-loop : tie.MeasureT-loop
+μ-loop list limit i₀ i = length list - i
+
+loop-holds : tie.Need-loop-holds Inv-loop μ-loop
+loop-holds c = (omega arith, λ v l. absurd (omega arith))
+
+shared-slice-read-if1 : tie.Need-shared-slice-read-if1 Inv-loop μ-loop
+shared-slice-read-if1 c = omega arith
+
+cast-if1 : tie.Need-cast-if1 Inv-loop μ-loop
+cast-if1 c = omega (arith, c .shared-slice-known .given (c .before .before .loop .i))
+
+returns : tie.Need-returns Inv-loop μ-loop
+returns c = found _ _ _ _ (omega arith) (c .before .before .before .loop .inv .1) (le-leb _ _ (c .if1 .taken))
+
+add-i : tie.Need-add-i Inv-loop μ-loop
+add-i c = omega arith
+
+loop-less : tie.Need-loop-less Inv-loop μ-loop
+loop-less c = omega arith
+
+loop-again : tie.Need-loop-again Inv-loop μ-loop
+loop-again c = (omega arith, none-next _ _ (c .before .before .before .loop .inv .1) (lt-leb _ _ (c .if1 .left)))
+
+returns-2 : tie.Need-returns-2 Inv-loop μ-loop
+returns-2 c =
+    let e : c .before .loop .i ≡ length (c .before .before .args .list .now) = omega arith in
+    e ∙ missed _ _ _ (λ v l. c .before .loop .inv .1 v (omega arith))
+
+pub first-at-least-spec : {M : Type 1} → statement M
+first-at-least-spec =
+    tie.close
+    (tie.spec
+    Inv-loop
+    μ-loop
+    loop-holds
+    shared-slice-read-if1
+    cast-if1
+    returns
+    add-i
+    loop-less
+    loop-again
+    returns-2)

@@ -1,0 +1,13 @@
+-- `new` makes the state of the fresh yard: three arrays of zeros and the size 1. The empty lists continued by zeros are those arrays, and
+-- cut at 1 they are the fresh yard's lists: both sides of each equation compute to the same.
+use mathlib.Core.Path.{refl}
+use Rattle.yard.specs.State.{padded}
+use Rattle.yard.proofs.state.Yard.new.Statement.{statement}
+use Rattle.yard.proofs.state.Yard.new.Tie as tie
+
+returns : tie.Need-returns
+unfolding padded
+returns c = (refl, refl)
+
+pub new-spec : {M : Type 1} → statement M
+new-spec = tie.close (tie.spec returns)

@@ -1,0 +1,64 @@
+-- `push` of a state of more than 256 nodes is refused, as its yard is. Of a smaller one the first entries of the arrays are its yard, and what
+-- a push does to them it does to the arrays.
+use mathlib.Core.Path.{_≡_, sym}
+use native.Mathlib.Omega.{arith}
+use lib.ListN.{length}
+use lib.Seq.{length-take-le}
+use borrow.Author.Needs.{needs}
+use Rattle.model.specs.Push.{push, legal}
+use Rattle.yard.proofs.Laws.{push-refused, yardIn-large, Roomy, yardIn-front, front-pushed}
+use Rattle.yard.proofs.state.Yard.push.Statement.{statement}
+use Rattle.yard.proofs.state.Yard.push.Tie as tie
+
+-- the arrays have 256 entries, so the first `size` of them are there
+long : (s : tie.Start) → (length (s .args .self .parents) ≡ 256) × (length (s .args .self .pebbles) ≡ 256) × (length (s .args .self .targets) ≡ 256)
+long s = search needs
+
+within : (c : tie.Else1) → Roomy (c .before .args .self)
+within c = omega (arith, long (c .before))
+
+returns : tie.Need-returns
+unfolding legal
+returns c =
+    let e = push-refused _ (push (c .before .args .from) (c .before .args .to)) (yardIn-large (c .before .args .self) (c .if1 .taken)) in
+    (sym e, rw e)
+
+array-share-prefix-parents : tie.Need-array-share-prefix-parents
+array-share-prefix-parents c = within (c .before .before .before) .0
+
+slice-aggregate-push-lists : tie.Need-slice-aggregate-push-lists
+slice-aggregate-push-lists c = sym (length-take-le _ _ (within (c .before .before .before .before) .0))
+
+array-borrow-prefix-pebbles : tie.Need-array-borrow-prefix-pebbles
+array-borrow-prefix-pebbles c = within (c .before .before .before .before) .1
+
+slice-aggregate-push-lists-2 : tie.Need-slice-aggregate-push-lists-2
+slice-aggregate-push-lists-2 c = sym (length-take-le _ _ (within (c .before .before .before .before .before) .1))
+
+array-share-prefix-targets : tie.Need-array-share-prefix-targets
+array-share-prefix-targets c = within (c .before .before .before .before .before) .2
+
+slice-aggregate-push-lists-3 : tie.Need-slice-aggregate-push-lists-3
+slice-aggregate-push-lists-3 c = sym (length-take-le _ _ (within (c .before .before .before .before .before .before) .2))
+
+push-lists-requires : tie.Need-push-lists-requires
+push-lists-requires c κs = search needs
+
+returns-2 : tie.Need-returns-2
+returns-2 c =
+    let e = c .before .before .before .before .before .before .before .before in
+    (rw (yardIn-front (e .before .args .self) (within e)) (c .before .push-lists .ensures .0), front-pushed (e .before .args .self) (within e) _ _ (c .before .push-lists .ensures .1))
+
+pub push-spec : {M : Type 1} → statement M
+push-spec =
+    tie.close
+    (tie.spec
+    returns
+    array-share-prefix-parents
+    slice-aggregate-push-lists
+    array-borrow-prefix-pebbles
+    slice-aggregate-push-lists-2
+    array-share-prefix-targets
+    slice-aggregate-push-lists-3
+    push-lists-requires
+    returns-2)

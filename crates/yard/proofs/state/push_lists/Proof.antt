@@ -1,0 +1,49 @@
+-- `push_lists` is refused as the lists are, or else judged as its step is: of a tree the step's tests decide. The lists of a tree are of one
+-- length, which is what the step asks.
+use borrow.Author.Needs.{needs}
+use Rattle.model.specs.Push.{legal}
+use Rattle.model.proofs.Judged.{facts}
+use Rattle.yard.proofs.Laws.{sees, refuses, push-refused, push-tree}
+use Rattle.yard.proofs.state.push_lists.Statement.{statement}
+use Rattle.yard.proofs.state.push_lists.Tie as tie
+
+test-yard-requires : tie.Need-test-yard-requires
+test-yard-requires c κs = search needs
+
+enum-known-tested : tie.Need-enum-known-tested
+enum-known-tested c = search needs
+
+same-length : tie.Need-same-length
+same-length c = search needs
+
+returns : tie.Need-returns
+unfolding legal
+returns c = refuses _ _ (push-refused _ _ (sees (c .before .before .before .test-yard .ensures) (c .before .tested .given .1)))
+
+enum-told : tie.Need-enum-told
+enum-told c = search needs
+
+step-requires : tie.Need-step-requires
+step-requires c κs = facts _ (sees (c .before .before .before .test-yard .ensures) (c .before .enum-told .given .1)) .pebbles-size
+
+same-length-2 : tie.Need-same-length-2
+same-length-2 c = search needs
+
+returns-2 : tie.Need-returns-2
+unfolding legal
+returns-2 c =
+    let e = c .before .before .before .before in
+    rw (push-tree _ _ _ _ (sees (e .before .before .test-yard .ensures) (e .enum-told .given .1))) (c .before .before .step .ensures)
+
+pub push-lists-spec : {M : Type 1} → statement M
+push-lists-spec =
+    tie.close
+    (tie.spec
+    test-yard-requires
+    enum-known-tested
+    same-length
+    returns
+    enum-told
+    step-requires
+    same-length-2
+    returns-2)

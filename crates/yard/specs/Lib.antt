@@ -1,0 +1,3 @@
+-- Definitions that speak of this crate's own types and helpers.
+pub mod Climb
+pub mod State

@@ -1,0 +1,34 @@
+// Finding the lowest entry of a list that passes a test.
+ghost use mathlib.Core.Path.{_≡_};
+ghost use mathlib.Core.Bool.{_&&_};
+ghost use lib.ListN.{length, getD};
+ghost use lib.Dec.{leb, eqb};
+ghost use Rattle.model.specs.Yard.{below, headOr};
+
+// The lowest index whose entry is at least `limit`, or the list's length.
+pub fn first_at_least(list: &[u8], limit: usize) -> usize
+    ensures { λ r. ⌜ r ≡ headOr (length (now (list .entry))) (below (length (now (list .entry))) (λ v. leb limit (getD (now (list .entry)) v 0))) ⌝ }
+{
+    let mut i = 0;
+    while i < list.len() {
+        if list[i] as usize >= limit {
+            return i;
+        }
+        i += 1;
+    }
+    i
+}
+
+// The lowest index from `start` on whose entry is the index itself, or the list's length.
+pub fn first_own(list: &[u8], start: usize) -> usize
+    ensures { λ r. ⌜ r ≡ headOr (length (now (list .entry))) (below (length (now (list .entry))) (λ v. (leb start v) && (eqb (getD (now (list .entry)) v 0) v))) ⌝ }
+{
+    let mut i = start;
+    while i < list.len() {
+        if list[i] as usize == i {
+            return i;
+        }
+        i += 1;
+    }
+    list.len()
+}

@@ -1,0 +1,136 @@
+// The yard state, by value, and one push of it.
+ghost use mathlib.Core.Path.{_≡_};
+ghost use mathlib.Core.List.{[]};
+ghost use mathlib.Core.Bool.{cond};
+ghost use Prim.Native.Nat.{_≤_};
+ghost use lib.ListN.{length};
+ghost use Rattle.model.specs.Yard.{yardOf, maxSize, fresh};
+ghost use Rattle.model.specs.Judge.{judge};
+ghost use Rattle.model.specs.Push.{push, pushFault, isNone, legal, shifted};
+ghost use Rattle.model.specs.Paper.{paperDone};
+ghost use Rattle.yard.specs.State as State;
+ghost use Rattle.yard.specs.State.{yardIn, stateOf, stateAfter};
+use crate::step::step;
+use crate::test::test_yard;
+use model::Done;
+use model::Refusal;
+
+// A yard of up to 256 nodes: the first `size` entries of each array count.
+pub struct Yard {
+    pub parents: [u8; 256],
+    pub pebbles: [u8; 256],
+    pub targets: [u8; 256],
+    pub size: usize,
+}
+
+// The yard after a push, or one made from lists, and whether it was accepted.
+pub struct Answered {
+    pub yard: Yard,
+    pub answer: Done,
+}
+
+// A list of at most 256 entries, continued by zeros.
+fn padded(list: &[u8]) -> [u8; 256]
+    requires { ⌜ length (now list) ≤ maxSize ⌝ }
+    ensures { λ r. ⌜ r ≡ State.padded maxSize (now (list .entry)) ⌝ }
+{
+    let mut array = [0u8; 256];
+    let mut i = 0;
+    while i < list.len() {
+        array[i] = list[i];
+        i += 1;
+    }
+    array
+}
+
+// One push of three lists: the tests of the yard, then the step.
+pub fn push_lists(
+    parents: &[u8],
+    pebbles: &mut [u8],
+    targets: &[u8],
+    from: usize,
+    to: usize,
+) -> Done
+    ensures { λ r. ⌜ paperDone r ≡ pushFault (yardOf (now (parents .entry)) (now (pebbles .entry)) (now (targets .entry))) (push from to) ⌝ }
+    ensures { λ r. ⌜ now (pebbles .exit) ≡ cond (legal (yardOf (now (parents .entry)) (now (pebbles .entry)) (now (targets .entry))) (push from to)) (shifted (now (pebbles .entry)) (push from to)) (now (pebbles .entry)) ⌝ }
+{
+    let tested = test_yard(parents, pebbles, targets);
+    if let Done::Refused(r) = tested {
+        return Done::Refused(r);
+    }
+    step(parents, pebbles, from, to, 0)
+}
+
+impl Yard {
+    // The largest yard.
+    pub const MAX: usize = 256;
+
+    // A fresh yard: one node, its own parent, with no pebble and no target.
+    pub fn new() -> Yard
+        ensures { λ r. ⌜ r ≡ stateOf [] [] [] 1 ⌝ }
+        ensures { λ r. ⌜ yardIn r ≡ fresh ⌝ }
+    {
+        Yard {
+            parents: [0u8; 256],
+            pebbles: [0u8; 256],
+            targets: [0u8; 256],
+            size: 1,
+        }
+    }
+
+    // The yard of three lists, refused as they are (1 to 6), and then a fresh one.
+    pub fn from_lists(parents: &[u8], pebbles: &[u8], targets: &[u8]) -> Answered
+        ensures { λ r. ⌜ paperDone (r .answer) ≡ judge (yardOf (now (parents .entry)) (now (pebbles .entry)) (now (targets .entry))) ⌝ }
+        ensures { λ r. ⌜ r .yard ≡ cond (isNone (judge (yardOf (now (parents .entry)) (now (pebbles .entry)) (now (targets .entry))))) (stateOf (now (parents .entry)) (now (pebbles .entry)) (now (targets .entry)) (length (now (parents .entry)))) (stateOf [] [] [] 1) ⌝ }
+    {
+        let answer = test_yard(parents, pebbles, targets);
+        if let Done::Refused(r) = answer {
+            return Answered {
+                yard: Yard::new(),
+                answer: Done::Refused(r),
+            };
+        }
+        Answered {
+            yard: Yard {
+                parents: padded(parents),
+                pebbles: padded(pebbles),
+                targets: padded(targets),
+                size: parents.len(),
+            },
+            answer: Done::Accepted,
+        }
+    }
+
+    // One push: refusals 1 and 3 to 6, then 10 to 13 with place 0; refused, the yard comes back unchanged.
+    pub fn push(self, from: usize, to: usize) -> Answered
+        ensures { λ r. ⌜ paperDone (r .answer) ≡ pushFault (yardIn self) (push from to) ⌝ }
+        ensures { λ r. ⌜ r .yard ≡ stateAfter self (push from to) ⌝ }
+    {
+        let size = self.size;
+        if size > Yard::MAX {
+            return Answered {
+                yard: self,
+                answer: Done::Refused(Refusal::NodeCount(0)),
+            };
+        }
+        let parents = self.parents;
+        let mut pebbles = self.pebbles;
+        let targets = self.targets;
+        let answer = push_lists(
+            &parents[..size],
+            &mut pebbles[..size],
+            &targets[..size],
+            from,
+            to,
+        );
+        Answered {
+            yard: Yard {
+                parents,
+                pebbles,
+                targets,
+                size,
+            },
+            answer,
+        }
+    }
+}

@@ -1,0 +1,90 @@
+// Testing a yard: refusals 1 to 6, in their order.
+ghost use mathlib.Core.Path.{_≡_};
+ghost use mathlib.Core.List.{[]};
+ghost use Prim.Native.Nat.{ℕ, _<_, _≤_};
+ghost use lib.ListN.{length, take, drop};
+ghost use Rattle.model.specs.Yard.{yardOf, up};
+ghost use Rattle.model.specs.Judge.{firstOf, tests, judge};
+ghost use Rattle.model.specs.Paper.{paperDone};
+use crate::circle::first_circle;
+use crate::scan::first_at_least;
+use crate::scan::first_own;
+use model::Done;
+use model::Refusal;
+
+// Refusals 1 and 2.
+fn test_lengths(parents: &[u8], pebbles: &[u8], targets: &[u8]) -> Done
+    ensures { λ r. ⌜ paperDone r ≡ firstOf (take 2 (tests (yardOf (now (parents .entry)) (now (pebbles .entry)) (now (targets .entry))))) ⌝ }
+{
+    let n = parents.len();
+    if n == 0 {
+        return Done::Refused(Refusal::NodeCount(0));
+    }
+    if n > 256 {
+        return Done::Refused(Refusal::NodeCount(0));
+    }
+    if pebbles.len() != n {
+        return Done::Refused(Refusal::ListLength);
+    }
+    if targets.len() != n {
+        return Done::Refused(Refusal::ListLength);
+    }
+    Done::Accepted
+}
+
+// Refusals 3 and 4, of lists of one length.
+fn test_entries(parents: &[u8], pebbles: &[u8], targets: &[u8]) -> Done
+    requires { ⌜ (length (now pebbles) ≡ length (now parents)) × (length (now targets) ≡ length (now parents)) ⌝ }
+    ensures { λ r. ⌜ paperDone r ≡ firstOf (take 3 (drop 2 (tests (yardOf (now (parents .entry)) (now (pebbles .entry)) (now (targets .entry)))))) ⌝ }
+{
+    let n = parents.len();
+    let pebble = first_at_least(pebbles, 2);
+    if pebble < n {
+        return Done::Refused(Refusal::Mark(pebble));
+    }
+    let target = first_at_least(targets, 2);
+    if target < n {
+        return Done::Refused(Refusal::Mark(target));
+    }
+    let parent = first_at_least(parents, n);
+    if parent < n {
+        return Done::Refused(Refusal::ParentOutside(parent));
+    }
+    Done::Accepted
+}
+
+// Refusals 5 and 6, of parents that are nodes.
+fn test_shape(parents: &[u8]) -> Done
+    requires { ⌜ (length (now parents) ≤ 256) × ((v : ℕ) → v < length (now parents) → up (now parents) v < length (now parents)) ⌝ }
+    ensures { λ r. ⌜ paperDone r ≡ firstOf (drop 5 (tests (yardOf (now (parents .entry)) [] []))) ⌝ }
+{
+    let n = parents.len();
+    let root = first_own(parents, 0);
+    if root >= n {
+        return Done::Refused(Refusal::Roots(0));
+    }
+    let second = first_own(parents, root + 1);
+    if second < n {
+        return Done::Refused(Refusal::Roots(second));
+    }
+    let circle = first_circle(parents, root);
+    if circle < n {
+        return Done::Refused(Refusal::Circle(circle));
+    }
+    Done::Accepted
+}
+
+// Whether three lists are a yard's, and a tree: refusals 1 to 6.
+pub fn test_yard(parents: &[u8], pebbles: &[u8], targets: &[u8]) -> Done
+    ensures { λ r. ⌜ paperDone r ≡ judge (yardOf (now (parents .entry)) (now (pebbles .entry)) (now (targets .entry))) ⌝ }
+{
+    let lengths = test_lengths(parents, pebbles, targets);
+    if let Done::Refused(r) = lengths {
+        return Done::Refused(r);
+    }
+    let entries = test_entries(parents, pebbles, targets);
+    if let Done::Refused(r) = entries {
+        return Done::Refused(r);
+    }
+    test_shape(parents)
+}
