@@ -1,7 +1,7 @@
 -- The lowest number that passes a test, found by trying one after another: laws for the loops that look for it.
-use mathlib.Core.Path.{_≡_, refl, ap, _∙_}
+use mathlib.Core.Path.{_≡_, refl, sym, ap, _∙_}
 use mathlib.Core.Logic.{_≢_}
-use mathlib.Core.Bool.{Bool, true, false, cond, _&&_}
+use mathlib.Core.Bool.{Bool, true, false, cond, _&&_, false≢true}
 use mathlib.Core.List.{List, [], _∷_, _++_}
 use Prim.Native.Nat.{ℕ, zero, suc, _+_, _≤_, _<_}
 use native.Mathlib.Omega.{arith}
@@ -85,3 +85,18 @@ pub below-cong : (n : ℕ) (p q : ℕ → Bool) → ((v : ℕ) → p v ≡ q v) 
 unfolding below
 below-cong zero p q h = refl
 below-cong (suc n) p q h = rw (below-cong n p q h, h n)
+
+-- a search that answers a number which does not pass has found none
+pub lowest-missing : (n d : ℕ) (p : ℕ → Bool) → d ≡ headOr d (below n p) → p d ≡ false → (v : ℕ) → v < n → p v ≡ false
+lowest-missing n d p e f = below-none n p (go (below n p) e (all-below (λ w. p w ≡ true) p n (λ w _ q. q)))
+  where
+    go : (vs : List ℕ) → d ≡ headOr d vs → All (λ w. p w ≡ true) vs → vs ≡ []
+    go [] q a = refl
+    go (w ∷ vs) q a = absurd (false≢true (sym f ∙ ap p q ∙ a .0))
+
+pub lowest-lt : (n d : ℕ) (p : ℕ → Bool) → d < n → headOr d (below n p) < n
+lowest-lt n d p l = go (below n p) (all-below (λ v. v < n) p n (λ v m _. m))
+  where
+    go : (vs : List ℕ) → All (λ v. v < n) vs → headOr d vs < n
+    go [] a = l
+    go (v ∷ vs) a = a .0

@@ -48,8 +48,20 @@ pub record Shift (y : Yard) (away : Bool) (v : ℕ) (ms : List Move) : Type 0 wh
       → pebble (run y ms) w + one (away && (eqb w (parent y v))) ≡ pebble y w + one ((not away) && (eqb w (parent y v)))
   pub beyond : (w : ℕ) → w < size y → inside (y .parents) v w ≡ false → pebblesIn (run y ms) w ≡ pebblesIn y w
 
--- one push, where v can take the pebble, or give it
+-- the push that is due over the edge of v is legal, where v can take the pebble, or give it
+unfoldable pub due-step : (y : Yard) → Tree y → (b : Bool) (v : ℕ) → Due y b v → Able y (not b) v → Step y (crossing (y .parents) b v)
+due-step y t b v u a = record { tree = t; away = b; node = v; node-lt = u .lt; off-root = u .off-root; is = refl; holds = holds b (u .ready) a; room = room b (u .ready) a }
+  where
+    holds : (b : Bool) → Able y b (parent y v) → Able y (not b) v → 0 < pebble y (crossing (y .parents) b v .from)
+    holds true r o = r
+    holds false r o = o
+
+    room : (b : Bool) → Able y b (parent y v) → Able y (not b) v → pebble y (crossing (y .parents) b v .to) < capacity y (crossing (y .parents) b v .to)
+    room true r o = o
+    room false r o = r
+
 shift-one : (y : Yard) → Tree y → (b : Bool) (v : ℕ) → Due y b v → Able y (not b) v → Shift y b v (crossing (y .parents) b v ∷ [])
+unfolding due-step
 shift-one y t b v u a = record {
   good = good-one y m s (u .needs);
   some = omega arith;
@@ -61,15 +73,7 @@ shift-one y t b v u a = record {
     m = crossing (y .parents) b v
 
     s : Step y m
-    s = record { tree = t; away = b; node = v; node-lt = u .lt; off-root = u .off-root; is = refl; holds = holds b (u .ready) a; room = room b (u .ready) a }
-      where
-        holds : (b : Bool) → Able y b (parent y v) → Able y (not b) v → 0 < pebble y (crossing (y .parents) b v .from)
-        holds true r o = r
-        holds false r o = o
-
-        room : (b : Bool) → Able y b (parent y v) → Able y (not b) v → pebble y (crossing (y .parents) b v .to) < capacity y (crossing (y .parents) b v .to)
-        room true r o = o
-        room false r o = r
+    s = due-step y t b v u a
 
     z : after y (m ∷ []) ≡ shifted (y .pebbles) m
     z = run-one y m (legal-step y m s) .0
@@ -79,40 +83,46 @@ shift-one y t b v u a = record {
     side true w d e = rw (ne-eqb w v d) at e
     side false w d e = rw (ne-eqb w v d) at e
 
--- a shift over the edge of a child c of v, and then one push over that of v
-shift-two : (y : Yard) → Tree y → (b : Bool) (v c : ℕ) (ms : List Move) → Due y b v → Child (y .parents) v c → Shift y b c ms → Shift y b v (ms ++ (crossing (y .parents) b v ∷ []))
-shift-two y t b v c ms u k p = record {
-  good = good-append y ms (crossing (y .parents) b v ∷ []) (p .good) (q .good);
-  some = rw (length-append ms (crossing (y .parents) b v ∷ [])) (omega arith);
-  outer = λ w l i. rw (after-append ms (crossing (y .parents) b v ∷ []) y) (omega (arith, q .outer w l i, stays w l i));
-  beyond = λ w l i. rw (after-append ms (crossing (y .parents) b v ∷ []) y) (q .beyond w l i ∙ p .beyond w l (outside-child (wood y t) v c w k l i));
-}
-  where
-    stays : (w : ℕ) → w < size y → inside (y .parents) v w ≡ false → pebble (run y ms) w ≡ pebble y w
-    stays w l i = omega (arith, rw (k .up, ne-eqb w v (outside-other (wood y t) v w i), and-false b, and-false (not b)) at (p .outer w l (outside-child (wood y t) v c w k l i)))
+-- a shift over the edge of a child c of v: then v can take the pebble that is still due over its own edge, or give it
+module _ (y : Yard) (t : Tree y) (b : Bool) (v c : ℕ) (ms : List Move) (u : Due y b v) (k : Child (y .parents) v c) (p : Shift y b c ms) where
+  stays : (w : ℕ) → w < size y → inside (y .parents) v w ≡ false → pebble (run y ms) w ≡ pebble y w
+  stays w l i = omega (arith, rw (k .up, ne-eqb w v (outside-other (wood y t) v w i), and-false b, and-false (not b)) at (p .outer w l (outside-child (wood y t) v c w k l i)))
 
-    parent-stays : pebble (run y ms) (parent y v) ≡ pebble y (parent y v)
-    parent-stays = stays (parent y v) (wood y t .parent-lt v (u .lt)) (parent-outside (wood y t) v (u .lt) (u .off-root))
+  v-outside : inside (y .parents) c v ≡ false
+  v-outside = rw (k .up) at (parent-outside (wood y t) c (k .lt) (child-off-root (wood y t) v c k))
 
-    v-outside : inside (y .parents) c v ≡ false
-    v-outside = rw (k .up) at (parent-outside (wood y t) c (k .lt) (child-off-root (wood y t) v c k))
+  pub due-behind : Due (run y ms) b v
+  due-behind = record { lt = u .lt; off-root = u .off-root; ready = ready b (u .ready); needs = needs b (u .needs) }
+    where
+      parent-stays : pebble (run y ms) (parent y v) ≡ pebble y (parent y v)
+      parent-stays = stays (parent y v) (wood y t .parent-lt v (u .lt)) (parent-outside (wood y t) v (u .lt) (u .off-root))
 
-    q : Shift (run y ms) b v (crossing (y .parents) b v ∷ [])
-    q = shift-one (run y ms) (good-tree y t ms (p .good)) b v
-        (record { lt = u .lt; off-root = u .off-root; ready = ready b (u .ready); needs = needs b (u .needs) })
-        (able b (rw (k .up, eq-eqb v v refl, and-true b, and-true (not b)) at (p .outer v (u .lt) v-outside)))
-      where
-        ready : (b : Bool) → Able y b (parent y v) → Able (run y ms) b (parent y v)
-        ready true a = omega (arith, parent-stays)
-        ready false a = rw parent-stays a
+      ready : (b : Bool) → Able y b (parent y v) → Able (run y ms) b (parent y v)
+      ready true a = omega (arith, parent-stays)
+      ready false a = rw parent-stays a
 
-        needs : (b : Bool) → 0 < need y b v → 0 < need (run y ms) b v
-        needs true n = omega (arith, p .beyond v (u .lt) v-outside)
-        needs false n = omega (arith, p .beyond v (u .lt) v-outside)
+      needs : (b : Bool) → 0 < need y b v → 0 < need (run y ms) b v
+      needs true n = omega (arith, p .beyond v (u .lt) v-outside)
+      needs false n = omega (arith, p .beyond v (u .lt) v-outside)
 
-        able : (b : Bool) → pebble (run y ms) v + one b ≡ pebble y v + one (not b) → Able (run y ms) (not b) v
-        able true e = omega (arith, facts y t .pebble-le v (u .lt))
-        able false e = omega arith
+  pub able-behind : Able (run y ms) (not b) v
+  able-behind = go b (rw (k .up, eq-eqb v v refl, and-true b, and-true (not b)) at (p .outer v (u .lt) v-outside))
+    where
+      go : (b : Bool) → pebble (run y ms) v + one b ≡ pebble y v + one (not b) → Able (run y ms) (not b) v
+      go true e = omega (arith, facts y t .pebble-le v (u .lt))
+      go false e = omega arith
+
+  -- and then one push over that of v
+  shift-two : Shift y b v (ms ++ (crossing (y .parents) b v ∷ []))
+  shift-two = record {
+    good = good-append y ms (crossing (y .parents) b v ∷ []) (p .good) (q .good);
+    some = rw (length-append ms (crossing (y .parents) b v ∷ [])) (omega arith);
+    outer = λ w l i. rw (after-append ms (crossing (y .parents) b v ∷ []) y) (omega (arith, q .outer w l i, stays w l i));
+    beyond = λ w l i. rw (after-append ms (crossing (y .parents) b v ∷ []) y) (q .beyond w l i ∙ p .beyond w l (outside-child (wood y t) v c w k l i));
+  }
+    where
+      q : Shift (run y ms) b v (crossing (y .parents) b v ∷ [])
+      q = shift-one (run y ms) (good-tree y t ms (p .good)) b v due-behind able-behind
 
 -- v cannot take the pebble that is due over its edge, or cannot give one: it is full, or empty
 abbrev pub blocked : Yard → Bool → ℕ → Bool
@@ -131,7 +141,7 @@ serves-same (behind e s) (direct f) = absurd (false≢true (sym f ∙ e))
 serves-same {y} {b} {v} (behind e s) (behind f r) = ap (λ (ms : List Move). ms ++ (crossing (y .parents) b v ∷ [])) (serves-same s r)
 
 module _ (y : Yard) (t : Tree y) where
-  free-able : (b : Bool) (v : ℕ) → blocked y b v ≡ false → Able y (not b) v
+  pub free-able : (b : Bool) (v : ℕ) → blocked y b v ≡ false → Able y (not b) v
   free-able true v e = leb-false (capacity y v) (pebble y v) e
   free-able false v e = ltb-true 0 (pebble y v) (not-false (held y v) e)
 

@@ -9,9 +9,10 @@ use native.Mathlib.Nat.{add-zero, add-suc, one-mul, zero-mul}
 use lib.Dec.{ltb}
 use lib.IntN.{ℤ, pos, negsuc, natAbs, subℕ, sucℤ, predℤ, _+ℤ_, suc-pred, +ℤ-sucℤ, +ℤ-predℤ, sucℤ-+ℤ, +ℤ-idl, +ℤ-idr, +ℤ-assoc}
 use borrow.Author.Tests.{ltb-true, ltb-false, lt-ltb, le-ltb}
-use Rattle.model.specs.Yard.{Yard, size, maxSize, pebble, target, one, sum, below, isChild, children, targetsIn, pebblesIn, demand, lacking, surplus, imbalance}
+use Rattle.model.specs.Yard.{Yard, size, maxSize, pebble, target, one, sum, below, isChild, children, targetsIn, pebblesIn, demand, lacking, surplus, imbalance, shortest}
 use Rattle.model.specs.Judge.{Tree}
 use Rattle.model.specs.Push.{Move, moved, Solved}
+use Rattle.model.proofs.Sums.{sum-mono, sum-scale, sum-le}
 use Rattle.model.proofs.Judged.{facts}
 use Rattle.model.proofs.Demands.{overChildren, subtotal-weight, weight-le, targetsIn-children, pebblesIn-children, solved-even, even-solved}
 use Rattle.model.proofs.Step.{Step, pebblesIn-node, pebblesIn-other}
@@ -60,6 +61,17 @@ demand-range y t v = rw (demand-size y v) (omega (
   weight-le (y .parents) v,
 ))
 
+-- so the shortest length is no more than 256 for each node
+pub shortest-small : (y : Yard) → Tree y → shortest y ≤ 65_536
+unfolding shortest
+shortest-small y t = omega (
+  arith,
+  facts y t .few,
+  sum-mono (size y) (imbalance y) (λ _. maxSize * 1) (λ v _. omega (arith, demand-size y v, demand-range y t v)),
+  sum-scale (size y) maxSize (λ _. 1),
+  sum-le (size y) (λ _. 1) (λ _. omega arith),
+)
+
 -- one more to take away, or to take from
 sub-suc : (a b : ℕ) → subℕ a (suc b) ≡ predℤ (subℕ a b)
 sub-suc a zero =
@@ -71,7 +83,7 @@ suc-sub : (a b : ℕ) → subℕ (suc a) b ≡ sucℤ (subℕ a b)
 suc-sub a zero = rw (le-ltb a 0 (omega arith), le-ltb (suc a) 0 (omega arith)) (ap pos (omega arith))
 suc-sub a (suc b) = sucℤ-+ℤ (pos a) (negsuc b)
 
-sub-add : (a b c d : ℕ) → subℕ a b +ℤ subℕ c d ≡ subℕ (a + c) (b + d)
+pub sub-add : (a b c d : ℕ) → subℕ a b +ℤ subℕ c d ≡ subℕ (a + c) (b + d)
 sub-add a b zero zero = +ℤ-idr (subℕ a b) ∙ rw (add-zero a, add-zero b)
 sub-add a b (suc c) zero = ap (λ (k : ℤ). subℕ a b +ℤ k) (suc-sub c 0) ∙ +ℤ-sucℤ (subℕ a b) (subℕ c 0) ∙ ap sucℤ (sub-add a b c 0) ∙ sym (suc-sub (a + c) (b + 0)) ∙ rw (add-suc a c)
 sub-add a b c (suc d) = ap (λ (k : ℤ). subℕ a b +ℤ k) (sub-suc c d) ∙ +ℤ-predℤ (subℕ a b) (subℕ c d) ∙ ap predℤ (sub-add a b c d) ∙ sym (sub-suc (a + c) (b + d)) ∙ rw (add-suc b d)

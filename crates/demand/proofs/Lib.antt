@@ -1,0 +1,4 @@
+-- Laws that the proofs of the functions share.
+pub mod Numbers
+pub mod Lists
+pub mod Partial

@@ -1,0 +1,28 @@
+-- Lists by their entries. A store changes the entry at its place and no other; a list whose entries are f of the numbers from a on is the
+-- list of those.
+use mathlib.Core.Path.{_≡_, refl, ap, _∙_}
+use mathlib.Core.List.{List, [], _∷_, map}
+use Prim.Native.Nat.{ℕ, suc, _+_, _*_, _<_}
+use native.Mathlib.Nat.{add-zero}
+use native.Mathlib.Omega.{arith}
+use native.Mathlib.Decide.{ℕ-discrete}
+use lib.ListN.{length, getD, set}
+use lib.Seq.{getD-set-same, getD-set-other}
+use lib.Dec.{eqb}
+use lib.IntN.{ℤ, pos}
+use borrow.Author.Tests.{eq-eqb, ne-eqb}
+use Rattle.model.specs.Yard.{one}
+use Rattle.model.specs.Calls.{range}
+
+-- by d up or e down
+pub stored : (xs : List ℕ) (i v a d e : ℕ) → i < length xs → getD xs i 0 + d ≡ a + e → getD xs v 0 + one (eqb v i) * d ≡ getD (set xs i a) v 0 + one (eqb v i) * e
+stored xs i v a d e l h = go (ℕ-discrete v i)
+  where
+    go : Dec (v ≡ i) → getD xs v 0 + one (eqb v i) * d ≡ getD (set xs i a) v 0 + one (eqb v i) * e
+    go (yes q) = rw (q, eq-eqb i i refl, getD-set-same xs i a 0 l) (omega arith)
+    go (no n) = rw (ne-eqb v i n, getD-set-other xs i v a 0 n) (omega arith)
+
+pub listed : (f : ℕ → ℤ) (a : ℕ) (xs : List ℤ) → ((v : ℕ) → v < length xs → getD xs v (pos 0) ≡ f (a + v)) → xs ≡ map f (range a (length xs))
+unfolding range
+listed f a [] h = refl
+listed f a (x ∷ xs) h = cc (h 0 (omega arith), add-zero a, listed f (suc a) xs (λ v l. h (suc v) (omega arith) ∙ ap f (omega arith)))

@@ -1,0 +1,63 @@
+// The demands of all nodes of a tree, leaves first, in linear time.
+ghost use mathlib.Core.Path.{_≡_};
+ghost use mathlib.Core.List.{map};
+ghost use Prim.Native.Nat.{ℕ, _+_, _<_, _≤_};
+ghost use lib.ListN.{length, getD};
+ghost use lib.Dec.{eqb};
+ghost use lib.IntN.{pos, subℕ};
+ghost use Rattle.model.specs.Yard.{yardOf, up, one, sum, demand};
+ghost use Rattle.model.specs.Judge.{Tree};
+ghost use Rattle.model.specs.Calls.{range};
+use crate::signed::difference;
+use crate::signed::plus;
+
+// Writes the demand of each node of a tree into a list of one entry a node. A node's pending number is 1 for itself, until it is added to its
+// parent, and 1 for each node whose parent it is and that is not added yet: at 1 all its children are added. Adding it may make its parent
+// ready, and so on up, so that each node is added once. The root, its own parent, is never ready.
+pub fn fill(parents: &[u8], pebbles: &[u8], targets: &[u8], list: &mut [i16])
+    requires { ⌜ Tree (yardOf (now parents) (now pebbles) (now targets)) × (length (now list) ≡ length (now parents)) ⌝ }
+    ensures { λ _. ⌜ now (list .exit) ≡ map (demand (yardOf (now (parents .entry)) (now (pebbles .entry)) (now (targets .entry)))) (range 0 (length (now (parents .entry)))) ⌝ }
+{
+    let n = parents.len();
+    own(pebbles, targets, list);
+    let mut pending = count_children(parents);
+    let mut v = 0;
+    while v < n {
+        let mut u = v;
+        while pending[u] == 1 {
+            let p = parents[u] as usize;
+            list[p] = plus(list[p], list[u]);
+            pending[p] -= 1;
+            pending[u] = 0;
+            u = p;
+        }
+        v += 1;
+    }
+}
+
+// Writes the difference of its marks into the entry of each node.
+fn own(pebbles: &[u8], targets: &[u8], list: &mut [i16])
+    requires { ⌜ (length (now pebbles) ≡ length (now list)) × (length (now targets) ≡ length (now list)) ⌝ }
+    ensures { λ _. ⌜ ((v : ℕ) → v < length (now (list .entry)) → getD (now (list .exit)) v (pos 0) ≡ subℕ (getD (now (targets .entry)) v 0) (getD (now (pebbles .entry)) v 0)) ⌝ }
+{
+    let mut v = 0;
+    while v < list.len() {
+        list[v] = difference(targets[v], pebbles[v]);
+        v += 1;
+    }
+}
+
+// For each node 1, and 1 more for each node whose parent it is.
+fn count_children(parents: &[u8]) -> [u16; 256]
+    requires { ⌜ length (now parents) ≤ 256 ⌝ }
+    ensures { λ r. ⌜ (length r ≡ 256) × ((v : ℕ) → v < 256 → getD r v 0 ≡ 1 + sum (length (now (parents .entry))) (λ c. one (eqb (up (now (parents .entry)) c) v))) ⌝ }
+{
+    let mut pending = [1u16; 256];
+    let mut v = 0;
+    while v < parents.len() {
+        let p = parents[v] as usize;
+        pending[p] += 1;
+        v += 1;
+    }
+    pending
+}

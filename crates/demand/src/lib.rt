@@ -1,0 +1,3 @@
+// Demands (accounts) in code.
+pub mod fill;
+pub mod signed;

@@ -1,0 +1,6 @@
+-- Laws about the planner's tables and state, beside the functions' proofs.
+pub mod Links
+pub mod Numbers
+pub mod Looking
+pub mod Moving
+pub mod Serving

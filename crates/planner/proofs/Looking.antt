@@ -1,0 +1,127 @@
+-- Looking for the child that is served: a scan of u's children, rising, for the first whose demand is of the sign wanted.
+use mathlib.Core.Path.{_≡_, refl, sym, ap, _∙_}
+use mathlib.Core.Logic.{_≢_}
+use mathlib.Core.Bool.{Bool, true, false, not, cond, _&&_, and-false, and-eq-true-iff}
+use mathlib.Core.List.{List, [], _∷_}
+use Prim.Native.Nat.{ℕ, zero, suc, _+_, _≤_, _<_}
+use native.Mathlib.Omega.{arith}
+use native.Mathlib.Decide.{ℕ-discrete, decLt}
+use lib.ListN.{length, getD}
+use lib.Dec.{leb, ltb, eqb}
+use lib.IntN.{ℤ, pos, negsuc, natAbs}
+use lib.Signed.{ltZ}
+use mir.Syntax.{w16}
+use mir.Val.{SFits, toZ, ofZ}
+use mir.ValLaws.{toZ-ofZ}
+use borrow.Author.Tests.{lt-ltb, le-ltb, le-leb, lt-leb, leb-true, eq-eqb}
+use Rattle.model.specs.Yard.{Yard, size, up, below, headOr, isChild, demand}
+use Rattle.model.specs.Plan.{needy, choice}
+use Rattle.model.proofs.Found.{found, missed, lowest-is, lowest-missing, lowest-lt}
+use Rattle.model.proofs.Trees.{Child, is-child, child-is}
+use Rattle.model.proofs.Judged.{facts, wood}
+use Rattle.model.proofs.Signed.{above0, below0, demand-parts, demand-range}
+use Rattle.model.proofs.Step.{need}
+use Rattle.planner.specs.Kept.{Tables, Kept, Ready}
+use Rattle.planner.proofs.Numbers.{small-fits}
+
+-- the sign of a number, by how far it is above or below 0
+above-sign : (k : ℤ) → ltZ (pos 0) k ≡ ltb 0 (above0 k)
+above-sign (pos n) = refl
+above-sign (negsuc n) = refl
+
+below-sign : (k : ℤ) → ltZ k (pos 0) ≡ ltb 0 (below0 k)
+below-sign (pos n) = le-ltb n 0 (omega arith)
+below-sign (negsuc n) = sym (lt-ltb 0 (suc n) (omega arith))
+
+-- a demand is of the sign wanted exactly if the node needs something
+abbrev pub sign : Bool → ℤ → Bool
+sign b d = cond b (ltZ (pos 0) d) (ltZ d (pos 0))
+
+pub sign-need : (y : Yard) (b : Bool) (v : ℕ) → sign b (demand y v) ≡ ltb 0 (need y b v)
+sign-need y true v = above-sign (demand y v) ∙ ap (ltb 0) (demand-parts y v .0)
+sign-need y false v = below-sign (demand y v) ∙ ap (ltb 0) (demand-parts y v .1)
+
+module _ (y : Yard) (u : ℕ) (b : Bool) where
+  -- a child of u that needs something
+  abbrev wants : ℕ → Bool
+  wants v = (isChild (y .parents) u v) && (ltb 0 (need y b v))
+
+  -- no child of u below c needs anything
+  pub record Looking (c : ℕ) : Type 0 where
+    pub child : Child (y .parents) u c
+    pub none : (v : ℕ) → v < c → wants v ≡ false
+
+  not-child : (v : ℕ) → isChild (y .parents) u v ≡ false → wants v ≡ false
+  not-child v e = rw e
+
+  module _ (t : List ℕ) (s : List ℤ) (r : Ready y t s) (l : u < size y) where
+    -- u has no child, or there is none behind c
+    pub look-none : getD t (256 + u) 0 ≡ u → u ≡ choice (need y b) y u
+    unfolding choice needy
+    look-none e = missed (size y) u wants (λ v k. not-child v (lowest-missing (size y) u (isChild (y .parents) u) (sym e ∙ r .tables .first u l) own v k))
+      where
+        own : isChild (y .parents) u u ≡ false
+        own = rw (eq-eqb u u refl) (and-false (eqb (up (y .parents) u) u))
+
+    pub look-first : getD t (256 + u) 0 ≢ u → Looking (getD t (256 + u) 0)
+    look-first d =
+        let k = lowest-is (size y) u _ (isChild (y .parents) u) (r .tables .first u l) d in
+        record { child = is-child (y .parents) u _ (k .0) (k .1); none = λ v m. not-child v (k .2 v m) }
+
+    module _ (c : ℕ) (h : Looking c) where
+      -- the demand at hand decides
+      pub look-sign : sign b (getD s c (pos 0)) ≡ wants c
+      look-sign = ap (sign b) (r .kept .demands c (h .child .lt)) ∙ sign-need y b c ∙ rw (child-is (y .parents) u c (h .child))
+
+      pub look-found : sign b (getD s c (pos 0)) ≡ true → c ≡ choice (need y b) y u
+      unfolding choice needy
+      look-found e = found (size y) u c wants (h .child .lt) (h .none) (sym look-sign ∙ e)
+
+      behind : ℕ → Bool
+      behind v = (leb (c + 1) v) && (isChild (y .parents) u v)
+
+      next-is : getD t (512 + c) 0 ≡ headOr c (below (size y) behind)
+      unfolding behind
+      next-is = rw (h .child .up) at (r .tables .next c (h .child .lt) (λ e. h .child .other (sym e ∙ h .child .up)))
+
+      -- what is no child of u above c, and not c, does not want
+      pass : sign b (getD s c (pos 0)) ≡ false → (v : ℕ) → behind v ≡ false → wants v ≡ false
+      unfolding behind
+      pass e v q = go (ℕ-discrete v c) (decLt v c)
+        where
+          go : Dec (v ≡ c) → Dec (v < c) → wants v ≡ false
+          go (yes f) _ = rw f (sym look-sign ∙ e)
+          go (no f) (yes m) = h .none v m
+          go (no f) (no m) = not-child v (rw (le-leb (c + 1) v (omega arith)) at q)
+
+      pub look-last : sign b (getD s c (pos 0)) ≡ false → getD t (512 + c) 0 ≡ c → u ≡ choice (need y b) y u
+      unfolding choice needy behind
+      look-last e f = missed (size y) u wants (λ v k. pass e v (lowest-missing (size y) c behind (sym f ∙ next-is) (rw (lt-leb (c + 1) c (omega arith))) v k))
+
+      pub look-next : sign b (getD s c (pos 0)) ≡ false → getD t (512 + c) 0 ≢ c → Looking (getD t (512 + c) 0) × (c < getD t (512 + c) 0)
+      unfolding behind
+      look-next e d =
+          let k = lowest-is (size y) c _ behind next-is d in
+          let q = and-eq-true-iff (leb (c + 1) (getD t (512 + c) 0)) (isChild (y .parents) u (getD t (512 + c) 0)) .0 (k .1) in
+          (record { child = is-child (y .parents) u _ (k .0) (q .1); none = λ v m. pass e v (k .2 v m) }, omega (arith, leb-true (c + 1) _ (q .0)))
+
+-- a node is below 256, and so is what the tables say of one
+module _ {y : Yard} {t : List ℕ} {s : List ℤ} {v : ℕ} (r : Ready y t s) (l : v < size y) where
+  pub node-small : v < 256
+  node-small = omega (arith, facts y (r .tree) .few)
+
+  pub parent-lt : getD t v 0 < size y
+  parent-lt = rw (r .tables .parent v l) (wood y (r .tree) .parent-lt v l)
+
+  pub first-lt : getD t (256 + v) 0 < size y
+  first-lt = rw (r .tables .first v l) (lowest-lt (size y) v (isChild (y .parents) v) l)
+
+  pub next-lt : (up (y .parents) v) ≢ v → getD t (512 + v) 0 < size y
+  next-lt d = rw (r .tables .next v l d) (lowest-lt (size y) v (λ w. (leb (v + 1) w) && (isChild (y .parents) (up (y .parents) v) w)) l)
+
+  -- a demand is within −256 to 256, and so unchanged by a passage through 16 bits
+  pub demand-fits : SFits w16 (getD s v (pos 0))
+  demand-fits = rw (r .kept .demands v l) (small-fits (demand y v) (demand-range y (r .tree) v))
+
+  pub demand-back : toZ w16 (ofZ w16 (getD s v (pos 0))) ≡ getD s v (pos 0)
+  demand-back = toZ-ofZ w16 (getD s v (pos 0)) demand-fits

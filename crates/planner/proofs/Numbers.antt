@@ -1,0 +1,44 @@
+-- Demands in 16 bits: numbers from −256 to 256 and one more or less fit, and a passage through the bits gives them back.
+use mathlib.Core.Path.{_≡_, ap, _∙_}
+use mathlib.Core.Bool.{Bool, true, false}
+use Prim.Native.Nat.{ℕ, zero, suc, _≤_}
+use native.Mathlib.Omega.{arith}
+use lib.IntN.{ℤ, pos, negsuc, natAbs, sucℤ, predℤ, _+ℤ_, _-ℤ_, +ℤ-one, -ℤ-one}
+use mir.Syntax.{w16}
+use mir.Val.{SFits, toZ, ofZ}
+use mir.ValLaws.{toZ-ofZ}
+use Rattle.model.proofs.Signed.{nextℤ}
+
+pub small-fits : (k : ℤ) → natAbs k ≤ 256 → SFits w16 k
+small-fits (pos n) h = record { sfits = omega arith }
+small-fits (negsuc n) h = record { sfits = omega arith }
+
+pub small-back : (k : ℤ) → natAbs k ≤ 256 → toZ w16 (ofZ w16 k) ≡ k
+small-back k h = toZ-ofZ w16 k (small-fits k h)
+
+next-fits : (b : Bool) (k : ℤ) → natAbs k ≤ 256 → SFits w16 (nextℤ b k)
+next-fits true (pos zero) h = record { sfits = omega arith }
+next-fits true (pos (suc n)) h = record { sfits = omega arith }
+next-fits true (negsuc n) h = record { sfits = omega arith }
+next-fits false (pos n) h = record { sfits = omega arith }
+next-fits false (negsuc zero) h = record { sfits = omega arith }
+next-fits false (negsuc (suc n)) h = record { sfits = omega arith }
+
+module _ (k : ℤ) (h : natAbs k ≤ 256) where
+  less : toZ w16 (ofZ w16 k) -ℤ pos 1 ≡ nextℤ true k
+  less = ap (λ (z : ℤ). z -ℤ pos 1) (small-back k h) ∙ -ℤ-one k
+
+  more : toZ w16 (ofZ w16 k) +ℤ pos 1 ≡ nextℤ false k
+  more = ap (λ (z : ℤ). z +ℤ pos 1) (small-back k h) ∙ +ℤ-one k
+
+  pub less-fits : SFits w16 (toZ w16 (ofZ w16 k) -ℤ pos 1)
+  less-fits = rw less (next-fits true k h)
+
+  pub more-fits : SFits w16 (toZ w16 (ofZ w16 k) +ℤ pos 1)
+  more-fits = rw more (next-fits false k h)
+
+  pub less-back : toZ w16 (ofZ w16 (toZ w16 (ofZ w16 k) -ℤ pos 1)) ≡ nextℤ true k
+  less-back = toZ-ofZ w16 _ less-fits ∙ less
+
+  pub more-back : toZ w16 (ofZ w16 (toZ w16 (ofZ w16 k) +ℤ pos 1)) ≡ nextℤ false k
+  more-back = toZ-ofZ w16 _ more-fits ∙ more

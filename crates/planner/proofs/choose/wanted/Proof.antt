@@ -1,0 +1,15 @@
+-- `planner::choose::wanted` meets its contract: each branch is a side of the test.
+use borrow.Author.Needs.{needs}
+use Rattle.planner.proofs.choose.wanted.Statement.{statement}
+use Rattle.planner.proofs.choose.wanted.Tie as tie
+use Rattle.planner.proofs.choose.wanted.Reads as reads
+use Rattle.planner.proofs.choose.wanted.Lts as lts
+
+returns : tie.Need-returns
+returns c = rw (c .if1 .taken) (search needs)
+
+returns-2 : tie.Need-returns-2
+returns-2 c = rw (c .if1 .left) (search needs)
+
+pub wanted-spec : {M : Type 1} → statement M
+wanted-spec = tie.close (tie.spec returns returns-2)

@@ -1,0 +1,2 @@
+-- What the planner's helpers promise one another.
+pub mod Kept

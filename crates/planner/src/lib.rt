@@ -1,0 +1,4 @@
+// The planner: Algorithms 1 to 4 of the source, on tables of children and demands kept beside the pebbles.
+pub mod choose;
+pub mod serve;
+pub mod tree;
