@@ -66,7 +66,7 @@ balances-same {y} (next {u = u} {us = us} {ms = ms} {ns = ns} {ps = ps} s b r) (
 
 -- where u is even and some child is not: if u holds a pebble, so no fewer than its targets, some child lacks one, and if none, some child
 -- has one too many. (A pebble is no fewer than the targets since no node has room for two: all else here holds of any capacity.)
-turn-due : (y : Yard) → Tree y → (u : ℕ) → u < size y → Even y u → (c : ℕ) → Child (y .parents) u c → 0 < imbalance y c
+pub turn-due : (y : Yard) → Tree y → (u : ℕ) → u < size y → Even y u → (c : ℕ) → Child (y .parents) u c → 0 < imbalance y c
     → (b : Bool) → held y u ≡ b → Due y b (choice (need y b) y u)
 turn-due y t u l e c k n = go
   where
@@ -82,7 +82,7 @@ turn-due y t u l e c k n = go
         chosen-due y t false u (omega (arith, facts y t .capacity-pos u l)) (omega (arith, some, parts-children y t u l)) .1
 
 -- the child that a turn serves
-first-needy : (y : Yard) (u c : ℕ) (cs : List ℕ) → needy (imbalance y) y u ≡ c ∷ cs → Child (y .parents) u c × (0 < imbalance y c)
+pub first-needy : (y : Yard) (u c : ℕ) (cs : List ℕ) → needy (imbalance y) y u ≡ c ∷ cs → Child (y .parents) u c × (0 < imbalance y c)
 first-needy y u c cs q = subst (All (λ c. Child (y .parents) u c × (0 < imbalance y c))) q (all-needy (imbalance y) y u) .0
 
 turned-shift : {y : Yard} {u c : ℕ} {cs : List ℕ} {ms : List Move} → Tree y → u < size y → Even y u → needy (imbalance y) y u ≡ c ∷ cs

@@ -1,6 +1,10 @@
 -- Laws about the planner's tables and state, beside the functions' proofs.
 pub mod Links
 pub mod Numbers
+pub mod Siblings
 pub mod Looking
 pub mod Moving
 pub mod Serving
+pub mod Made
+pub mod Settle
+pub mod Children

@@ -1,28 +1,30 @@
 -- Looking for the child that is served: a scan of u's children, rising, for the first whose demand is of the sign wanted.
 use mathlib.Core.Path.{_≡_, refl, sym, ap, _∙_}
 use mathlib.Core.Logic.{_≢_}
-use mathlib.Core.Bool.{Bool, true, false, not, cond, _&&_, and-false, and-eq-true-iff}
-use mathlib.Core.List.{List, [], _∷_}
-use Prim.Native.Nat.{ℕ, zero, suc, _+_, _≤_, _<_}
+use mathlib.Core.Bool.{Bool, true, false, not, cond, _&&_, and-eq-true-iff}
+use mathlib.Core.List.{List}
+use Prim.Native.Nat.{ℕ, suc, _+_, _<_}
 use native.Mathlib.Omega.{arith}
 use native.Mathlib.Decide.{ℕ-discrete, decLt}
-use lib.ListN.{length, getD}
-use lib.Dec.{leb, ltb, eqb}
-use lib.IntN.{ℤ, pos, negsuc, natAbs}
+use lib.ListN.{getD}
+use lib.Dec.{leb, ltb}
+use lib.IntN.{ℤ, pos, negsuc}
 use lib.Signed.{ltZ}
 use mir.Syntax.{w16}
 use mir.Val.{SFits, toZ, ofZ}
 use mir.ValLaws.{toZ-ofZ}
-use borrow.Author.Tests.{lt-ltb, le-ltb, le-leb, lt-leb, leb-true, eq-eqb}
-use Rattle.model.specs.Yard.{Yard, size, up, below, headOr, isChild, demand}
+use borrow.Author.Tests.{lt-ltb, le-ltb, le-leb, leb-true}
+use Rattle.model.specs.Yard.{Yard, size, up, isChild, demand}
 use Rattle.model.specs.Plan.{needy, choice}
-use Rattle.model.proofs.Found.{found, missed, lowest-is, lowest-missing, lowest-lt}
+use Rattle.model.proofs.Basics.{below-none}
+use Rattle.model.proofs.Found.{found, missed, lowest-is, lowest-lt}
 use Rattle.model.proofs.Trees.{Child, is-child, child-is}
 use Rattle.model.proofs.Judged.{facts, wood}
 use Rattle.model.proofs.Signed.{above0, below0, demand-parts, demand-range}
 use Rattle.model.proofs.Step.{need}
-use Rattle.planner.specs.Kept.{Tables, Kept, Ready}
+use Rattle.planner.specs.Kept.{Ready}
 use Rattle.planner.proofs.Numbers.{small-fits}
+use Rattle.planner.proofs.Siblings.{first-none, next-is, next-none}
 
 -- the sign of a number, by how far it is above or below 0
 above-sign : (k : ℤ) → ltZ (pos 0) k ≡ ltb 0 (above0 k)
@@ -58,10 +60,7 @@ module _ (y : Yard) (u : ℕ) (b : Bool) where
     -- u has no child, or there is none behind c
     pub look-none : getD t (256 + u) 0 ≡ u → u ≡ choice (need y b) y u
     unfolding choice needy
-    look-none e = missed (size y) u wants (λ v k. not-child v (lowest-missing (size y) u (isChild (y .parents) u) (sym e ∙ r .tables .first u l) own v k))
-      where
-        own : isChild (y .parents) u u ≡ false
-        own = rw (eq-eqb u u refl) (and-false (eqb (up (y .parents) u) u))
+    look-none e = missed (size y) u wants (λ v k. not-child v (below-none (size y) (isChild (y .parents) u) (first-none (r .tables) l e) v k))
 
     pub look-first : getD t (256 + u) 0 ≢ u → Looking (getD t (256 + u) 0)
     look-first d =
@@ -80,10 +79,6 @@ module _ (y : Yard) (u : ℕ) (b : Bool) where
       behind : ℕ → Bool
       behind v = (leb (c + 1) v) && (isChild (y .parents) u v)
 
-      next-is : getD t (512 + c) 0 ≡ headOr c (below (size y) behind)
-      unfolding behind
-      next-is = rw (h .child .up) at (r .tables .next c (h .child .lt) (λ e. h .child .other (sym e ∙ h .child .up)))
-
       -- what is no child of u above c, and not c, does not want
       pass : sign b (getD s c (pos 0)) ≡ false → (v : ℕ) → behind v ≡ false → wants v ≡ false
       unfolding behind
@@ -96,12 +91,12 @@ module _ (y : Yard) (u : ℕ) (b : Bool) where
 
       pub look-last : sign b (getD s c (pos 0)) ≡ false → getD t (512 + c) 0 ≡ c → u ≡ choice (need y b) y u
       unfolding choice needy behind
-      look-last e f = missed (size y) u wants (λ v k. pass e v (lowest-missing (size y) c behind (sym f ∙ next-is) (rw (lt-leb (c + 1) c (omega arith))) v k))
+      look-last e f = missed (size y) u wants (λ v k. pass e v (below-none (size y) behind (next-none (r .tables) (h .child) f) v k))
 
       pub look-next : sign b (getD s c (pos 0)) ≡ false → getD t (512 + c) 0 ≢ c → Looking (getD t (512 + c) 0) × (c < getD t (512 + c) 0)
       unfolding behind
       look-next e d =
-          let k = lowest-is (size y) c _ behind next-is d in
+          let k = lowest-is (size y) c _ behind (next-is (r .tables) (h .child)) d in
           let q = and-eq-true-iff (leb (c + 1) (getD t (512 + c) 0)) (isChild (y .parents) u (getD t (512 + c) 0)) .0 (k .1) in
           (record { child = is-child (y .parents) u _ (k .0) (q .1); none = λ v m. pass e v (k .2 v m) }, omega (arith, leb-true (c + 1) _ (q .0)))
 

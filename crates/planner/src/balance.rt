@@ -1,0 +1,86 @@
+// Algorithm 1: balancing the subtrees of a node.
+ghost use Rattle.model.specs.Yard.{Yard};
+ghost use Rattle.planner.specs.Kept.{Asked, Served, AskedEven, Settled, Balanced, AskedBelow, BalancedBelow};
+use crate::choose::choose;
+use crate::serve::extract_pebble;
+use crate::serve::inject_pebble;
+
+// A turn of the loop: fills the child c, or draws from it.
+fn turn(
+    t: &[u8; 768],
+    s: &mut [i16; 512],
+    plan: &mut [u8],
+    c: usize,
+    away: bool,
+    height: usize,
+) -> usize
+    requires { ⌜ ((y : Yard) × Asked away y (now t) (now s) (now plan) c height) ⌝ }
+    ensures { λ r. ⌜ ((y : Yard) → Asked away y (now (t .entry)) (now (s .entry)) (now (plan .entry)) c height → Served away y c (now (s .exit)) (now (plan .entry)) (now (plan .exit)) r) ⌝ }
+{
+    if away {
+        return inject_pebble(t, s, plan, c, height);
+    }
+    extract_pebble(t, s, plan, c, height)
+}
+
+// The loop at u: if u holds a pebble a child is filled from it, else one is drawn from a child, until no child has a demand of the sign wanted;
+// then none has any, as u's own demand is 0.
+fn settle(t: &[u8; 768], s: &mut [i16; 512], plan: &mut [u8], u: usize, height: usize) -> usize
+    requires { ⌜ ((y : Yard) × AskedEven y (now t) (now s) (now plan) u height) ⌝ }
+    ensures { λ r. ⌜ ((y : Yard) → AskedEven y (now (t .entry)) (now (s .entry)) (now (plan .entry)) u height → Settled y u (now (s .exit)) (now (plan .entry)) (now (plan .exit)) r) ⌝ }
+{
+    let mut k = 0;
+    loop {
+        let away = s[256 + u] != 0;
+        let c = choose(t, s, u, away);
+        if c == u {
+            return k;
+        }
+        let m = turn(t, s, &mut plan[2 * k..], c, away, height);
+        k += m;
+    }
+}
+
+// Balances u: the loop, and after it has ended the children in rising number. The moves go to the front of the list; answers how many.
+pub fn balance_subtrees(
+    t: &[u8; 768],
+    s: &mut [i16; 512],
+    plan: &mut [u8],
+    u: usize,
+    height: usize,
+) -> usize
+    requires { ⌜ ((y : Yard) × AskedEven y (now t) (now s) (now plan) u height) ⌝ }
+    ensures { λ r. ⌜ ((y : Yard) → AskedEven y (now (t .entry)) (now (s .entry)) (now (plan .entry)) u height → Balanced y u (now (s .exit)) (now (plan .entry)) (now (plan .exit)) r) ⌝ }
+{
+    let k = settle(t, s, plan, u, height);
+    let m = balance_children(t, s, &mut plan[2 * k..], u, height);
+    k + m
+}
+
+// Balances the children of u, in rising number, each behind the one before.
+fn balance_children(
+    t: &[u8; 768],
+    s: &mut [i16; 512],
+    plan: &mut [u8],
+    u: usize,
+    height: usize,
+) -> usize
+    requires { ⌜ ((y : Yard) × AskedBelow y (now t) (now s) (now plan) u height) ⌝ }
+    ensures { λ r. ⌜ ((y : Yard) → AskedBelow y (now (t .entry)) (now (s .entry)) (now (plan .entry)) u height → BalancedBelow y u (now (s .exit)) (now (plan .entry)) (now (plan .exit)) r) ⌝ }
+{
+    let first = t[256 + u] as usize;
+    if first == u {
+        return 0;
+    }
+    let mut k = 0;
+    let mut c = first;
+    loop {
+        let m = balance_subtrees(t, s, &mut plan[2 * k..], c, height - 1);
+        k += m;
+        let next = t[512 + c] as usize;
+        if next == c {
+            return k;
+        }
+        c = next;
+    }
+}
