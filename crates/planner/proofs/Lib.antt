@@ -8,3 +8,4 @@ pub mod Serving
 pub mod Made
 pub mod Settle
 pub mod Children
+pub mod Start

@@ -1,0 +1,103 @@
+-- `planner::state::write_state` meets its contract: the demands fill the front, and the pebbles are placed one by one behind it (the laws are in
+-- Start).
+use Prim.Native.Nat.{_-_, _≤_}
+use mathlib.Core.Path.{_≡_, sym, ap, _∙_}
+use native.Mathlib.Omega.{arith}
+use lib.ListN.{length, getD}
+use lib.IntN.{ℤ, pos}
+use mir.Syntax.{w16}
+use mir.Val.{toZ, ofZ}
+use lib.Seq.{length-take-le, length-front}
+use borrow.Author.Needs.{needs}
+use Rattle.model.proofs.Judged.{facts}
+use Rattle.planner.proofs.Numbers.{small-back}
+use Rattle.planner.proofs.Start.{Placed, place-none, place-next, placed-kept, mark-difference}
+use Rattle.planner.proofs.state.write_state.Statement.{statement}
+use Rattle.planner.proofs.state.write_state.Tie as tie
+use Rattle.planner.proofs.state.write_state.Reads as reads
+use Rattle.planner.proofs.state.write_state.Lts as lts
+use Rattle.demand.proofs.fill.fill.Reads as fill-reads
+use Rattle.demand.proofs.signed.difference.Reads as difference-reads
+
+abbrev Inv-loop : tie.InvT-loop
+Inv-loop parents pebbles targets s₀ n v₀ s v = (v ≤ n) × Placed pebbles s₀ s v
+
+abbrev μ-loop : tie.MeasureT-loop
+μ-loop parents pebbles targets s₀ n v₀ s v = n - v
+
+slice-relend-prefix-fill : tie.Need-slice-relend-prefix-fill Inv-loop μ-loop
+slice-relend-prefix-fill c = let p = c .before .before .before .pre in omega (arith, facts _ (p .0) .few, p .1)
+
+slice-aggregate-fill : tie.Need-slice-aggregate-fill Inv-loop μ-loop
+slice-aggregate-fill c = let p = c .before .before .before .before .pre in sym (length-take-le _ _ (omega (arith, facts _ (p .0) .few, p .1)))
+
+fill-requires : tie.Need-fill-requires Inv-loop μ-loop
+fill-requires c κs = let p = c .before .before .before .before .pre in (p .0, length-take-le _ _ (omega (arith, facts _ (p .0) .few, p .1)))
+
+loop-holds : tie.Need-loop-holds Inv-loop μ-loop
+loop-holds c =
+    let s = c .before .before .before .before .before .before in
+    (omega arith, place-none _ _ (length-front (s .args .s .now) (c .before .fill .last .1 .1 .1 .0) (length (s .args .parents .now)) (c .before .fill .kept .1 .1 .1 .0) ∙ s .pre .1))
+
+shared-slice-read-difference : tie.Need-shared-slice-read-difference Inv-loop μ-loop
+shared-slice-read-difference c = let p = c .before .before .before .before .before .before .before .before .before .pre in omega (arith, facts _ (p .0) .pebbles-size)
+
+difference-requires : tie.Need-difference-requires Inv-loop μ-loop
+difference-requires c κs = search needs
+
+add-t14 : tie.Need-add-t14 Inv-loop μ-loop
+add-t14 c = let p = c .before .before .before .before .before .before .before .before .before .before .pre in omega (arith, facts _ (p .0) .few)
+
+mul-t15 : tie.Need-mul-t15 Inv-loop μ-loop
+mul-t15 c = let p = c .before .before .before .before .before .before .before .before .before .before .pre in omega (arith, facts _ (p .0) .few)
+
+slice-set-from-s : tie.Need-slice-set-from-s Inv-loop μ-loop
+slice-set-from-s c = let p = c .before .before .before .before .before .before .before .before .before .before .pre in omega (arith, facts _ (p .0) .few, c .before .before .before .loop .inv .1 .long)
+
+add-v : tie.Need-add-v Inv-loop μ-loop
+add-v c = omega arith
+
+loop-less : tie.Need-loop-less Inv-loop μ-loop
+loop-less c = omega arith
+
+loop-again : tie.Need-loop-again Inv-loop μ-loop
+loop-again c =
+    let i = c .before .before in
+    let p = i .before .before .before .before .before .before .before .before .pre in
+    let e : c .difference .result ≡ pos (getD (i .before .before .before .before .before .before .before .before .args .pebbles .now) (i .before .loop .v) 0) = c .difference .ensures ∙ mark-difference _ in (
+      omega arith,
+      place-next _ _ _ _ (toZ w16 (ofZ w16 (c .difference .result))) (omega (arith, facts _ (p .0) .few))
+          (ap (λ (z : ℤ). toZ w16 (ofZ w16 z)) e ∙ small-back _ (omega (arith, facts _ (p .0) .pebble-le (i .before .loop .v) (omega arith)))) (i .before .loop .inv .1),
+    )
+
+same-length : tie.Need-same-length Inv-loop μ-loop
+same-length c = c .before .loop .inv .1 .long ∙ sym (c .before .before .before .before .before .before .before .before .pre .1)
+
+returns : tie.Need-returns Inv-loop μ-loop
+returns c =
+    let l = c .before .loop in
+    let f = c .before .before .before in
+    let s = f .before .before .before .before .before in
+    let e : l .v ≡ length (s .args .parents .now) = omega arith in
+    placed-kept _ _ _ (s .pre .0) _ _ _ (f .fill .ensures) (rw e at (l .inv .1))
+
+pub write-state-spec : {M : Type 1} → statement M
+write-state-spec =
+    tie.close
+    (tie.spec
+    Inv-loop
+    μ-loop
+    slice-relend-prefix-fill
+    slice-aggregate-fill
+    fill-requires
+    loop-holds
+    shared-slice-read-difference
+    difference-requires
+    add-t14
+    mul-t15
+    slice-set-from-s
+    add-v
+    loop-less
+    loop-again
+    same-length
+    returns)

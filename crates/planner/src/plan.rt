@@ -1,0 +1,33 @@
+// The planner's call.
+ghost use mathlib.Core.Path.{_≡_};
+ghost use Rattle.model.specs.Yard.{yardOf, Matched};
+ghost use Rattle.model.specs.Judge.{Tree};
+ghost use Rattle.model.specs.Calls.{planAnswer, planList};
+ghost use Rattle.model.specs.Paper.{paperCounted};
+use crate::balance::balance_subtrees;
+use crate::state::write_state;
+use crate::tree::tables;
+use demand::signed::sizes;
+use model::Counted;
+use model::Refusal;
+use yard::scan::first_own;
+
+// The plan of a tree with as many pebbles as targets. Its length is worked out from the demands before anything is written: refusal 8 with it as
+// place if the list is shorter.
+fn plan_matched(parents: &[u8], pebbles: &[u8], targets: &[u8], plan: &mut [u8]) -> Counted
+    requires { ⌜ Tree (yardOf (now parents) (now pebbles) (now targets)) × Matched (yardOf (now parents) (now pebbles) (now targets)) ⌝ }
+    ensures { λ r. ⌜ paperCounted r ≡ planAnswer (yardOf (now (parents .entry)) (now (pebbles .entry)) (now (targets .entry))) (now (plan .entry)) ⌝ }
+    ensures { λ r. ⌜ now (plan .exit) ≡ planList (yardOf (now (parents .entry)) (now (pebbles .entry)) (now (targets .entry))) (now (plan .entry)) ⌝ }
+{
+    let n = parents.len();
+    let mut s = [0i16; 512];
+    write_state(parents, pebbles, targets, &mut s);
+    let length = sizes(&s[..n]);
+    if plan.len() / 2 < length {
+        return Counted::Refused(Refusal::ListTooShort(length));
+    }
+    let t = tables(parents);
+    let root = first_own(parents, 0);
+    let count = balance_subtrees(&t, &mut s, plan, root, n);
+    Counted::Number(count)
+}

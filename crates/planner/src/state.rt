@@ -1,0 +1,22 @@
+// The state that planning starts from: demands and pebbles.
+ghost use mathlib.Core.Path.{_≡_};
+ghost use lib.ListN.{length};
+ghost use Rattle.model.specs.Yard.{yardOf};
+ghost use Rattle.model.specs.Judge.{Tree};
+ghost use Rattle.planner.specs.Kept.{Kept};
+use demand::fill::fill;
+use demand::signed::difference;
+
+// Writes the demands of a tree's nodes, and 256 entries behind them their pebbles.
+pub fn write_state(parents: &[u8], pebbles: &[u8], targets: &[u8], s: &mut [i16])
+    requires { ⌜ Tree (yardOf (now parents) (now pebbles) (now targets)) × (length (now s) ≡ 512) ⌝ }
+    ensures { λ _. ⌜ Kept (yardOf (now (parents .entry)) (now (pebbles .entry)) (now (targets .entry))) (now (s .exit)) ⌝ }
+{
+    let n = parents.len();
+    fill(parents, pebbles, targets, &mut s[..n]);
+    let mut v = 0;
+    while v < n {
+        s[256 + v] = difference(pebbles[v], 0);
+        v += 1;
+    }
+}
