@@ -2,7 +2,7 @@
 -- list of those.
 use mathlib.Core.Path.{_≡_, refl, ap, _∙_}
 use mathlib.Core.List.{List, [], _∷_, map}
-use Prim.Native.Nat.{ℕ, suc, _+_, _*_, _<_}
+use Prim.Native.Nat.{ℕ, zero, suc, _+_, _*_, _<_}
 use native.Mathlib.Nat.{add-zero}
 use native.Mathlib.Omega.{arith}
 use native.Mathlib.Decide.{ℕ-discrete}
@@ -26,3 +26,21 @@ pub listed : (f : ℕ → ℤ) (a : ℕ) (xs : List ℤ) → ((v : ℕ) → v < 
 unfolding range
 listed f a [] h = refl
 listed f a (x ∷ xs) h = cc (h 0 (omega arith), add-zero a, listed f (suc a) xs (λ v l. h (suc v) (omega arith) ∙ ap f (omega arith)))
+
+-- which is as long as they are many, and has them as its entries; what holds of 0 and of every f v holds of each entry, past the end too
+pub length-listed : (f : ℕ → ℤ) (a k : ℕ) → length (map f (range a k)) ≡ k
+unfolding range
+length-listed f a zero = refl
+length-listed f a (suc k) = ap suc (length-listed f (suc a) k)
+
+pub entry-listed : (f : ℕ → ℤ) (a k v : ℕ) → v < k → getD (map f (range a k)) v (pos 0) ≡ f (a + v)
+unfolding range
+entry-listed f a zero v l = absurd (omega arith)
+entry-listed f a (suc k) zero l = rw add-zero
+entry-listed f a (suc k) (suc v) l = entry-listed f (suc a) k v (omega arith) ∙ ap f (omega arith)
+
+pub all-listed : (P : ℤ → Type 0) (f : ℕ → ℤ) → P (pos 0) → ((v : ℕ) → P (f v)) → (a k v : ℕ) → P (getD (map f (range a k)) v (pos 0))
+unfolding range
+all-listed P f z h a zero v = z
+all-listed P f z h a (suc k) zero = h a
+all-listed P f z h a (suc k) (suc v) = all-listed P f z h (suc a) k v

@@ -1,3 +1,4 @@
 // Demands (accounts) in code.
+pub mod call;
 pub mod fill;
 pub mod signed;

@@ -14,8 +14,8 @@ use Rattle.model.specs.Yard.{Yard, size, full, held, pebbleCount, target
 use Rattle.model.specs.Judge.{Fault, row, fault, firstOf, unless, atLowest, judge, Tree}
 use Rattle.model.specs.Push.{Move, adjacent, moveTests, moveFault, pushed}
 use Rattle.model.specs.Plan.{plan}
-use Rattle.model.specs.Calls.{answered, refused, answer, overwrite, totalsFault, bytes, movesOf, planTests, planFault, movesFault}
-use Rattle.model.proofs.Basics.{All, none-all, all-none, unless-none}
+use Rattle.model.specs.Calls.{answered, refused, answer, overwrite, totalsFault, bytes, movesOf, planTests, planFault, movesFault, checkTests, checkFault, figureTests, figureFault}
+use Rattle.model.proofs.Basics.{All, none-all, all-none, unless-none, first-refused}
 
 -- answer
 pub answer-answered : {A : Type 0} (f : Option Fault) (a b : A) → answer f a ≡ answered b → (f ≡ none) × (a ≡ b)
@@ -108,3 +108,18 @@ seven y t a fs o = (
   (λ e m. other-first 7 fs o 0 (rw (t, totals-none y .1 m) at (answer-refused (firstOf (judge y ∷ totalsFault y ∷ fs)) a (row 7 0) e))),
   λ d. rw (t, totals-differ y .1 d),
 )
+
+-- the calls that begin with refusals 1 to 7
+module _ (y : Yard) where
+  pub figure-matched : figureFault y ≡ none → Tree y × Matched y
+  unfolding figureFault
+  figure-matched e = let a = none-all (figureTests y) e in (a .0, totals-none y .0 (a .1 .0))
+
+  module _ (f : Fault) (e : figureFault y ≡ some f) where
+    pub plan-figure : (room : ℕ) → planFault y room ≡ some f
+    unfolding figureFault planFault
+    plan-figure room = first-refused (figureTests y) (drop 2 (planTests y room)) f e
+
+    pub check-figure : (bs : List ℕ) → checkFault y bs ≡ some f
+    unfolding figureFault checkFault
+    check-figure bs = first-refused (figureTests y) (drop 2 (checkTests y bs)) f e

@@ -45,11 +45,11 @@ module _ (y : Yard) (m : Move) (ms : List Move) (e : legal y m ≡ true) where
   unfolding accepted
   accepted-legal = rw e
 
-  after-legal : after y (m ∷ ms) ≡ after (moved y m) ms
+  pub after-legal : after y (m ∷ ms) ≡ after (moved y m) ms
   unfolding after
   after-legal = rw e
 
-  movesFault-legal : (i : ℕ) → movesFault i y (m ∷ ms) ≡ firstOf (moveFault y m i ∷ movesFault (suc i) (moved y m) ms ∷ [])
+  pub movesFault-legal : (i : ℕ) → movesFault i y (m ∷ ms) ≡ firstOf (moveFault y m i ∷ movesFault (suc i) (moved y m) ms ∷ [])
   unfolding movesFault
   movesFault-legal i = rw e
 

@@ -19,7 +19,7 @@ use Rattle.model.proofs.Calls.{answer-answered, movesOf-half, totals-no
 use Rattle.model.proofs.Moves.{movesFault-accepted}
 
 -- as much as was taken, taken again
-take-again : {A : Type 0} (n : ℕ) (l : List A) → take (length (take n l)) l ≡ take n l
+pub take-again : {A : Type 0} (n : ℕ) (l : List A) → take (length (take n l)) l ≡ take n l
 take-again n l = rw take-append-drop at (take-at (take n l) (drop n l) (length (take n l)) refl)
 
 pub trial-pushes : (y : Yard) (bs : List ℕ) (budget : ℕ) (r : Trial) → trialAnswer y bs budget ≡ answered r

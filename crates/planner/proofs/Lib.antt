@@ -9,3 +9,4 @@ pub mod Made
 pub mod Settle
 pub mod Children
 pub mod Start
+pub mod Promise

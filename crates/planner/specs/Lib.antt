@@ -1,2 +1,3 @@
--- What the planner's helpers promise one another.
+-- What the planner promises, and what its helpers promise one another.
 pub mod Kept
+pub mod Promise

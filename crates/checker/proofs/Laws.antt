@@ -1,0 +1,152 @@
+-- The moves that a plan's bytes are; a list of moves obeyed one after another; and what decides the answers of the checker and the trial.
+use mathlib.Core.Path.{_≡_, refl, sym, _∙_}
+use mathlib.Core.Bool.{Bool, true, false, not}
+use mathlib.Core.List.{List, [], _∷_, _++_}
+use mathlib.Core.Option.{Option, none, some}
+use Prim.Native.Nat.{ℕ, zero, suc, min, _+_, _-_, _*_, _/_, _≤_, _<_}
+use native.Mathlib.Numerals.{add-one}
+use native.Mathlib.Omega.{arith}
+use lib.ListN.{length, take, drop, getD, replicate, length-take}
+use lib.Seq.{length-take-le, length-front, drop-cons, drop-length, getD-take, take-all, take-at}
+use lib.Dec.{leb}
+use borrow.Author.Tests.{not-true, not-false}
+use Rattle.model.specs.Yard.{Yard, yardOf, shortest, Matched}
+use Rattle.model.specs.Judge.{Fault, fault, firstOf, unless, judge, Tree}
+use Rattle.model.specs.Push.{Move, push, moveFault, shifted, after, run}
+use Rattle.model.specs.Calls.{answered, refused, lent, movesOf, bytesFault, movesFault, endFault, Verdict, checkFault, checkAnswer, within, trialFault, trialAnswer, trialPebbles}
+use Rattle.model.proofs.Calls.{movesOf-half, totals-none}
+use Rattle.model.proofs.Step.{step, moved-tree}
+use Rattle.model.proofs.Moves.{moveFault-legal, after-legal, movesFault-legal}
+use Rattle.model.proofs.Demand2.{demand-2}
+use Rattle.model.proofs.Trial.{take-again}
+
+-- the move at a place, and the first of those that are left of the front of a plan
+move-at : (bs : List ℕ) (i : ℕ) → 2 * i + 1 < length bs → getD (movesOf bs) i (push 0 0) ≡ push (getD bs (2 * i) 0) (getD bs (2 * i + 1) 0)
+unfolding movesOf
+move-at [] i l = absurd (omega arith)
+move-at (a ∷ []) i l = absurd (omega arith)
+move-at (a ∷ b ∷ bs) zero l = refl
+move-at (a ∷ b ∷ bs) (suc i) l =
+    let e : 2 * suc i ≡ suc (suc (2 * i)) = omega arith in
+    let f : 2 * suc i + 1 ≡ suc (suc (2 * i + 1)) = omega arith in
+    rw (f, e) (move-at bs i (omega arith))
+
+module _ (bs : List ℕ) (count : ℕ) (h : 2 * count ≤ length bs) where
+  pub front-length : length (take count (movesOf bs)) ≡ count
+  front-length = omega (arith, length-take count (movesOf bs), movesOf-half bs)
+
+  pub front-next : (i : ℕ) → i < count → drop i (take count (movesOf bs)) ≡ push (getD bs (2 * i) 0) (getD bs (2 * i + 1) 0) ∷ drop (suc i) (take count (movesOf bs))
+  front-next i l = drop-cons (take count (movesOf bs)) i (push 0 0) (omega (arith, front-length)) ∙ rw (getD-take count (movesOf bs) i (push 0 0) l, move-at bs i (omega arith))
+
+-- half as many moves as bytes
+pub moves-half : (bs : List ℕ) → length bs / 2 ≡ length (movesOf bs)
+moves-half bs = omega (arith, movesOf-half bs)
+
+pub front-all : (bs : List ℕ) → take (length bs / 2) (movesOf bs) ≡ movesOf bs
+front-all bs = take-all (length bs / 2) (movesOf bs) (omega (arith, moves-half bs))
+
+-- the first n entries of an array of 256 zeros, and what the array is when other marks come back from where they were lent
+pub front-zeros : (n : ℕ) → n ≤ 256 → length (take n (replicate {A = ℕ} 256 0)) ≡ n
+front-zeros n l = length-take-le n (replicate 256 0) l
+
+pub record Back (n : ℕ) (marks : List ℕ) : Type 0 where
+  pub fits : n ≤ length (marks ++ drop n (replicate 256 0))
+  pub long : n ≡ length (take n (marks ++ drop n (replicate 256 0)))
+  pub is : take n (marks ++ drop n (replicate 256 0)) ≡ marks
+
+pub came-back : (n : ℕ) (marks : List ℕ) → n ≤ 256 → length marks ≡ length (take n (replicate {A = ℕ} 256 0)) → Back n marks
+came-back n marks l k =
+    let fits : n ≤ length (marks ++ drop n (replicate 256 0)) = rw (length-front (replicate 256 0) marks n k) l in
+    record { fits = fits; long = sym (length-take-le n _ fits); is = take-at marks (drop n (replicate 256 0)) n (k ∙ front-zeros n l) }
+
+-- a test that stands alone, and a refusal, which is not none
+alone : (f : Option Fault) → firstOf (f ∷ []) ≡ f
+alone none = refl
+alone (some f) = refl
+
+pub some-not : {f : Fault} {A : Type 0} → some f ≡ none → A
+some-not e = let z : _≡_ {A = ℕ} 0 1 = cc in absurd (omega arith)
+
+-- refusal 9, by its test
+module _ {f : Option Fault} (b : Bool) (e : f ≡ unless b (fault 9 0)) where
+  pub whole : not b ≡ false → f ≡ none
+  whole h = e ∙ rw (not-false b h)
+
+  pub not-whole : not b ≡ true → f ≡ fault 9 0
+  not-whole h = e ∙ rw (not-true b h)
+
+-- the moves `ms` of a yard, of which the first `i` are obeyed and none is refused: what is left of them decides
+module _ (y : Yard) (ms : List Move) (ps ts : List ℕ) where
+  abbrev pub Left : ℕ → List ℕ → Type 0
+  Left i qs = Tree (yardOf ps qs ts) × (movesFault 0 y ms ≡ movesFault i (yardOf ps qs ts) (drop i ms)) × (after y ms ≡ after (yardOf ps qs ts) (drop i ms))
+
+  module _ (i : ℕ) (qs : List ℕ) (h : Left i qs) where
+    pub left-none : length ms ≡ i → (movesFault 0 y ms ≡ none) × (after y ms ≡ qs)
+    unfolding movesFault after
+    left-none e =
+        let d : drop i ms ≡ [] = rw (← e) (drop-length ms) in
+        (h .1 ∙ rw d, h .2 ∙ rw d)
+
+    -- the next move, judged without the targets
+    module _ (m : Move) (d : drop i ms ≡ m ∷ drop (suc i) ms) where
+      pub left-refused : (f : Fault) → moveFault (yardOf ps qs []) m i ≡ some f → movesFault 0 y ms ≡ some f
+      unfolding movesFault moveFault
+      left-refused f e = h .1 ∙ rw (d, e)
+
+      pub left-next : moveFault (yardOf ps qs []) m i ≡ none → Left (i + 1) (shifted qs m)
+      unfolding moveFault
+      left-next e =
+          let l = moveFault-legal (yardOf ps qs ts) (h .0) m i .0 e in
+          rw add-one (
+            moved-tree (yardOf ps qs ts) m (step (yardOf ps qs ts) m l),
+            h .1 ∙ rw (d, movesFault-legal (yardOf ps qs ts) m (drop (suc i) ms) l i, e) (alone _),
+            h .2 ∙ rw d (after-legal (yardOf ps qs ts) m (drop (suc i) ms) l),
+          )
+
+-- the checker on a tree with as many pebbles as targets: refusal 9, then the moves and the end; a plan that it accepts is not too short
+module _ (y : Yard) (t : Tree y) (m : Matched y) (bs : List ℕ) where
+  pub check-bytes : (f : Fault) → bytesFault bs ≡ some f → checkFault y bs ≡ some f
+  unfolding checkFault
+  check-bytes f e = rw (t, totals-none y .1 m, e)
+
+  pub check-moves : bytesFault bs ≡ none → checkFault y bs ≡ firstOf (movesFault 0 y (movesOf bs) ∷ endFault (run y (movesOf bs)) ∷ [])
+  unfolding checkFault
+  check-moves e = rw (t, totals-none y .1 m, e)
+
+  pub check-long : checkFault y bs ≡ none → shortest y ≤ length bs / 2
+  check-long e =
+      let v : Verdict = record { moves = length (movesOf bs); excess = length (movesOf bs) - shortest y } in
+      omega (arith, moves-half bs, demand-2 y t m .excess bs v (rw e))
+
+  pub check-answered : checkFault y bs ≡ none → (k : ℕ) → k ≡ shortest y → answered (record { moves = length bs / 2; excess = length bs / 2 - k }) ≡ checkAnswer y bs
+  check-answered e k l = rw (e, moves-half bs, l)
+
+-- the trial: refusals 1 to 6, then 9, then the moves taken, which are those within the budget
+taken-is : (bs : List ℕ) (budget taken : ℕ) → taken ≡ min (length bs / 2) budget → taken ≡ length (within bs budget)
+taken-is bs budget taken e = omega (arith, length-take budget (movesOf bs), moves-half bs)
+
+module _ (y : Yard) (bs : List ℕ) (budget : ℕ) where
+  pub trial-refused : (f : Fault) → trialFault y bs budget ≡ some f → (refused f ≡ trialAnswer y bs budget) × (y .pebbles ≡ trialPebbles y bs budget)
+  trial-refused f e = (rw e, rw e)
+
+  pub trial-answered : trialFault y bs budget ≡ none → (taken : ℕ) → taken ≡ min (length bs / 2) budget → (b : Bool) → leb (length bs / 2) budget ≡ b
+      → answered (record { taken = taken; planEnded = b }) ≡ trialAnswer y bs budget
+  trial-answered f taken e b l = rw (f, ← (taken-is bs budget taken e), ← (moves-half bs), l)
+
+  pub trial-judged : (f : Fault) → judge y ≡ some f → trialFault y bs budget ≡ some f
+  unfolding trialFault
+  trial-judged f e = rw e
+
+  module _ (t : Tree y) where
+    pub trial-bytes : (f : Fault) → bytesFault bs ≡ some f → trialFault y bs budget ≡ some f
+    unfolding trialFault
+    trial-bytes f e = rw (t, e)
+
+    pub trial-moves : bytesFault bs ≡ none → (taken : ℕ) → taken ≡ min (length bs / 2) budget
+        → (r : Option Fault) (qs : List ℕ) → r ≡ movesFault 0 y (take taken (movesOf bs)) → qs ≡ lent r (after y (take taken (movesOf bs))) (y .pebbles)
+        → (r ≡ trialFault y bs budget) × (qs ≡ trialPebbles y bs budget)
+    unfolding trialFault
+    trial-moves b taken e r qs p q =
+        let front : take taken (movesOf bs) ≡ within bs budget = rw (taken-is bs budget taken e) (take-again budget (movesOf bs)) in
+        let d : r ≡ trialFault y bs budget = p ∙ rw (front, t, b) (sym (alone _)) in
+        (d, q ∙ rw (d, front))

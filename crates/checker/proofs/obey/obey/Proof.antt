@@ -1,0 +1,126 @@
+-- `obey` makes one step for each move. The loop's invariant: none of the moves made is refused, and the moves that are left decide the answer
+-- and the pebbles (`Left`). The measure is the number of moves that are left.
+use mathlib.Core.Path.{_≡_, refl, sym}
+use mathlib.Core.List.{_∷_}
+use Prim.Native.Nat.{suc, _+_, _*_, _-_, _≤_}
+use native.Mathlib.Omega.{arith}
+use lib.ListN.{length, take, drop, getD}
+use borrow.Author.Needs.{needs}
+use Rattle.model.specs.Yard.{yardOf}
+use Rattle.model.specs.Push.{push}
+use Rattle.model.specs.Calls.{movesOf}
+use Rattle.model.proofs.Judged.{facts}
+use Rattle.yard.proofs.Laws.{sees}
+use Rattle.checker.proofs.Laws.{front-length, front-next, Left, some-not, left-none, left-refused, left-next}
+use Rattle.checker.proofs.obey.obey.Statement.{statement}
+use Rattle.checker.proofs.obey.obey.Tie as tie
+
+abbrev Inv-loop : tie.InvT-loop
+Inv-loop parents pebbles₀ targets plan count i₀ pebbles i = (i ≤ count) × Left (yardOf parents pebbles₀ targets) (take count (movesOf plan)) parents targets i pebbles
+
+abbrev μ-loop : tie.MeasureT-loop
+μ-loop parents pebbles₀ targets plan count i₀ pebbles i = count - i
+
+loop-holds : tie.Need-loop-holds Inv-loop μ-loop
+loop-holds c = (omega arith, (c .before .before .before .before .pre .0, refl, refl))
+
+-- at the loop's head there are as many pebbles as there are nodes
+long : (c : tie.At-loop Inv-loop μ-loop) → length (c .loop .pebbles) ≡ length (c .before .before .before .before .before .args .parents .now)
+long c = facts _ (c .loop .inv .1 .0) .pebbles-size
+
+-- the move that a turn makes is the first of those that are left
+next : (c : tie.In-loop Inv-loop μ-loop) → let a = c .before .before .before .before .before .before .args in let i = c .before .loop .i in
+    drop i (take (a .count) (movesOf (a .plan .now))) ≡ push (getD (a .plan .now) (2 * i) 0) (getD (a .plan .now) (2 * i + 1) 0) ∷ drop (suc i) (take (a .count) (movesOf (a .plan .now)))
+next c =
+    let s = c .before .before .before .before .before .before in
+    front-next (s .args .plan .now) (s .args .count) (s .pre .1) (c .before .loop .i) (omega arith)
+
+mul-from : tie.Need-mul-from Inv-loop μ-loop
+mul-from c = omega arith
+
+shared-slice-read-from : tie.Need-shared-slice-read-from Inv-loop μ-loop
+shared-slice-read-from c = omega arith
+
+cast-from : tie.Need-cast-from Inv-loop μ-loop
+cast-from c = omega (arith, c .shared-slice-known4 .given (2 * c .before .before .loop .i))
+
+mul-to : tie.Need-mul-to Inv-loop μ-loop
+mul-to c = omega arith
+
+add-to : tie.Need-add-to Inv-loop μ-loop
+add-to c = omega arith
+
+shared-slice-read-to : tie.Need-shared-slice-read-to Inv-loop μ-loop
+shared-slice-read-to c = omega arith
+
+cast-to : tie.Need-cast-to Inv-loop μ-loop
+cast-to c = omega (arith, c .shared-slice-known5 .given (2 * c .before .before .before .loop .i + 1))
+
+step-requires : tie.Need-step-requires Inv-loop μ-loop
+step-requires c κs = long (c .before .before .before .before)
+
+enum-known-done : tie.Need-enum-known-done Inv-loop μ-loop
+enum-known-done c = search needs
+
+same-length : tie.Need-same-length Inv-loop μ-loop
+same-length c =
+    let t = c .before .before .before .before .before in
+    let l = t .before .before .before .before .before in
+    omega (arith, t .step .kept .1 .0, long l, facts _ (l .before .before .before .before .before .pre .0) .pebbles-size)
+
+returns : tie.Need-returns Inv-loop μ-loop
+returns c =
+    let t = c .before .before .before .before .before in
+    let l = t .before .before .before .before in
+    (sym (left-refused _ _ _ _ _ _ (l .before .loop .inv .1) _ (next l) _ (sees (t .step .ensures .0) (c .before .done .given .1))), some-not)
+
+enum-told : tie.Need-enum-told Inv-loop μ-loop
+enum-told c = search needs
+
+add-i : tie.Need-add-i Inv-loop μ-loop
+add-i c = search needs
+
+loop-less : tie.Need-loop-less Inv-loop μ-loop
+loop-less c = search needs
+
+loop-again : tie.Need-loop-again Inv-loop μ-loop
+loop-again c =
+    let t = c .before .before .before .before in
+    let l = t .before .before .before .before in
+    let e = sees (t .step .ensures .0) (c .enum-told .given .1) in
+    (omega arith, rw (t .step .ensures .1, e) (left-next _ _ _ _ _ _ (l .before .loop .inv .1) _ (next l) e))
+
+same-length-2 : tie.Need-same-length-2 Inv-loop μ-loop
+same-length-2 c = omega (arith, long (c .before), facts _ (c .before .before .before .before .before .before .pre .0) .pebbles-size)
+
+returns-2 : tie.Need-returns-2 Inv-loop μ-loop
+returns-2 c =
+    let l = c .before in
+    let s = l .before .before .before .before .before in
+    let e = left-none _ _ _ _ _ _ (l .loop .inv .1) (omega (arith, front-length (s .args .plan .now) (s .args .count) (s .pre .1))) in
+    (sym (e .0), λ _. sym (e .1))
+
+pub obey-spec : {M : Type 1} → statement M
+obey-spec =
+    tie.close
+    (tie.spec
+    Inv-loop
+    μ-loop
+    loop-holds
+    mul-from
+    shared-slice-read-from
+    cast-from
+    mul-to
+    add-to
+    shared-slice-read-to
+    cast-to
+    step-requires
+    enum-known-done
+    same-length
+    returns
+    enum-told
+    add-i
+    loop-less
+    loop-again
+    same-length-2
+    returns-2)

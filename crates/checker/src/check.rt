@@ -1,0 +1,93 @@
+// The checker, given the shortest length.
+ghost use mathlib.Core.Path.{_≡_};
+ghost use mathlib.Core.List.{[], _∷_};
+ghost use lib.ListN.{length, getD};
+ghost use lib.Dec.{ltb};
+ghost use Rattle.model.specs.Yard.{yardOf, below, headOr, shortest, Matched};
+ghost use Rattle.model.specs.Judge.{firstOf, Tree};
+ghost use Rattle.model.specs.Push.{run};
+ghost use Rattle.model.specs.Calls.{movesOf, movesFault, endFault, checkAnswer};
+ghost use Rattle.model.specs.Paper.{paperDone, paperChecked};
+use crate::obey::obey_copy;
+use crate::obey::whole_plan;
+use demand::call::shortest_length;
+use demand::call::test_matched;
+use model::Checked;
+use model::Done;
+use model::Refusal;
+
+// The lowest node with more targets than pebbles, or the number of nodes.
+fn first_empty(pebbles: &[u8], targets: &[u8]) -> usize
+    requires { ⌜ length (now targets) ≡ length (now pebbles) ⌝ }
+    ensures { λ r. ⌜ r ≡ headOr (length (now (pebbles .entry))) (below (length (now (pebbles .entry))) (λ v. ltb (getD (now (pebbles .entry)) v 0) (getD (now (targets .entry)) v 0))) ⌝ }
+{
+    let mut i = 0;
+    while i < pebbles.len() {
+        if pebbles[i] < targets[i] {
+            return i;
+        }
+        i += 1;
+    }
+    i
+}
+
+// Obeys a whole plan on a copy of the pebbles of a tree: refusals 10 to 13 move by move, then 14.
+fn obey_to_end(parents: &[u8], pebbles: &[u8], targets: &[u8], plan: &[u8]) -> Done
+    requires { ⌜ Tree (yardOf (now parents) (now pebbles) (now targets)) ⌝ }
+    ensures { λ r. ⌜ paperDone r ≡ firstOf (movesFault 0 (yardOf (now (parents .entry)) (now (pebbles .entry)) (now (targets .entry))) (movesOf (now (plan .entry))) ∷ endFault (run (yardOf (now (parents .entry)) (now (pebbles .entry)) (now (targets .entry))) (movesOf (now (plan .entry)))) ∷ []) ⌝ }
+{
+    let n = parents.len();
+    let mut marks = [0u8; 256];
+    let done = obey_copy(
+        parents,
+        pebbles,
+        &mut marks[..n],
+        targets,
+        plan,
+        plan.len() / 2,
+    );
+    if let Done::Refused(r) = done {
+        return Done::Refused(r);
+    }
+    let empty = first_empty(&marks[..n], targets);
+    if empty < n {
+        return Done::Refused(Refusal::TargetEmpty(empty));
+    }
+    Done::Accepted
+}
+
+// The checker on a tree with as many pebbles as targets, whose shortest length is known: refusals 9, 10 to 13 move by move, 14; else the number
+// of moves and the excess, moves minus shortest length.
+pub fn check_matched(
+    parents: &[u8],
+    pebbles: &[u8],
+    targets: &[u8],
+    plan: &[u8],
+    length: usize,
+) -> Checked
+    requires { ⌜ Tree (yardOf (now parents) (now pebbles) (now targets)) × Matched (yardOf (now parents) (now pebbles) (now targets)) × (length ≡ shortest (yardOf (now parents) (now pebbles) (now targets))) ⌝ }
+    ensures { λ r. ⌜ paperChecked r ≡ checkAnswer (yardOf (now (parents .entry)) (now (pebbles .entry)) (now (targets .entry))) (now (plan .entry)) ⌝ }
+{
+    if !whole_plan(plan) {
+        return Checked::Refused(Refusal::PlanLength);
+    }
+    let done = obey_to_end(parents, pebbles, targets, plan);
+    if let Done::Refused(r) = done {
+        return Checked::Refused(r);
+    }
+    let moves = plan.len() / 2;
+    Checked::Accepted(moves, moves - length)
+}
+
+// The checker: refusals 1 to 6, 7, 9, 10 to 13 for each move in turn with its number as place, then 14 with the lowest empty target; else the number
+// of moves and the excess (spare). A plan need not be shortest.
+pub fn check(parents: &[u8], pebbles: &[u8], targets: &[u8], plan: &[u8]) -> Checked
+    ensures { λ r. ⌜ paperChecked r ≡ checkAnswer (yardOf (now (parents .entry)) (now (pebbles .entry)) (now (targets .entry))) (now (plan .entry)) ⌝ }
+{
+    let tested = test_matched(parents, pebbles, targets);
+    if let Done::Refused(r) = tested {
+        return Checked::Refused(r);
+    }
+    let length = shortest_length(parents, pebbles, targets);
+    check_matched(parents, pebbles, targets, plan, length)
+}

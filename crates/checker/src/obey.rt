@@ -1,0 +1,71 @@
+// What the checker and the trial share: the test of a plan's length, a copy of marks, and the moves of a plan's front obeyed one by one.
+ghost use mathlib.Core.Path.{_≡_};
+ghost use mathlib.Core.Option.{none};
+ghost use Prim.Native.Nat.{_*_, _≤_};
+ghost use lib.ListN.{length, take};
+ghost use Rattle.model.specs.Yard.{yardOf};
+ghost use Rattle.model.specs.Judge.{fault, unless, Tree};
+ghost use Rattle.model.specs.Push.{after};
+ghost use Rattle.model.specs.Calls.{movesOf, bytesFault, movesFault};
+ghost use Rattle.model.specs.Paper.{paperDone};
+use model::Done;
+use yard::step::step;
+
+// Whether a plan's length is even and at most 131,070 bytes: else refusal 9 meets it.
+pub fn whole_plan(plan: &[u8]) -> bool
+    ensures { λ r. ⌜ bytesFault (now (plan .entry)) ≡ unless r (fault 9 0) ⌝ }
+{
+    if plan.len() % 2 != 0 {
+        return false;
+    }
+    plan.len() <= 131070
+}
+
+// Copies a list over another of the same length.
+pub fn copy(from: &[u8], to: &mut [u8])
+    requires { ⌜ length (now to) ≡ length (now from) ⌝ }
+    ensures { λ _. ⌜ now (to .exit) ≡ now (from .entry) ⌝ }
+{
+    let mut i = 0;
+    while i < from.len() {
+        to[i] = from[i];
+        i += 1;
+    }
+}
+
+// Obeys the first `count` moves of a plan on the pebbles of a tree. A refusal is that of the first move that is refused, with its number as
+// place; what the pebbles then are is left open, as every caller lends a copy.
+pub fn obey(parents: &[u8], pebbles: &mut [u8], targets: &[u8], plan: &[u8], count: usize) -> Done
+    requires { ⌜ Tree (yardOf (now parents) (now pebbles) (now targets)) × (2 * count ≤ length (now plan)) ⌝ }
+    ensures { λ r. ⌜ paperDone r ≡ movesFault 0 (yardOf (now (parents .entry)) (now (pebbles .entry)) (now (targets .entry))) (take count (movesOf (now (plan .entry)))) ⌝ }
+    ensures { λ r. ⌜ (paperDone r ≡ none → now (pebbles .exit) ≡ after (yardOf (now (parents .entry)) (now (pebbles .entry)) (now (targets .entry))) (take count (movesOf (now (plan .entry))))) ⌝ }
+{
+    let mut i = 0;
+    while i < count {
+        let from = plan[2 * i] as usize;
+        let to = plan[2 * i + 1] as usize;
+        let done = step(parents, pebbles, from, to, i);
+        if let Done::Refused(r) = done {
+            return Done::Refused(r);
+        }
+        i += 1;
+    }
+    Done::Accepted
+}
+
+// The same, on a copy of the pebbles: `marks` is written, whatever it held.
+pub fn obey_copy(
+    parents: &[u8],
+    pebbles: &[u8],
+    marks: &mut [u8],
+    targets: &[u8],
+    plan: &[u8],
+    count: usize,
+) -> Done
+    requires { ⌜ Tree (yardOf (now parents) (now pebbles) (now targets)) × (2 * count ≤ length (now plan)) × (length (now marks) ≡ length (now pebbles)) ⌝ }
+    ensures { λ r. ⌜ paperDone r ≡ movesFault 0 (yardOf (now (parents .entry)) (now (pebbles .entry)) (now (targets .entry))) (take count (movesOf (now (plan .entry)))) ⌝ }
+    ensures { λ r. ⌜ (paperDone r ≡ none → now (marks .exit) ≡ after (yardOf (now (parents .entry)) (now (pebbles .entry)) (now (targets .entry))) (take count (movesOf (now (plan .entry))))) ⌝ }
+{
+    copy(pebbles, marks);
+    obey(parents, marks, targets, plan, count)
+}

@@ -1,0 +1,74 @@
+// The trial: a plan obeyed until a budget or the plan ends.
+ghost use mathlib.Core.Path.{_≡_};
+ghost use Prim.Native.Nat.{_*_, _≤_, min};
+ghost use lib.ListN.{length, take};
+ghost use Rattle.model.specs.Yard.{yardOf};
+ghost use Rattle.model.specs.Judge.{Tree};
+ghost use Rattle.model.specs.Push.{after};
+ghost use Rattle.model.specs.Calls.{movesOf, lent, movesFault, trialAnswer, trialPebbles};
+ghost use Rattle.model.specs.Paper.{paperDone, paperTried};
+use crate::obey::copy;
+use crate::obey::obey_copy;
+use crate::obey::whole_plan;
+use model::Done;
+use model::Refusal;
+use model::Tried;
+use yard::test::test_yard;
+
+// The smaller of two numbers.
+fn smaller(a: usize, b: usize) -> usize
+    ensures { λ r. ⌜ r ≡ min a b ⌝ }
+{
+    if a <= b {
+        return a;
+    }
+    b
+}
+
+// Obeys the first `count` moves of a plan on a copy of the pebbles of a tree, and writes the new marks if none is refused.
+fn obey_or_leave(
+    parents: &[u8],
+    pebbles: &mut [u8],
+    targets: &[u8],
+    plan: &[u8],
+    count: usize,
+) -> Done
+    requires { ⌜ Tree (yardOf (now parents) (now pebbles) (now targets)) × (2 * count ≤ length (now plan)) ⌝ }
+    ensures { λ r. ⌜ paperDone r ≡ movesFault 0 (yardOf (now (parents .entry)) (now (pebbles .entry)) (now (targets .entry))) (take count (movesOf (now (plan .entry)))) ⌝ }
+    ensures { λ r. ⌜ now (pebbles .exit) ≡ lent (paperDone r) (after (yardOf (now (parents .entry)) (now (pebbles .entry)) (now (targets .entry))) (take count (movesOf (now (plan .entry))))) (now (pebbles .entry)) ⌝ }
+{
+    let n = parents.len();
+    let mut marks = [0u8; 256];
+    let done = obey_copy(parents, pebbles, &mut marks[..n], targets, plan, count);
+    if let Done::Refused(r) = done {
+        return Done::Refused(r);
+    }
+    copy(&marks[..n], pebbles);
+    Done::Accepted
+}
+
+// Refusals 1 to 6, 9, then 10 to 13 on the moves obeyed; it writes the new marks, and answers the moves taken and which of the two ended it
+// (together: the plan). Moves past the budget are not examined, totals may differ, and a refusal leaves the marks as they were.
+pub fn trial(parents: &[u8], pebbles: &mut [u8], targets: &[u8], plan: &[u8], budget: u16) -> Tried
+    ensures { λ r. ⌜ paperTried r ≡ trialAnswer (yardOf (now (parents .entry)) (now (pebbles .entry)) (now (targets .entry))) (now (plan .entry)) budget ⌝ }
+    ensures { λ r. ⌜ now (pebbles .exit) ≡ trialPebbles (yardOf (now (parents .entry)) (now (pebbles .entry)) (now (targets .entry))) (now (plan .entry)) budget ⌝ }
+{
+    let tested = test_yard(parents, pebbles, targets);
+    if let Done::Refused(r) = tested {
+        return Tried::Refused(r);
+    }
+    if !whole_plan(plan) {
+        return Tried::Refused(Refusal::PlanLength);
+    }
+    let moves = plan.len() / 2;
+    let limit = budget as usize;
+    let taken = smaller(moves, limit);
+    let done = obey_or_leave(parents, pebbles, targets, plan, taken);
+    if let Done::Refused(r) = done {
+        return Tried::Refused(r);
+    }
+    if moves <= limit {
+        return Tried::PlanEnded(taken);
+    }
+    Tried::BudgetEnded(taken)
+}

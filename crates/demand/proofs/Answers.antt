@@ -1,0 +1,80 @@
+-- What the tests of the account call and of the figures say, case by case; that a tree has few pebbles; and of a list of all demands of a tree
+-- that its entries are small and their sizes add up to the shortest length.
+use mathlib.Core.Path.{_≡_, sym, ap, _∙_}
+use mathlib.Core.List.{List, map}
+use mathlib.Core.Option.{Option, none, some}
+use Prim.Native.Nat.{ℕ, _-_, _*_, _≤_}
+use native.Mathlib.Nat.{zero-add, mul-le-mul}
+use native.Mathlib.Omega.{arith}
+use lib.ListN.{length, getD}
+use lib.IntN.{ℤ, pos, natAbs}
+use borrow.Author.Tests.{eq-eqb, ne-eqb}
+use Rattle.model.specs.Yard.{Yard, size, maxSize, pebble, sum, demand, imbalance, shortest, pebbleCount, Matched}
+use Rattle.model.specs.Judge.{Fault, fault, judge, Tree}
+use Rattle.model.specs.Calls.{lent, range, demandsFault, figureTests, figureFault}
+use Rattle.model.proofs.Basics.{none-all}
+use Rattle.model.proofs.Sums.{sum-cong, sum-mono, sum-le}
+use Rattle.model.proofs.Judged.{facts}
+use Rattle.model.proofs.Signed.{demand-size, demand-range}
+use Rattle.model.proofs.Calls.{totals-none, totals-differ}
+use Rattle.demand.proofs.Lists.{length-listed, entry-listed, all-listed}
+
+-- what a refused call answers and leaves, and an accepted one
+pub refuses : {f : Option Fault} {r : Fault} (old new : List ℤ) → f ≡ some r → (some r ≡ f) × (old ≡ lent f new old)
+refuses old new e = (sym e, rw e)
+
+pub accepts : {f : Option Fault} {new made : List ℤ} (old : List ℤ) → f ≡ none → made ≡ new → (none ≡ f) × (made ≡ lent f new old)
+accepts old e d = (sym e, rw e d)
+
+module _ (y : Yard) where
+  -- the account call
+  module _ (list : List ℤ) where
+    pub demands-refused : {f : Fault} → judge y ≡ some f → demandsFault y list ≡ some f
+    unfolding demandsFault
+    demands-refused e = rw e
+
+    pub demands-length : Tree y → (length list ≡ size y → ⊥) → demandsFault y list ≡ fault 2 0
+    unfolding demandsFault
+    demands-length t d = rw (t, ne-eqb (length list) (size y) d)
+
+    pub demands-none : Tree y → length list ≡ size y → demandsFault y list ≡ none
+    unfolding demandsFault
+    demands-none t e = rw (t, eq-eqb (length list) (size y) e)
+
+  -- the figures
+  pub figure-refused : {f : Fault} → judge y ≡ some f → figureFault y ≡ some f
+  unfolding figureFault
+  figure-refused e = rw e
+
+  pub figure-totals : Tree y → (Matched y → ⊥) → figureFault y ≡ fault 7 0
+  unfolding figureFault
+  figure-totals t d = rw (t, totals-differ y .1 d)
+
+  pub figure-none : Tree y → Matched y → figureFault y ≡ none
+  unfolding figureFault
+  figure-none t m = rw (t, totals-none y .1 m)
+
+  pub figure-tree : figureFault y ≡ none → Tree y
+  unfolding figureFault
+  figure-tree e = none-all (figureTests y) e .0
+
+  module _ (t : Tree y) where
+    -- no more pebbles than nodes, so the bound is small
+    pub pebbles-few : pebbleCount y ≤ maxSize
+    pebbles-few = omega (arith, facts y t .few, sum-mono (size y) (pebble y) (λ _. 1) (facts y t .pebble-le), sum-le (size y) (λ _. 1) (λ _. omega arith))
+
+    pub bound-small : pebbleCount y * (size y - 1) ≤ maxSize * maxSize
+    bound-small = let few : size y - 1 ≤ maxSize = omega (arith, facts y t .few) in mul-le-mul pebbles-few few
+
+    -- a list of all demands
+    pub demands-small : {list : List ℤ} → list ≡ map (demand y) (range 0 (size y)) → (length list ≤ maxSize) × ((v : ℕ) → natAbs (getD list v (pos 0)) ≤ maxSize)
+    demands-small e = rw e (
+      omega (arith, length-listed (demand y) 0 (size y), facts y t .few),
+      all-listed (λ z. natAbs z ≤ maxSize) (demand y) (omega arith) (demand-range y t) 0 (size y),
+    )
+
+  pub demands-sum : {list : List ℤ} → list ≡ map (demand y) (range 0 (size y)) → sum (length list) (λ v. natAbs (getD list v (pos 0))) ≡ shortest y
+  unfolding shortest
+  demands-sum e =
+      rw (e, length-listed (demand y) 0 (size y))
+      (sum-cong (size y) _ (imbalance y) (λ v l. ap natAbs (entry-listed (demand y) 0 (size y) v l ∙ ap (demand y) (zero-add v)) ∙ demand-size y v))

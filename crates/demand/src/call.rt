@@ -1,0 +1,121 @@
+// The account call, the totals' test, and the figures.
+ghost use mathlib.Core.Path.{_≡_};
+ghost use Prim.Native.Nat.{_-_, _≤_};
+ghost use lib.ListN.{length, getD};
+ghost use Rattle.model.specs.Yard.{yardOf, sum, maxSize, shortest};
+ghost use Rattle.model.specs.Judge.{Tree};
+ghost use Rattle.model.specs.Calls.{demandsFault, demandsList, figureFault, boundAnswer, displacedAnswer};
+ghost use Rattle.model.specs.Paper.{paperDone, paperCounted};
+use crate::fill::fill;
+use crate::signed::sizes;
+use model::Counted;
+use model::Done;
+use model::Refusal;
+use yard::test::test_yard;
+
+// The account call: the demands of all nodes into a list of exactly one entry a node. Refusals 1 to 6, then 2 for a list of another length;
+// unequal totals are no fault. Linear work.
+pub fn demands(parents: &[u8], pebbles: &[u8], targets: &[u8], list: &mut [i16]) -> Done
+    ensures { λ r. ⌜ paperDone r ≡ demandsFault (yardOf (now (parents .entry)) (now (pebbles .entry)) (now (targets .entry))) (now (list .entry)) ⌝ }
+    ensures { λ r. ⌜ now (list .exit) ≡ demandsList (yardOf (now (parents .entry)) (now (pebbles .entry)) (now (targets .entry))) (now (list .entry)) ⌝ }
+{
+    let tested = test_yard(parents, pebbles, targets);
+    if let Done::Refused(r) = tested {
+        return Done::Refused(r);
+    }
+    if list.len() != parents.len() {
+        return Done::Refused(Refusal::ListLength);
+    }
+    fill(parents, pebbles, targets, list);
+    Done::Accepted
+}
+
+// The sum of a list of marks.
+fn total(list: &[u8]) -> usize
+    requires { ⌜ length (now list) ≤ maxSize ⌝ }
+    ensures { λ r. ⌜ r ≡ sum (length (now (list .entry))) (λ v. getD (now (list .entry)) v 0) ⌝ }
+{
+    let mut count = 0;
+    let mut i = 0;
+    while i < list.len() {
+        count += list[i] as usize;
+        i += 1;
+    }
+    count
+}
+
+// Refusals 1 to 7: three lists of a tree with as many pebbles as targets.
+pub fn test_matched(parents: &[u8], pebbles: &[u8], targets: &[u8]) -> Done
+    ensures { λ r. ⌜ paperDone r ≡ figureFault (yardOf (now (parents .entry)) (now (pebbles .entry)) (now (targets .entry))) ⌝ }
+{
+    let tested = test_yard(parents, pebbles, targets);
+    if let Done::Refused(r) = tested {
+        return Done::Refused(r);
+    }
+    let pebble_count = total(pebbles);
+    let target_count = total(targets);
+    if pebble_count != target_count {
+        return Done::Refused(Refusal::Totals);
+    }
+    Done::Accepted
+}
+
+// The shortest length of a tree: the sum of the sizes of its demands.
+pub fn shortest_length(parents: &[u8], pebbles: &[u8], targets: &[u8]) -> usize
+    requires { ⌜ Tree (yardOf (now parents) (now pebbles) (now targets)) ⌝ }
+    ensures { λ r. ⌜ r ≡ shortest (yardOf (now (parents .entry)) (now (pebbles .entry)) (now (targets .entry))) ⌝ }
+{
+    let n = parents.len();
+    let mut list = [0i16; 256];
+    fill(parents, pebbles, targets, &mut list[..n]);
+    sizes(&list[..n])
+}
+
+// Bound: k × (n − 1) moves for k pebbles. Refusals 1 to 7.
+pub fn length_bound(parents: &[u8], pebbles: &[u8], targets: &[u8]) -> Counted
+    ensures { λ r. ⌜ paperCounted r ≡ boundAnswer (yardOf (now (parents .entry)) (now (pebbles .entry)) (now (targets .entry))) ⌝ }
+{
+    let tested = test_matched(parents, pebbles, targets);
+    if let Done::Refused(r) = tested {
+        return Counted::Refused(r);
+    }
+    let count = total(pebbles);
+    let n = parents.len();
+    Counted::Number(count * (n - 1))
+}
+
+// How far a mark is above another, or else 0.
+fn above(a: u8, b: u8) -> usize
+    ensures { λ r. ⌜ r ≡ a - b ⌝ }
+{
+    if a < b {
+        return 0;
+    }
+    (a - b) as usize
+}
+
+// The sum over the nodes of pebble above target.
+fn excess_marks(pebbles: &[u8], targets: &[u8]) -> usize
+    requires { ⌜ (length (now pebbles) ≤ maxSize) × (length (now targets) ≡ length (now pebbles)) ⌝ }
+    ensures { λ r. ⌜ r ≡ sum (length (now (pebbles .entry))) (λ v. getD (now (pebbles .entry)) v 0 - getD (now (targets .entry)) v 0) ⌝ }
+{
+    let mut count = 0;
+    let mut i = 0;
+    while i < pebbles.len() {
+        count += above(pebbles[i], targets[i]);
+        i += 1;
+    }
+    count
+}
+
+// Displaced (disturbed): the starting nodes that are not targets. Refusals 1 to 7.
+pub fn displaced(parents: &[u8], pebbles: &[u8], targets: &[u8]) -> Counted
+    ensures { λ r. ⌜ paperCounted r ≡ displacedAnswer (yardOf (now (parents .entry)) (now (pebbles .entry)) (now (targets .entry))) ⌝ }
+{
+    let tested = test_matched(parents, pebbles, targets);
+    if let Done::Refused(r) = tested {
+        return Counted::Refused(r);
+    }
+    let count = excess_marks(pebbles, targets);
+    Counted::Number(count)
+}
