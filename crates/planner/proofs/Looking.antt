@@ -1,7 +1,7 @@
 -- Looking for the child that is served: a scan of u's children, rising, for the first whose demand is of the sign wanted.
 use mathlib.Core.Path.{_≡_, refl, sym, ap, _∙_}
 use mathlib.Core.Logic.{_≢_}
-use mathlib.Core.Bool.{Bool, true, false, not, cond, _&&_, and-eq-true-iff}
+use mathlib.Core.Bool.{Bool, true, false, cond, _&&_, and-eq-true-iff}
 use mathlib.Core.List.{List}
 use Prim.Native.Nat.{ℕ, suc, _+_, _<_}
 use native.Mathlib.Omega.{arith}
@@ -23,7 +23,7 @@ use Rattle.model.proofs.Judged.{facts, wood}
 use Rattle.model.proofs.Signed.{above0, below0, demand-parts, demand-range}
 use Rattle.model.proofs.Step.{need}
 use Rattle.planner.specs.Kept.{Ready}
-use Rattle.planner.proofs.Numbers.{small-fits}
+use Rattle.demand.proofs.Numbers.{small-fits}
 use Rattle.planner.proofs.Siblings.{first-none, next-is, next-none}
 
 -- the sign of a number, by how far it is above or below 0

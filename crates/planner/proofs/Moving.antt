@@ -2,21 +2,20 @@
 -- the moves before.
 use mathlib.Core.Path.{_≡_, refl, sym, ap, _∙_}
 use mathlib.Core.Logic.{_≢_}
-use mathlib.Core.Bool.{Bool, true, false, not}
 use mathlib.Core.List.{List, [], _∷_, _++_, append-assoc}
-use Prim.Native.Nat.{ℕ, suc, _+_, _*_, _≤_, _<_}
+use Prim.Native.Nat.{ℕ, _+_, _*_, _≤_, _<_}
 use native.Mathlib.Nat.{suc-add}
 use native.Mathlib.Omega.{arith}
 use native.Mathlib.Decide.{ℕ-discrete}
-use lib.ListN.{length, getD, set, drop, length-set, length-append, length-drop}
-use lib.Seq.{getD-set-same, getD-set-other, drop-cons, drop-drop, set-at}
+use lib.ListN.{length, getD, set, drop, length-set, length-append}
+use lib.Seq.{getD-set-same, getD-set-other}
 use borrow.Author.Tests.{eq-eqb, ne-eqb}
-use lib.IntN.{ℤ, pos, predℤ, sucℤ}
+use lib.IntN.{ℤ, pos}
 use Rattle.model.specs.Yard.{Yard, size, one, pebble, demand}
 use Rattle.model.specs.Push.{Move, push, moved, after, run}
 use Rattle.model.specs.Calls.{bytes, overwrite}
 use Rattle.model.proofs.Judged.{facts}
-use Rattle.model.proofs.Step.{crossing, Step, legal-step, ends, moved-pebble, moved-tree}
+use Rattle.model.proofs.Step.{Step, legal-step, ends, moved-pebble}
 use Rattle.model.proofs.Runs.{after-append, run-one}
 use Rattle.model.proofs.Signed.{nextℤ, demand-node, demand-other}
 use Rattle.model.proofs.Calls.{length-bytes}

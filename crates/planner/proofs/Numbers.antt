@@ -1,17 +1,14 @@
 -- Demands in 16 bits: numbers from −256 to 256 and one more or less fit, and a passage through the bits gives them back.
 use mathlib.Core.Path.{_≡_, ap, _∙_}
 use mathlib.Core.Bool.{Bool, true, false}
-use Prim.Native.Nat.{ℕ, zero, suc, _≤_}
+use Prim.Native.Nat.{zero, suc, _≤_}
 use native.Mathlib.Omega.{arith}
-use lib.IntN.{ℤ, pos, negsuc, natAbs, sucℤ, predℤ, _+ℤ_, _-ℤ_, +ℤ-one, -ℤ-one}
+use lib.IntN.{ℤ, pos, negsuc, natAbs, _+ℤ_, _-ℤ_, +ℤ-one, -ℤ-one}
 use mir.Syntax.{w16}
 use mir.Val.{SFits, toZ, ofZ}
 use mir.ValLaws.{toZ-ofZ}
 use Rattle.model.proofs.Signed.{nextℤ}
-
-pub small-fits : (k : ℤ) → natAbs k ≤ 256 → SFits w16 k
-small-fits (pos n) h = record { sfits = omega arith }
-small-fits (negsuc n) h = record { sfits = omega arith }
+use Rattle.demand.proofs.Numbers.{small-fits}
 
 pub small-back : (k : ℤ) → natAbs k ≤ 256 → toZ w16 (ofZ w16 k) ≡ k
 small-back k h = toZ-ofZ w16 k (small-fits k h)

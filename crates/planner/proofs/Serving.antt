@@ -1,5 +1,5 @@
 -- Filling and drawing on the planner's tables and state: the push over the edge of v, at once or behind what makes way for it at a child.
-use mathlib.Core.Path.{_≡_, refl, sym, ap, _∙_}
+use mathlib.Core.Path.{_≡_, refl, ap, _∙_}
 use mathlib.Core.Bool.{Bool, true, false, not}
 use mathlib.Core.List.{List, [], _∷_, _++_}
 use Prim.Native.Nat.{ℕ, _+_, _-_, _*_, _≤_, _<_}
@@ -9,18 +9,18 @@ use lib.IntN.{ℤ, pos, natAbs}
 use mir.Syntax.{w16}
 use mir.Val.{ofZ}
 use borrow.Author.Tests.{le-leb, lt-leb, lt-ltb, le-ltb}
-use Rattle.model.specs.Yard.{Yard, size, one, pebble, lacking, surplus, imbalance, shortest}
+use Rattle.model.specs.Yard.{Yard, size, one, pebble, imbalance, shortest}
 use Rattle.model.specs.Push.{push, after, run}
 use Rattle.model.specs.Plan.{choice}
 use Rattle.model.proofs.Sums.{sum-term}
 use Rattle.model.proofs.Trees.{Child}
 use Rattle.model.proofs.Judged.{facts, wood}
-use Rattle.model.proofs.Demands.{weight, weight-child, weight-pos}
+use Rattle.model.proofs.Demands.{weight, weight-child}
 use Rattle.model.proofs.Step.{crossing, need}
 use Rattle.model.proofs.Shortest.{good-tree}
 use Rattle.model.proofs.Signed.{nextℤ, demand-range, shortest-small}
-use Rattle.model.proofs.Serve.{Due, Shift, Serves, direct, behind, blocked, due-step, due-behind, able-behind, free-able, blocked-child, serves-shift}
-use Rattle.planner.specs.Kept.{Tables, Kept, Ready, movedState, movedPlan, Asked, Made, Served}
+use Rattle.model.proofs.Serve.{Due, Shift, direct, behind, blocked, due-step, due-behind, able-behind, free-able, blocked-child, serves-shift}
+use Rattle.planner.specs.Kept.{Tables, Kept, Ready, movedState, movedPlan, Asked, Served}
 use Rattle.planner.proofs.Moving.{made-nil, made-move}
 
 -- the table's parent

@@ -1,9 +1,9 @@
 -- What planning starts from: the demands and pebbles of the yard, its length, and an even root.
 use mathlib.Core.Path.{_≡_, refl, sym, ap, _∙_}
 use mathlib.Core.Bool.{true, false, _&&_}
-use mathlib.Core.List.{List, [], _∷_, _++_, map}
-use Prim.Native.Nat.{ℕ, zero, suc, _+_, _*_, _/_, _≤_, _<_}
-use native.Mathlib.Nat.{add-zero, zero-add, le-div-iff-mul-le, div-lt-iff-lt-mul}
+use mathlib.Core.List.{List, _++_, map}
+use Prim.Native.Nat.{ℕ, _+_, _*_, _/_, _≤_, _<_}
+use native.Mathlib.Nat.{zero-add, le-div-iff-mul-le, div-lt-iff-lt-mul}
 use native.Mathlib.Omega.{arith}
 use native.Mathlib.Decide.{ℕ-discrete, decLt}
 use lib.ListN.{length, getD, take, set, length-set, List·getD-append, List·getD-eq-default}
@@ -24,19 +24,8 @@ use Rattle.model.proofs.Signed.{demand-size, demand-range}
 use Rattle.model.proofs.Balance.{plan-only}
 use Rattle.model.proofs.Calls.{totals-none, plan-none}
 use Rattle.model.proofs.Demand3.{plan-length}
-use Rattle.planner.specs.Kept.{Tables, Kept, Ready, AskedEven, Balanced}
-
--- an entry of a list of values
-pub range-at : (f : ℕ → ℤ) (a k v : ℕ) → v < k → getD (map f (range a k)) v (pos 0) ≡ f (a + v)
-unfolding range
-range-at f a zero v l = absurd (omega arith)
-range-at f a (suc k) zero l = ap f (sym (add-zero a))
-range-at f a (suc k) (suc v) l = range-at f (suc a) k v (omega arith) ∙ ap f (omega arith)
-
-pub range-length : (f : ℕ → ℤ) (a k : ℕ) → length (map f (range a k)) ≡ k
-unfolding range
-range-length f a zero = refl
-range-length f a (suc k) = ap suc (range-length f (suc a) k)
+use Rattle.demand.proofs.Lists.{length-listed, entry-listed}
+use Rattle.planner.specs.Kept.{Tables, Kept, AskedEven, Balanced}
 
 -- placing the pebbles of the nodes below v, 256 entries behind the demands
 pub record Placed (pebbles : List ℕ) (s₀ s : List ℤ) (v : ℕ) : Type 0 where
@@ -65,12 +54,12 @@ placed-kept ps qs ts t front back s e h = record {
   demands = λ v l.
       h .low v (omega (arith, facts (yardOf ps qs ts) t .few))
       ∙ List·getD-append front back (pos 0) v (omega (arith, long))
-      ∙ ap (λ (xs : List ℤ). getD xs v (pos 0)) e ∙ range-at (demand (yardOf ps qs ts)) 0 (length ps) v l ∙ ap (demand (yardOf ps qs ts)) (zero-add v);
+      ∙ ap (λ (xs : List ℤ). getD xs v (pos 0)) e ∙ entry-listed (demand (yardOf ps qs ts)) 0 (length ps) v l ∙ ap (demand (yardOf ps qs ts)) (zero-add v);
   pebbles = λ v l. h .high v l;
 }
   where
     long : length front ≡ length ps
-    long = ap length e ∙ range-length (demand (yardOf ps qs ts)) 0 (length ps)
+    long = ap length e ∙ length-listed (demand (yardOf ps qs ts)) 0 (length ps)
 
 -- a mark, as the difference from 0
 pub mark-difference : (p : ℕ) → subℕ p 0 ≡ pos p

@@ -4,11 +4,6 @@ use Rattle.model.proofs.Calls.{figure-matched, check-figure}
 use Rattle.yard.proofs.Laws.{sees}
 use Rattle.checker.proofs.check.check.Statement.{statement}
 use Rattle.checker.proofs.check.check.Tie as tie
-use Rattle.checker.proofs.check.check.Reads as reads
-use Rattle.checker.proofs.check.check.Lts as lts
-use Rattle.checker.proofs.check.check_matched.Reads as check-matched-reads
-use Rattle.demand.proofs.call.shortest_length.Reads as shortest-length-reads
-use Rattle.demand.proofs.call.test_matched.Reads as test-matched-reads
 
 test-matched-requires : tie.Need-test-matched-requires
 test-matched-requires c κs = search needs

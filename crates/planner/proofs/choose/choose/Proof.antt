@@ -3,15 +3,12 @@
 use native.Mathlib.Omega.{arith}
 use borrow.Author.Needs.{needs}
 use Prim.Native.Nat.{_-_, _<_}
-use mathlib.Core.Path.{_≡_, sym, ap, _∙_}
+use mathlib.Core.Path.{sym, ap, _∙_}
 use Rattle.model.specs.Yard.{Yard, size}
 use Rattle.planner.specs.Kept.{Ready}
 use Rattle.planner.proofs.Looking.{sign, node-small, first-lt, next-lt, demand-back, Looking, look-none, look-first, look-found, look-last, look-next}
 use Rattle.planner.proofs.choose.choose.Statement.{statement}
 use Rattle.planner.proofs.choose.choose.Tie as tie
-use Rattle.planner.proofs.choose.choose.Reads as reads
-use Rattle.planner.proofs.choose.choose.Lts as lts
-use Rattle.planner.proofs.choose.wanted.Reads as wanted-reads
 
 abbrev Inv-loop : tie.InvT-loop
 Inv-loop t s u away first c₀ c = (y : Yard) → Ready y t s → u < size y → Looking y u away c

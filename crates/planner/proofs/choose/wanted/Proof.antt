@@ -2,8 +2,6 @@
 use borrow.Author.Needs.{needs}
 use Rattle.planner.proofs.choose.wanted.Statement.{statement}
 use Rattle.planner.proofs.choose.wanted.Tie as tie
-use Rattle.planner.proofs.choose.wanted.Reads as reads
-use Rattle.planner.proofs.choose.wanted.Lts as lts
 
 returns : tie.Need-returns
 returns c = rw (c .if1 .taken) (search needs)

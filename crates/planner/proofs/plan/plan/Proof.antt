@@ -5,10 +5,6 @@ use Rattle.yard.proofs.Laws.{sees}
 use Rattle.planner.proofs.Promise.{kept, kept-refused}
 use Rattle.planner.proofs.plan.plan.Statement.{statement}
 use Rattle.planner.proofs.plan.plan.Tie as tie
-use Rattle.planner.proofs.plan.plan.Reads as reads
-use Rattle.planner.proofs.plan.plan.Lts as lts
-use Rattle.demand.proofs.call.test_matched.Reads as test-matched-reads
-use Rattle.planner.proofs.plan.plan_matched.Reads as plan-matched-reads
 
 test-matched-requires : tie.Need-test-matched-requires
 test-matched-requires c κs = search needs

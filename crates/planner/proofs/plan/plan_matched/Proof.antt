@@ -1,6 +1,6 @@
 -- `planner::plan::plan_matched` meets its contract: the sizes of the demands are the shortest length, which is the plan's; and balancing the root
 -- gives the plan (the laws are in Start).
-use mathlib.Core.Path.{_≡_, sym, _∙_}
+use mathlib.Core.Path.{sym, _∙_}
 use native.Mathlib.Omega.{arith}
 use Rattle.model.specs.Yard.{yardOf}
 use Rattle.model.proofs.Judged.{facts, wood}
@@ -8,13 +8,6 @@ use Rattle.planner.proofs.Start.{front-length, front-long, sizes-range,
 use borrow.Author.Needs.{needs}
 use Rattle.planner.proofs.plan.plan_matched.Statement.{statement}
 use Rattle.planner.proofs.plan.plan_matched.Tie as tie
-use Rattle.planner.proofs.plan.plan_matched.Reads as reads
-use Rattle.planner.proofs.plan.plan_matched.Lts as lts
-use Rattle.demand.proofs.signed.sizes.Reads as sizes-reads
-use Rattle.planner.proofs.balance.balance_subtrees.Reads as balance-subtrees-reads
-use Rattle.planner.proofs.state.write_state.Reads as write-state-reads
-use Rattle.planner.proofs.tree.tables.Reads as tables-reads
-use Rattle.yard.proofs.scan.first_own.Reads as first-own-reads
 
 slice-aggregate-write-state : tie.Need-slice-aggregate-write-state
 slice-aggregate-write-state c = search needs

@@ -1,7 +1,7 @@
 -- `planner::serve::clear_node` and `inject_pebble` meet their contracts: a free v takes the pebble at once, a full one behind what makes way at
 -- the child that is chosen (the laws are in Serving). Of the calls, clearing falls below filling at the same height, and filling a child is at a
 -- lower one.
-use mathlib.Core.Path.{_≡_, sym, ap, _∙_}
+use mathlib.Core.Path.{sym, _∙_}
 use mathlib.Core.Bool.{true}
 use Prim.Native.Nat.{_+_, _*_}
 use native.Mathlib.Omega.{arith}

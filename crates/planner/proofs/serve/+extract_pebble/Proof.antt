@@ -1,6 +1,6 @@
 -- `planner::serve::extract_pebble` meets its contract: a v that holds a pebble gives it at once, an empty one behind what is drawn into it from the
 -- child that is chosen (the laws are in Serving), which is lower.
-use mathlib.Core.Path.{_≡_, sym, _∙_}
+use mathlib.Core.Path.{sym, _∙_}
 use mathlib.Core.Bool.{false}
 use native.Mathlib.Omega.{arith}
 use borrow.Author.Needs.{needs}

@@ -1,6 +1,6 @@
 -- `planner::serve::move_pebble` meets its contract: the demand in range changes by one, and the move is recorded with the parent that the table
 -- has.
-use mathlib.Core.Path.{_≡_, _∙_}
+use mathlib.Core.Path.{_∙_}
 use native.Mathlib.Omega.{arith}
 use lib.ListN.{getD}
 use lib.IntN.{pos}
@@ -8,10 +8,6 @@ use borrow.Author.Needs.{needs}
 use Rattle.planner.proofs.Numbers.{less-fits, more-fits, less-back, more-back}
 use Rattle.planner.proofs.serve.move_pebble.Statement.{statement}
 use Rattle.planner.proofs.serve.move_pebble.Tie as tie
-use Rattle.planner.proofs.serve.move_pebble.Reads as reads
-use Rattle.planner.proofs.serve.move_pebble.Lts as lts
-use Rattle.planner.proofs.choose.wide.Reads as wide-reads
-use Rattle.planner.proofs.serve.record_move.Reads as record-move-reads
 
 element-copy-out-wide : tie.Need-element-copy-out-wide
 element-copy-out-wide c = search needs

@@ -4,8 +4,6 @@ use lib.ListN.{length-set}
 use borrow.Author.Needs.{needs}
 use Rattle.planner.proofs.serve.record_move.Statement.{statement}
 use Rattle.planner.proofs.serve.record_move.Tie as tie
-use Rattle.planner.proofs.serve.record_move.Reads as reads
-use Rattle.planner.proofs.serve.record_move.Lts as lts
 
 add-s : tie.Need-add-s
 add-s c = search needs

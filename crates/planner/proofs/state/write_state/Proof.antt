@@ -14,10 +14,6 @@ use Rattle.planner.proofs.Numbers.{small-back}
 use Rattle.planner.proofs.Start.{Placed, place-none, place-next, placed-kept, mark-difference}
 use Rattle.planner.proofs.state.write_state.Statement.{statement}
 use Rattle.planner.proofs.state.write_state.Tie as tie
-use Rattle.planner.proofs.state.write_state.Reads as reads
-use Rattle.planner.proofs.state.write_state.Lts as lts
-use Rattle.demand.proofs.fill.fill.Reads as fill-reads
-use Rattle.demand.proofs.signed.difference.Reads as difference-reads
 
 abbrev Inv-loop : tie.InvT-loop
 Inv-loop parents pebbles targets s₀ n v₀ s v = (v ≤ n) × Placed pebbles s₀ s v

@@ -10,8 +10,6 @@ use borrow.Author.Tests.{le-leb, lt-leb}
 use Rattle.model.proofs.Found.{found, missed, none-next}
 use Rattle.yard.proofs.scan.first_at_least.Statement.{statement}
 use Rattle.yard.proofs.scan.first_at_least.Tie as tie
-use Rattle.yard.proofs.scan.first_at_least.Reads as reads
-use Rattle.yard.proofs.scan.first_at_least.Lts as lts
 
 abbrev Inv-loop : tie.InvT-loop
 Inv-loop list limit i₀ i = (i ≤ length list) × ((v : ℕ) → v < i → leb limit (getD list v 0) ≡ false)

@@ -1,7 +1,7 @@
 -- `yard::scan::first_own` meets its contract: no index before it, from `start` on, is its own entry, so the first one met is the lowest, and past
 -- the end there is none.
 use Prim.Native.Nat.{ℕ, _-_, _<_, _≤_}
-use mathlib.Core.Path.{_≡_, refl}
+use mathlib.Core.Path.{_≡_}
 use mathlib.Core.Bool.{Bool, true, false, _&&_, and-false}
 use mathlib.Core.List.{List}
 use native.Mathlib.Omega.{arith}
@@ -11,8 +11,6 @@ use borrow.Author.Tests.{eq-eqb, ne-eqb, le-leb, lt-leb}
 use Rattle.model.proofs.Found.{found, missed, none-next}
 use Rattle.yard.proofs.scan.first_own.Statement.{statement}
 use Rattle.yard.proofs.scan.first_own.Tie as tie
-use Rattle.yard.proofs.scan.first_own.Reads as reads
-use Rattle.yard.proofs.scan.first_own.Lts as lts
 
 abbrev own : List ℕ → ℕ → ℕ → Bool
 own list start v = (leb start v) && (eqb (getD list v 0) v)

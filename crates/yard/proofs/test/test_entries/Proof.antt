@@ -3,8 +3,6 @@ use borrow.Author.Needs.{needs}
 use Rattle.model.proofs.Tests.{pebble-marked, target-marked, parent-outside, entries-pass}
 use Rattle.yard.proofs.test.test_entries.Statement.{statement}
 use Rattle.yard.proofs.test.test_entries.Tie as tie
-use Rattle.yard.proofs.test.test_entries.Reads as reads
-use Rattle.yard.proofs.test.test_entries.Lts as lts
 
 first-at-least-requires : tie.Need-first-at-least-requires
 first-at-least-requires c κs = search needs

@@ -3,8 +3,6 @@ use native.Mathlib.Omega.{arith}
 use Rattle.model.proofs.Tests.{size-zero, size-large, pebbles-length, targets-length, lengths-pass}
 use Rattle.yard.proofs.test.test_lengths.Statement.{statement}
 use Rattle.yard.proofs.test.test_lengths.Tie as tie
-use Rattle.yard.proofs.test.test_lengths.Reads as reads
-use Rattle.yard.proofs.test.test_lengths.Lts as lts
 
 returns : tie.Need-returns
 returns c =

@@ -4,8 +4,6 @@ use borrow.Author.Needs.{needs}
 use Rattle.model.proofs.Tests.{no-root, second-root, on-circle, shape-pass}
 use Rattle.yard.proofs.test.test_shape.Statement.{statement}
 use Rattle.yard.proofs.test.test_shape.Tie as tie
-use Rattle.yard.proofs.test.test_shape.Reads as reads
-use Rattle.yard.proofs.test.test_shape.Lts as lts
 
 first-own-requires : tie.Need-first-own-requires
 first-own-requires c κs = search needs

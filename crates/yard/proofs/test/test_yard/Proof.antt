@@ -1,13 +1,11 @@
 -- `yard::test::test_yard` meets its contract: the three groups of tests are made in order, and what one has passed is what the next requires.
-use mathlib.Core.Path.{_≡_, sym, ap, _∙_}
+use mathlib.Core.Path.{sym, ap, _∙_}
 use borrow.Author.Needs.{needs}
 use Rattle.model.specs.Yard.{yardOf}
 use Rattle.model.specs.Paper.{paperDone}
 use Rattle.model.proofs.Tests.{passed-lengths, passed-parents, judge-lengths, judge-entries, judge-shape}
 use Rattle.yard.proofs.test.test_yard.Statement.{statement}
 use Rattle.yard.proofs.test.test_yard.Tie as tie
-use Rattle.yard.proofs.test.test_yard.Reads as reads
-use Rattle.yard.proofs.test.test_yard.Lts as lts
 
 test-lengths-requires : tie.Need-test-lengths-requires
 test-lengths-requires c κs = search needs
