@@ -16,11 +16,11 @@ use Rattle.model.proofs.Basics.{All, all-below, below-none}
 
 -- decimal: of a value below 256 it has at most three bytes, none below 48 (the code of 0), and the value can be told from it. All 256 are
 -- tried.
-plain : List ℕ → Bool
+unfoldable pub plain : List ℕ → Bool
 plain [] = true
 plain (b ∷ bs) = (leb 48 b) && (plain bs)
 
-number : ℕ → List ℕ → ℕ
+unfoldable pub number : ℕ → List ℕ → ℕ
 number n [] = n
 number n (b ∷ bs) = number (n * 10 + (b - 48)) bs
 
@@ -31,7 +31,7 @@ all-sound : below 256 (λ v. not (sound v)) ≡ []
 unfolding below sound decimal digits plain number
 all-sound = refl
 
-decimal-sound : (v : ℕ) → v < 256 → (plain (decimal v) ≡ true) × (length (decimal v) ≤ 3) × (number 0 (decimal v) ≡ v)
+pub decimal-sound : (v : ℕ) → v < 256 → (plain (decimal v) ≡ true) × (length (decimal v) ≤ 3) × (number 0 (decimal v) ≡ v)
 unfolding sound
 decimal-sound v l =
     let s = not-false (sound v) (below-none 256 (λ v. not (sound v)) all-sound v l) in
@@ -107,12 +107,12 @@ cut-some stop (b ∷ bs) p e = go (eqb b stop) refl (cut-some stop bs)
         rw (← Option·some-injective _ p (r .2)) (ap (λ (l : List ℕ). b ∷ l) (ih (r .0) (r .1)))
 
 -- field: a value below 256 and the byte that ends it
-field-decimal : (stop v : ℕ) (rest : List ℕ) → stop < 48 → v < 256
+pub field-decimal : (stop v : ℕ) (rest : List ℕ) → stop < 48 → v < 256
     → field stop (decimal v ++ (stop ∷ rest)) ≡ some (record { value = v; rest = rest })
 unfolding field
 field-decimal stop v rest l h = rw (cut-plain stop (decimal v) rest l (decimal-sound v h .0), field) (rw (value-decimal v h))
 
-field-some : (stop : ℕ) (bs : List ℕ) {f : Field} → field stop bs ≡ some f → (bs ≡ decimal (f .value) ++ (stop ∷ f .rest)) × (f .value < 256)
+pub field-some : (stop : ℕ) (bs : List ℕ) {f : Field} → field stop bs ≡ some f → (bs ≡ decimal (f .value) ++ (stop ∷ f .rest)) × (f .value < 256)
 unfolding field
 field-some stop bs {f} e =
     let p = chain-some (cut stop bs) _ e in

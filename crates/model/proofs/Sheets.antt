@@ -35,12 +35,12 @@ checked k v l t = elim t [ true ↦ mapAnswer (withNode l) (readNodes k (suc v) 
 abbrev parsed : ℕ → ℕ → Option NodeLine → Answer Yard
 parsed k v o = elim o [ none ↦ refused (row 16 (v + 2)) | some l ↦ checked k v l (eqb (l .node) v) ]
 
-readNodes-end : (k v : ℕ) → readNodes k v [] ≡ answered noNode
+pub readNodes-end : (k v : ℕ) → readNodes k v [] ≡ answered noNode
 unfolding readNodes
 readNodes-end zero v = refl
 readNodes-end (suc k) v = refl
 
-readNodes-next : (k v : ℕ) (bs : List ℕ) (l : NodeLine) → nodeLine bs ≡ some l → l .node ≡ v
+pub readNodes-next : (k v : ℕ) (bs : List ℕ) (l : NodeLine) → nodeLine bs ≡ some l → l .node ≡ v
     → readNodes (suc k) v bs ≡ mapAnswer (withNode l) (readNodes k (suc v) (l .rest))
 unfolding readNodes nodeLine field cut
 readNodes-next k v [] l e q = absurd (Option·none-ne-some l e)

@@ -13,7 +13,7 @@ use model::Done;
 use model::Refusal;
 
 // Refusals 1 and 2.
-fn test_lengths(parents: &[u8], pebbles: &[u8], targets: &[u8]) -> Done
+pub fn test_lengths(parents: &[u8], pebbles: &[u8], targets: &[u8]) -> Done
     ensures { λ r. ⌜ paperDone r ≡ firstOf (take 2 (tests (yardOf (now (parents .entry)) (now (pebbles .entry)) (now (targets .entry))))) ⌝ }
 {
     let n = parents.len();

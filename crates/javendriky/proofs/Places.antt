@@ -1,0 +1,190 @@
+-- Every answer of the calls is one that a number tells. A place is 0, a node, the number of a move, or the length of the plan: past refusal 1 there
+-- are at most 256 nodes, past refusal 9 at most 65,535 moves, and the plan of a tree has at most 65,536. The values are as small.
+use mathlib.Core.Path.{_≡_, refl, ap}
+use mathlib.Core.Bool.{Bool, true, false, not, cond, _&&_, and-eq-true-iff}
+use mathlib.Core.List.{List, [], _∷_}
+use mathlib.Core.Option.{Option, none, some}
+use Prim.Native.Nat.{ℕ, suc, _+_, _-_, _*_, _%_, _≤_, _<_}
+use native.Mathlib.Omega.{arith}
+use lib.ListN.{length, drop, length-take}
+use lib.IntN.{ℤ}
+use lib.Dec.{leb, ltb, eqb}
+use borrow.Author.Tests.{leb-true}
+use Rattle.model.specs.Yard.{Yard, size, maxSize, parent, pebble, target, full, held, below, roots, pebbleCount, targetCount, Matched}
+use Rattle.model.specs.Judge.{Fault, fault, firstOf, unless, atLowest, rootFault, tests, judge, Tree}
+use Rattle.model.specs.Push.{Move, adjacent, moveTests, moveFault, pushFault, pushed}
+use Rattle.model.specs.Plan.{plan}
+use Rattle.model.specs.Calls.{Answer, answered, refused, inC, zeroInC, answer, mapAnswer, demandsTests, demandsFault, totalsFault, planTests, planFault, maxPlanBytes, bytesFault, movesOf, movesFault, Verdict, checkTests, checkFault, checkAnswer, within, trialTests, trialFault, trialAnswer, trialInC, figureTests, figureFault, boundAnswer, displacedAnswer}
+use Rattle.model.proofs.Basics.{All, all-below, none-all, unless-none}
+use Rattle.model.proofs.Sums.{sum-mono}
+use Rattle.model.proofs.Judged.{facts}
+use Rattle.model.proofs.Signed.{shortest-small}
+use Rattle.model.proofs.Calls.{movesOf-half, totals-none, plan-none, figure-matched}
+use Rattle.model.proofs.Demand3.{plan-length}
+use Rattle.demand.proofs.Answers.{pebbles-few, bound-small}
+use Rattle.javendriky.specs.Small.{InTable, Row, Small}
+
+-- a refusal, if there is one, is of the table and has a small place
+pub data Low : Option Fault → Type 0 where
+  passes : Low none
+  refuses : {f : Fault} → Row f → Low (some f)
+
+pub small : {f : Option Fault} (n : ℕ) → Low f → (f ≡ none → n < 1_000_000) → Small (answer f n)
+small n Low.passes h = h refl
+small n (Low.refuses l) h = l
+
+-- the number tells the answer
+pub tells : (a b : Answer ℕ) → Small a → Small b → inC a ≡ inC b → a ≡ b
+tells (answered m) (answered n) h k e = ap answered e
+tells (answered m) (refused g) h k e = absurd (omega arith)
+tells (refused f) (answered n) h k e = absurd (omega arith)
+tells (refused f) (refused g) h k e =
+    let p : f .number ≡ g .number = omega arith in
+    let q : f .place ≡ g .place = omega arith in
+    rw (p, q)
+
+-- a value worked out of an answer
+pub map-answer : {A B : Type 0} (g : A → B) (f : Option Fault) (a : A) → mapAnswer g (answer f a) ≡ answer f (g a)
+map-answer g none a = refl
+map-answer g (some f) a = refl
+
+-- the tests behind a test need be so only if it passes
+first : {f : Option Fault} (fs : List (Option Fault)) → Low f → (f ≡ none → Low (firstOf fs)) → Low (firstOf (f ∷ fs))
+first fs Low.passes h = h refl
+first fs (Low.refuses l) h = Low.refuses l
+
+all : (fs : List (Option Fault)) → All Low fs → Low (firstOf fs)
+all [] h = Low.passes
+all (f ∷ fs) h = first fs (h .0) (λ _. all fs (h .1))
+
+place : (n p : ℕ) → InTable n → p < 1_000_000 → Low (fault n p)
+place n p h l = Low.refuses (record { numbered = h; placed = l })
+
+once : (b : Bool) (n p : ℕ) → InTable n → p < 1_000_000 → Low (unless b (fault n p))
+once true n p h l = Low.passes
+once false n p h l = place n p h l
+
+-- at a node
+nodes : (n : ℕ) → n ≤ 256 → (p : ℕ → Bool) → All (λ v. v < 1_000_000) (below n p)
+nodes n h p = all-below (λ v. v < 1_000_000) p n (λ v l _. omega arith)
+
+lowest : (k n : ℕ) → InTable k → n ≤ 256 → (p : ℕ → Bool) → Low (atLowest k (below n p))
+lowest k n l h p = go (below n p) (nodes n h p)
+  where
+    go : (vs : List ℕ) → All (λ v. v < 1_000_000) vs → Low (atLowest k vs)
+    go [] a = Low.passes
+    go (v ∷ vs) a = place k v l (a .0)
+
+second : (vs : List ℕ) → All (λ v. v < 1_000_000) vs → Low (rootFault vs)
+second [] a = place 5 0 (omega arith) (omega arith)
+second (v ∷ []) a = Low.passes
+second (v ∷ w ∷ vs) a = place 5 w (omega arith) (a .1 .0)
+
+-- refusals 1 to 6: past the first there are at most 256 nodes
+pub judge-low : (y : Yard) → Low (judge y)
+unfolding judge roots
+judge-low y =
+    first (drop 1 (tests y)) (once ((ltb 0 (size y)) && (leb (size y) maxSize)) 1 0 (omega arith) (omega arith)) (λ e.
+    let q : (ltb 0 (size y) ≡ true) × (leb (size y) 256 ≡ true) = and-eq-true-iff _ _ .0 (unless-none _ 1 0 e) in
+    let h : size y ≤ 256 = leb-true (size y) 256 (q .1) in
+    all (drop 1 (tests y)) (
+      once ((eqb (length (y .pebbles)) (size y)) && (eqb (length (y .targets)) (size y))) 2 0 (omega arith) (omega arith),
+      (
+        lowest 3 (size y) (omega arith) h _,
+        (
+          lowest 3 (size y) (omega arith) h _,
+          (lowest 4 (size y) (omega arith) h _, (second (roots (y .parents)) (nodes (size y) h (λ v. eqb (parent y v) v)), (lowest 6 (size y) (omega arith) h _, tt))),
+        ),
+      ),
+    ))
+
+-- refusals 10 to 13
+move-low : (y : Yard) (m : Move) (i : ℕ) → i < 1_000_000 → Low (moveFault y m i)
+unfolding moveFault
+move-low y m i l = all (moveTests y m i) (once ((ltb (m .from) (size y)) && (ltb (m .to) (size y))) 10 i (omega arith) l, (once (adjacent y (m .from) (m .to)) 11 i (omega arith) l, (once (held y (m .from)) 12 i (omega arith) l, (once (not (full y (m .to))) 13 i (omega arith) l, tt))))
+
+moves-low : (ms : List Move) (i : ℕ) (y : Yard) → i + length ms ≤ 1_000_000 → Low (movesFault i y ms)
+unfolding movesFault
+moves-low [] i y l = Low.passes
+moves-low (m ∷ ms) i y l = all (moveFault y m i ∷ movesFault (suc i) (pushed y m) ms ∷ []) (move-low y m i (omega arith), (moves-low ms (suc i) (pushed y m) (omega arith), tt))
+
+-- past refusal 9
+few-moves : (bs : List ℕ) → bytesFault bs ≡ none → length (movesOf bs) ≤ 65_535
+few-moves bs e =
+    let q : (eqb (length bs % 2) 0 ≡ true) × (leb (length bs) maxPlanBytes ≡ true) = and-eq-true-iff _ _ .0 (unless-none _ 9 0 e) in
+    omega (arith, movesOf-half bs, leb-true (length bs) maxPlanBytes (q .1))
+
+module _ (y : Yard) where
+  totals-low : Low (totalsFault y)
+  totals-low = once (eqb (pebbleCount y) (targetCount y)) 7 0 (omega arith) (omega arith)
+
+  pub push-low : (m : Move) → Low (pushFault y m)
+  unfolding pushFault
+  push-low m = all (judge y ∷ moveFault y m 0 ∷ []) (judge-low y, (move-low y m 0 (omega arith), tt))
+
+  pub demands-low : (list : List ℤ) → Low (demandsFault y list)
+  unfolding demandsFault
+  demands-low list = all (demandsTests y list) (judge-low y, (once (eqb (length list) (size y)) 2 0 (omega arith) (omega arith), tt))
+
+  figure-low : Low (figureFault y)
+  unfolding figureFault
+  figure-low = all (figureTests y) (judge-low y, (totals-low, tt))
+
+  plan-short : Tree y → Matched y → length (plan y) < 1_000_000
+  plan-short t m = omega (arith, plan-length y t m, shortest-small y t)
+
+  plan-low : (room : ℕ) → Low (planFault y room)
+  unfolding planFault
+  plan-low room =
+      first (drop 1 (planTests y room)) (judge-low y) (λ t.
+      first (drop 2 (planTests y room)) totals-low (λ e.
+      all (drop 2 (planTests y room)) (once (leb (2 * length (plan y)) room) 8 (length (plan y)) (omega arith) (plan-short t (totals-none y .0 e)), tt)))
+
+  module _ (bs : List ℕ) where
+    bytes-low : Low (bytesFault bs)
+    bytes-low = once ((eqb (length bs % 2) 0) && (leb (length bs) maxPlanBytes)) 9 0 (omega arith) (omega arith)
+
+    check-low : Low (checkFault y bs)
+    unfolding checkFault
+    check-low =
+        first (drop 1 (checkTests y bs)) (judge-low y) (λ t.
+        first (drop 2 (checkTests y bs)) totals-low (λ _.
+        first (drop 3 (checkTests y bs)) bytes-low (λ e.
+        all (drop 3 (checkTests y bs)) (moves-low (movesOf bs) 0 y (omega (arith, few-moves bs e)), (lowest 14 (size y) (omega arith) (facts y t .few .1) _, tt)))))
+
+    module _ (budget : ℕ) where
+      few-taken : bytesFault bs ≡ none → length (within bs budget) ≤ 65_535
+      few-taken e = omega (arith, few-moves bs e, length-take budget (movesOf bs))
+
+      trial-low : Low (trialFault y bs budget)
+      unfolding trialFault
+      trial-low =
+          first (drop 1 (trialTests y bs budget)) (judge-low y) (λ _.
+          first (drop 2 (trialTests y bs budget)) bytes-low (λ e.
+          all (drop 2 (trialTests y bs budget)) (moves-low (within bs budget) 0 y (omega (arith, few-taken e)), tt)))
+
+      pub trial-small : Small (mapAnswer trialInC (trialAnswer y bs budget))
+      unfolding trialFault
+      trial-small = rw map-answer (small _ trial-low (λ e.
+          omega (arith, few-taken (none-all (trialTests y bs budget) e .1 .0), late (leb (length (movesOf bs)) budget))))
+        where
+          late : (b : Bool) → cond b 0 500_000 ≤ 500_000
+          late true = omega arith
+          late false = omega arith
+
+    -- the checker's answer, with nothing in it but whether it accepts
+    pub checked : {a : Answer Verdict} → a ≡ checkAnswer y bs → inC (mapAnswer (λ _. 0) a) ≡ zeroInC (checkFault y bs)
+    checked e = rw (e, map-answer)
+
+    pub excess-small : {a : Answer Verdict} → a ≡ checkAnswer y bs → Small (mapAnswer (λ v. v .excess) a)
+    unfolding checkFault
+    excess-small d = rw (d, map-answer) (small _ check-low (λ e. omega (arith, few-moves bs (none-all (checkTests y bs) e .1 .1 .0))))
+
+  pub plan-small : (room : ℕ) → Small (answer (planFault y room) (length (plan y)))
+  plan-small room = small _ (plan-low room) (λ e. let h = plan-none y room .0 e in plan-short (h .0) (h .1))
+
+  pub length-bound-small : Small (boundAnswer y)
+  length-bound-small = small _ figure-low (λ e. omega (arith, bound-small y (figure-matched y e .0)))
+
+  pub displaced-small : Small (displacedAnswer y)
+  displaced-small = small _ figure-low (λ e. omega (arith, pebbles-few y (figure-matched y e .0), sum-mono (size y) (λ v. pebble y v - target y v) (pebble y) (λ v _. omega arith)))

@@ -1,0 +1,24 @@
+-- `javendriky_plan` answers and leaves what `plan` does, and its answer is small.
+use borrow.Author.Needs.{needs}
+use mathlib.Core.Path.{ap, _∙_}
+use Rattle.model.specs.Calls.{inC}
+use Rattle.javendriky.proofs.Places.{plan-small}
+use Rattle.javendriky.proofs.javendriky_plan.Statement.{statement}
+use Rattle.javendriky.proofs.javendriky_plan.Tie as tie
+
+plan-requires : tie.Need-plan-requires
+plan-requires c κs = search needs
+
+counted-requires : tie.Need-counted-requires
+counted-requires c κs = rw (c .before .before .plan .ensures .0) (plan-small _ _)
+
+same-length : tie.Need-same-length
+same-length c = search needs
+
+returns : tie.Need-returns
+returns c =
+    let e = c .before .before .before .plan .ensures in
+    (c .counted .ensures ∙ ap inC (e .0), (e .1 .0, rw (e .0) at (e .1 .1)))
+
+pub javendriky-plan-spec : {M : Type 1} → statement M
+javendriky-plan-spec = tie.close (tie.spec plan-requires counted-requires same-length returns)

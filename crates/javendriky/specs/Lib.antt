@@ -1,0 +1,2 @@
+-- What an answer must be for one number to tell it.
+pub mod Small

@@ -1,0 +1,184 @@
+// The calls for C and Rust, on lent lists: each answers one number. That is the value, which is below 1,000,000, or a refusal's number × 1,000,000
+// plus its place. include/javendriky.h tells callers the same in C.
+ghost use mathlib.Core.Path.{_≡_};
+ghost use mathlib.Core.Bool.{cond};
+ghost use Prim.Native.Nat.{_+_, _*_};
+ghost use Rattle.model.specs.Yard.{yardOf};
+ghost use Rattle.model.specs.Judge.{judge};
+ghost use Rattle.model.specs.Push.{push, pushFault, legal, shifted};
+ghost use Rattle.model.specs.Calls.{inC, zeroInC, trialInC, answer, mapAnswer, demandsFault, demandsList, planAnswer, planList, checkFault, checkAnswer, trialAnswer, trialPebbles, boundAnswer, displacedAnswer};
+ghost use Rattle.model.specs.Paper.{paper, paperDone, paperCounted, paperTried};
+ghost use Rattle.planner.specs.Promise.{Promised};
+ghost use Rattle.javendriky.specs.Small.{Row, Small};
+use checker::check::check;
+use checker::trial::trial;
+use demand::call::demands;
+use demand::call::displaced;
+use demand::call::length_bound;
+use model::Checked;
+use model::Counted;
+use model::Done;
+use model::Refusal;
+use model::Tried;
+use yard::refusal::number;
+use yard::refusal::place;
+use yard::state::push_lists;
+use yard::test::test_yard;
+
+// A refusal as one number.
+fn refused(r: Refusal) -> u32
+    requires { ⌜ Row (paper r) ⌝ }
+    ensures { λ k. ⌜ k ≡ paper r .number * 1_000_000 + paper r .place ⌝ }
+{
+    number(r) * 1_000_000 + place(r) as u32
+}
+
+// The answer of a call with no value: 0, or the refusal.
+fn done(d: Done) -> u32
+    requires { ⌜ Small (answer (paperDone d) 0) ⌝ }
+    ensures { λ k. ⌜ k ≡ zeroInC (paperDone d) ⌝ }
+{
+    match d {
+        Done::Accepted => 0,
+        Done::Refused(r) => refused(r),
+    }
+}
+
+// The number, or the refusal.
+fn counted(a: Counted) -> u32
+    requires { ⌜ Small (paperCounted a) ⌝ }
+    ensures { λ k. ⌜ k ≡ inC (paperCounted a) ⌝ }
+{
+    match a {
+        Counted::Number(n) => n as u32,
+        Counted::Refused(r) => refused(r),
+    }
+}
+
+// The moves taken, plus 500,000 where the budget ended the trial, or the refusal.
+fn tried(a: Tried) -> u32
+    requires { ⌜ Small (mapAnswer trialInC (paperTried a)) ⌝ }
+    ensures { λ k. ⌜ k ≡ inC (mapAnswer trialInC (paperTried a)) ⌝ }
+{
+    match a {
+        Tried::PlanEnded(n) => n as u32,
+        Tried::BudgetEnded(n) => n as u32 + 500_000,
+        Tried::Refused(r) => refused(r),
+    }
+}
+
+// Whether three lists are a tree: refusals 1 to 6, or 0.
+#[no_mangle]
+pub extern "C" fn javendriky_test_yard(parents: &[u8], pebbles: &[u8], targets: &[u8]) -> u32
+    ensures { λ r. ⌜ r ≡ zeroInC (judge (yardOf (now (parents .entry)) (now (pebbles .entry)) (now (targets .entry)))) ⌝ }
+{
+    done(test_yard(parents, pebbles, targets))
+}
+
+// The planner: writes the plan at the front of its list, and answers the number of moves. Refusals 1 to 8.
+#[no_mangle]
+pub extern "C" fn javendriky_plan(
+    parents: &[u8],
+    pebbles: &[u8],
+    targets: &[u8],
+    plan: &mut [u8],
+) -> u32
+    ensures { λ r. ⌜ r ≡ inC (planAnswer (yardOf (now (parents .entry)) (now (pebbles .entry)) (now (targets .entry))) (now (plan .entry))) ⌝ }
+    ensures { λ r. ⌜ now (plan .exit) ≡ planList (yardOf (now (parents .entry)) (now (pebbles .entry)) (now (targets .entry))) (now (plan .entry)) ⌝ }
+    ensures { λ r. ⌜ Promised (yardOf (now (parents .entry)) (now (pebbles .entry)) (now (targets .entry))) (now (plan .entry)) (planAnswer (yardOf (now (parents .entry)) (now (pebbles .entry)) (now (targets .entry))) (now (plan .entry))) (now (plan .exit)) ⌝ }
+{
+    counted(planner::plan::plan(parents, pebbles, targets, plan))
+}
+
+// The checker: 0 for a plan that it accepts. Refusals 1 to 7, 9 to 14.
+#[no_mangle]
+pub extern "C" fn javendriky_check(
+    parents: &[u8],
+    pebbles: &[u8],
+    targets: &[u8],
+    plan: &[u8],
+) -> u32
+    ensures { λ r. ⌜ r ≡ zeroInC (checkFault (yardOf (now (parents .entry)) (now (pebbles .entry)) (now (targets .entry))) (now (plan .entry))) ⌝ }
+{
+    match check(parents, pebbles, targets, plan) {
+        Checked::Accepted(_, _) => 0,
+        Checked::Refused(r) => refused(r),
+    }
+}
+
+// The trial: obeys a plan until the budget or the plan ends, writes the new marks, and answers the moves taken, plus 500,000 where the budget ended
+// it. Refusals 1 to 6, 9 to 13.
+#[no_mangle]
+pub extern "C" fn javendriky_trial(
+    parents: &[u8],
+    pebbles: &mut [u8],
+    targets: &[u8],
+    plan: &[u8],
+    budget: u16,
+) -> u32
+    ensures { λ r. ⌜ r ≡ inC (mapAnswer trialInC (trialAnswer (yardOf (now (parents .entry)) (now (pebbles .entry)) (now (targets .entry))) (now (plan .entry)) budget)) ⌝ }
+    ensures { λ r. ⌜ now (pebbles .exit) ≡ trialPebbles (yardOf (now (parents .entry)) (now (pebbles .entry)) (now (targets .entry))) (now (plan .entry)) budget ⌝ }
+{
+    tried(trial(parents, pebbles, targets, plan, budget))
+}
+
+// One push: writes the new marks. Refusals 1 to 6, 10 to 13 with place 0, or 0.
+#[no_mangle]
+pub extern "C" fn javendriky_push(
+    parents: &[u8],
+    pebbles: &mut [u8],
+    targets: &[u8],
+    from: usize,
+    to: usize,
+) -> u32
+    ensures { λ r. ⌜ r ≡ zeroInC (pushFault (yardOf (now (parents .entry)) (now (pebbles .entry)) (now (targets .entry))) (push from to)) ⌝ }
+    ensures { λ r. ⌜ now (pebbles .exit) ≡ cond (legal (yardOf (now (parents .entry)) (now (pebbles .entry)) (now (targets .entry))) (push from to)) (shifted (now (pebbles .entry)) (push from to)) (now (pebbles .entry)) ⌝ }
+{
+    done(push_lists(parents, pebbles, targets, from, to))
+}
+
+// The demands of all nodes into a list of exactly one entry a node. Refusals 1 to 6, then 2 for a list of another length, or 0.
+#[no_mangle]
+pub extern "C" fn javendriky_demands(
+    parents: &[u8],
+    pebbles: &[u8],
+    targets: &[u8],
+    list: &mut [i16],
+) -> u32
+    ensures { λ r. ⌜ r ≡ zeroInC (demandsFault (yardOf (now (parents .entry)) (now (pebbles .entry)) (now (targets .entry))) (now (list .entry))) ⌝ }
+    ensures { λ r. ⌜ now (list .exit) ≡ demandsList (yardOf (now (parents .entry)) (now (pebbles .entry)) (now (targets .entry))) (now (list .entry)) ⌝ }
+{
+    done(demands(parents, pebbles, targets, list))
+}
+
+// Bound: k × (n − 1) for k pebbles on n nodes. Refusals 1 to 7.
+#[no_mangle]
+pub extern "C" fn javendriky_length_bound(parents: &[u8], pebbles: &[u8], targets: &[u8]) -> u32
+    ensures { λ r. ⌜ r ≡ inC (boundAnswer (yardOf (now (parents .entry)) (now (pebbles .entry)) (now (targets .entry)))) ⌝ }
+{
+    counted(length_bound(parents, pebbles, targets))
+}
+
+// Displaced: the starting nodes that are not targets. Refusals 1 to 7.
+#[no_mangle]
+pub extern "C" fn javendriky_displaced(parents: &[u8], pebbles: &[u8], targets: &[u8]) -> u32
+    ensures { λ r. ⌜ r ≡ inC (displacedAnswer (yardOf (now (parents .entry)) (now (pebbles .entry)) (now (targets .entry)))) ⌝ }
+{
+    counted(displaced(parents, pebbles, targets))
+}
+
+// Excess: the moves of a plan that the checker accepts, minus the shortest length. Refused as the checker refuses.
+#[no_mangle]
+pub extern "C" fn javendriky_excess(
+    parents: &[u8],
+    pebbles: &[u8],
+    targets: &[u8],
+    plan: &[u8],
+) -> u32
+    ensures { λ r. ⌜ r ≡ inC (mapAnswer (λ v. v .excess) (checkAnswer (yardOf (now (parents .entry)) (now (pebbles .entry)) (now (targets .entry))) (now (plan .entry)))) ⌝ }
+{
+    match check(parents, pebbles, targets, plan) {
+        Checked::Accepted(_, excess) => excess as u32,
+        Checked::Refused(r) => refused(r),
+    }
+}

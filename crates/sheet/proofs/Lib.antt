@@ -1,0 +1,9 @@
+-- Laws that several proofs of this crate cite.
+pub mod Decimals
+pub mod Writing
+pub mod Rows
+pub mod WriteCall
+pub mod Moves
+pub mod Fields
+pub mod ReadLines
+pub mod ReadCall

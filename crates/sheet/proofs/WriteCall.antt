@@ -1,0 +1,40 @@
+-- The writer's answer and the list that it leaves, by what is found: a refusal of the lengths, too little room, or the sheet written.
+use mathlib.Core.Path.{_≡_, _∙_}
+use mathlib.Core.Option.{none, some}
+use mathlib.Core.List.{List, [], _∷_}
+use Prim.Native.Nat.{ℕ, _≤_, _<_}
+use lib.ListN.{length, take}
+use lib.Dec.{leb}
+use borrow.Author.Tests.{le-leb, lt-leb}
+use Rattle.model.specs.Yard.{Yard}
+use Rattle.model.specs.Judge.{Fault, row, fault, firstOf, unless, tests}
+use Rattle.model.specs.Calls.{answered, refused}
+use Rattle.model.specs.Sheets.{yardSheet, writeFault, writeAnswer, writeList}
+use Rattle.model.proofs.Basics.{first-refused, first-passed}
+use Rattle.sheet.specs.Written.{Written}
+use Rattle.sheet.proofs.Writing.{written-front}
+
+module _ (y : Yard) (list : List ℕ) where
+  abbrev Fails : Fault → Type 0
+  Fails f = (refused f ≡ writeAnswer y list) × (list ≡ writeList y list)
+
+  fails : (f : Fault) → writeFault y (length list) ≡ some f → Fails f
+  fails f e = (rw e, rw e)
+
+  pub write-lengths : {f : Fault} → firstOf (take 2 (tests y)) ≡ some f → Fails f
+  unfolding writeFault
+  write-lengths {f} e = fails f (first-refused (take 2 (tests y)) (unless (leb (length (yardSheet y)) (length list)) (fault 8 (length (yardSheet y))) ∷ []) f e)
+
+  module _ (p : firstOf (take 2 (tests y)) ≡ none) where
+    room : writeFault y (length list) ≡ firstOf (unless (leb (length (yardSheet y)) (length list)) (fault 8 (length (yardSheet y))) ∷ [])
+    unfolding writeFault
+    room = first-passed (take 2 (tests y)) (unless (leb (length (yardSheet y)) (length list)) (fault 8 (length (yardSheet y))) ∷ []) p
+
+    pub write-short : {n : ℕ} → n ≡ length (yardSheet y) → length list < n → Fails (row 8 n)
+    write-short {n} e h = fails (row 8 n) (room ∙ rw (← e, lt-leb n (length list) h))
+
+    pub write-whole : {n : ℕ} {new : List ℕ} → length (yardSheet y) ≤ length list → Written (yardSheet y) 0 list n new → (answered n ≡ writeAnswer y list) × (new ≡ writeList y list)
+    write-whole h w =
+        let e : writeFault y (length list) ≡ none = room ∙ rw (le-leb (length (yardSheet y)) (length list) h) in
+        let f = written-front w in
+        (rw (e, ← f .0), rw e (f .1))

@@ -1,0 +1,3 @@
+-- Definitions that the contracts of this crate's helpers cite.
+pub mod Written
+pub mod Reading

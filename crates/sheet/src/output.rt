@@ -1,0 +1,47 @@
+// What the move program prints: a move sheet, or a refusal.
+ghost use mathlib.Core.Path.{_≡_};
+ghost use mathlib.Core.List.{[], _∷_};
+ghost use Prim.Native.Nat.{_+_, _*_, _≤_, _<_};
+ghost use lib.ListN.{length, take};
+ghost use Rattle.model.specs.Judge.{row};
+ghost use Rattle.model.specs.Calls.{movesOf, overwrite};
+ghost use Rattle.model.specs.Sheets.{line, moveSheet, refusalSheet};
+ghost use Rattle.sheet.specs.Written.{Written};
+use crate::decimal::put_text;
+use crate::decimal::put_value;
+
+// Writes a line of two values.
+fn put_pair(out: &mut [u8], at: usize, first: usize, second: usize) -> usize
+    requires { ⌜ at + length (line (first ∷ second ∷ [])) ≤ length (now out) ⌝ }
+    ensures { λ r. ⌜ Written (line (first ∷ second ∷ [])) at (now (out .entry)) r (now (out .exit)) ⌝ }
+{
+    let behind = put_value(out, at, first, b' ');
+    put_value(out, behind, second, b'\n')
+}
+
+// Writes the move sheet of the first `count` moves of a plan at the front of a list, and answers its length.
+pub fn put_moves(plan: &[u8], count: usize, out: &mut [u8]) -> usize
+    requires { ⌜ (2 * count ≤ length (now plan)) × (8 + 8 * count ≤ length (now out)) ⌝ }
+    ensures { λ r. ⌜ r ≡ length (moveSheet (movesOf (take (2 * count) (now (plan .entry))))) ⌝ }
+    ensures { λ r. ⌜ now (out .exit) ≡ overwrite (moveSheet (movesOf (take (2 * count) (now (plan .entry))))) (now (out .entry)) ⌝ }
+{
+    let mut at = put_text(out, 0, b"from to\n");
+    let mut i = 0;
+    while i < count {
+        let from = plan[2 * i];
+        let to = plan[2 * i + 1];
+        at = put_pair(out, at, from as usize, to as usize);
+        i += 1;
+    }
+    at
+}
+
+// Writes a refusal, its number and its place, at the front of a list, and answers its length.
+pub fn put_refusal(number: usize, place: usize, out: &mut [u8]) -> usize
+    requires { ⌜ (number < 100000) × (place < 100000) × (26 ≤ length (now out)) ⌝ }
+    ensures { λ r. ⌜ r ≡ length (refusalSheet (row number place)) ⌝ }
+    ensures { λ r. ⌜ now (out .exit) ≡ overwrite (refusalSheet (row number place)) (now (out .entry)) ⌝ }
+{
+    let at = put_text(out, 0, b"refusal place\n");
+    put_pair(out, at, number, place)
+}

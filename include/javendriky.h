@@ -1,0 +1,133 @@
+/* javendriky: pebbles (cars) on a rooted tree, moved one step at a time onto its targets.
+ *
+ * A yard is three lists of n bytes each, n from 1 to 256, one entry a node, nodes numbered from 0:
+ *   parents   the node's parent; the one root is its own parent, and from every node climbing reaches it
+ *   pebbles   1 where the node holds a pebble, else 0
+ *   targets   1 where the node is a target, else 0
+ * A plan is a list of bytes, two for each move: the node that a pebble leaves, then the adjacent empty node that it goes to.
+ *
+ * Lists. A list is passed as a pointer and the number of its elements (for int16_t lists too: elements, not bytes). The pointer is to that many
+ * elements, aligned for their type, which the caller owns and no one else writes during the call. It may be NULL only with length 0. A list that a
+ * call writes overlaps no other list of that call. A list passed as const is only read. No call keeps a pointer, asks for memory, or has a state of
+ * its own, so calls on different lists may run at the same time.
+ *
+ * Answers. Each call answers one number a:
+ *   a < 1,000,000     accepted: a is the value, or 0 where the call has none
+ *   a >= 1,000,000    refused: JAVENDRIKY_REFUSAL(a) is the refusal's number, 1 to 18, and JAVENDRIKY_PLACE(a) its place
+ * A refused call alters nothing that was lent to it. Every content of the lists is allowed: what is wrong with them is refused. Where several
+ * refusals are due, the first in the order that the call gives is answered. */
+#ifndef JAVENDRIKY_H
+#define JAVENDRIKY_H
+
+#include <stddef.h>
+#include <stdint.h>
+
+#ifdef __cplusplus
+extern "C" {
+#endif
+
+/* The most nodes that a yard can have. */
+#define JAVENDRIKY_MAX_NODES 256
+
+/* The most bytes that a plan can have for javendriky_check, javendriky_excess and javendriky_trial: 65,535 moves. */
+#define JAVENDRIKY_MAX_PLAN_BYTES 131070
+
+/* What an accepted javendriky_trial adds to the moves taken where the budget ended it. */
+#define JAVENDRIKY_BUDGET_ENDED 500000
+
+/* An answer taken apart: the refusal's number, which is 0 for an accepted call, and its place. */
+#define JAVENDRIKY_REFUSAL(a) ((uint32_t)(a) / 1000000u)
+#define JAVENDRIKY_PLACE(a) ((uint32_t)(a) % 1000000u)
+
+/* The refusals, with their places. The calls below answer 1 to 14; the others belong to the sheets that yards are written on. */
+#define JAVENDRIKY_NODE_COUNT 1      /* the parent list has no entry, or more than 256; place 0 (of a sheet: the line) */
+#define JAVENDRIKY_LIST_LENGTH 2     /* a list has another number of entries than the parent list; place 0 */
+#define JAVENDRIKY_MARK 3            /* an entry of pebbles, or else of targets, is above 1; the lowest such node */
+#define JAVENDRIKY_PARENT_OUTSIDE 4  /* a parent is no node; the lowest node that has such a parent */
+#define JAVENDRIKY_ROOTS 5           /* no node is its own parent, place 0; or several are, the second-lowest of them */
+#define JAVENDRIKY_CIRCLE 6          /* climbing from a node never reaches the root; the lowest such node */
+#define JAVENDRIKY_TOTALS 7          /* there are not as many pebbles as targets, so there is no plan; place 0 */
+#define JAVENDRIKY_LIST_TOO_SHORT 8  /* the list lent for the result has too little room; the number of moves it must hold (writing a sheet: of bytes) */
+#define JAVENDRIKY_PLAN_LENGTH 9     /* a plan has an odd number of bytes, or more than 131,070; place 0 */
+#define JAVENDRIKY_NO_SUCH_NODE 10   /* a move names a number that is no node; the move's number, counted from 0 */
+#define JAVENDRIKY_NOT_ADJACENT 11   /* a move's two nodes are the same, or neither is the other's parent; the move's number */
+#define JAVENDRIKY_FROM_EMPTY 12     /* a move leaves a node that holds no pebble; the move's number */
+#define JAVENDRIKY_TO_FULL 13        /* a move goes to a node that holds a pebble; the move's number */
+#define JAVENDRIKY_TARGET_EMPTY 14   /* after all moves a target holds no pebble; the lowest such node */
+#define JAVENDRIKY_HEADER 15         /* a sheet's first line is not the header; place 1 */
+#define JAVENDRIKY_LINE_SHAPE 16     /* a line of a sheet is not four numbers up to 255; the line */
+#define JAVENDRIKY_NODE_NUMBER 17    /* a line of a sheet is not that of the next node; the line */
+#define JAVENDRIKY_READER_LIST 18    /* a list lent for reading a sheet has fewer than 256 entries; place 0 */
+
+/* Plan: a shortest plan that takes the pebbles onto exactly the targets.
+ * Answers the number of moves m, which may be 0. Writes the plan into the first 2 * m bytes of `plan` and leaves the bytes behind them. No move of it
+ * is spare: no list of moves that ends on the targets is shorter. A plan never has more than n * n / 4 moves, so 32,768 bytes are room for any.
+ * Refused with 1 to 6, then 7, then 8 with m as place if `plan` has fewer than 2 * m bytes. */
+uint32_t javendriky_plan(const uint8_t *parents, size_t parents_len,
+                         const uint8_t *pebbles, size_t pebbles_len,
+                         const uint8_t *targets, size_t targets_len,
+                         uint8_t *plan, size_t plan_len);
+
+/* Test: whether the three lists are a yard. Writes nothing.
+ * Answers 0, or is refused with 1 to 6, in that order. The totals of pebbles and targets are not compared. */
+uint32_t javendriky_test_yard(const uint8_t *parents, size_t parents_len,
+                              const uint8_t *pebbles, size_t pebbles_len,
+                              const uint8_t *targets, size_t targets_len);
+
+/* Demands: for each node the targets minus the pebbles of its subtree, from -256 to 256.
+ * Answers 0, and writes all n entries of `list`, node 0 first. The totals may differ.
+ * Refused with 1 to 6, then with 2 if `list` has not exactly n entries. */
+uint32_t javendriky_demands(const uint8_t *parents, size_t parents_len,
+                            const uint8_t *pebbles, size_t pebbles_len,
+                            const uint8_t *targets, size_t targets_len,
+                            int16_t *list, size_t list_len);
+
+/* Bound: k * (n - 1) for k pebbles, which no plan of javendriky_plan has more moves than. Writes nothing.
+ * Refused with 1 to 6, then 7. */
+uint32_t javendriky_length_bound(const uint8_t *parents, size_t parents_len,
+                                 const uint8_t *pebbles, size_t pebbles_len,
+                                 const uint8_t *targets, size_t targets_len);
+
+/* Displaced: how many pebbles stand on nodes that are no targets. Writes nothing.
+ * Refused with 1 to 6, then 7. */
+uint32_t javendriky_displaced(const uint8_t *parents, size_t parents_len,
+                              const uint8_t *pebbles, size_t pebbles_len,
+                              const uint8_t *targets, size_t targets_len);
+
+/* Push: one move, of the pebble at node `from` to the adjacent empty node `to`.
+ * Answers 0, and writes into `pebbles`: entry `from` becomes 0 and entry `to` 1; the others stay.
+ * Refused with 1 to 6, then with 10 to 13, with place 0. */
+uint32_t javendriky_push(const uint8_t *parents, size_t parents_len,
+                         uint8_t *pebbles, size_t pebbles_len,
+                         const uint8_t *targets, size_t targets_len,
+                         size_t from, size_t to);
+
+/* Check: whether a plan, obeyed from its first move to its last, ends with a pebble on every target. It need not be a shortest one. Writes nothing.
+ * Answers 0. Refused with 1 to 6, then 7, then 9, then for each move in turn with 10 to 13, then 14. */
+uint32_t javendriky_check(const uint8_t *parents, size_t parents_len,
+                          const uint8_t *pebbles, size_t pebbles_len,
+                          const uint8_t *targets, size_t targets_len,
+                          const uint8_t *plan, size_t plan_len);
+
+/* Excess: how many moves a plan has more than a shortest one. Writes nothing.
+ * Refused as javendriky_check is, so it has a value for accepted plans only. */
+uint32_t javendriky_excess(const uint8_t *parents, size_t parents_len,
+                           const uint8_t *pebbles, size_t pebbles_len,
+                           const uint8_t *targets, size_t targets_len,
+                           const uint8_t *plan, size_t plan_len);
+
+/* Trial: obeys a plan from its first move until `budget` moves are taken or the plan ends.
+ * Answers the number of moves taken, plus JAVENDRIKY_BUDGET_ENDED if moves of the plan are left. Where both end together the plan has ended, and
+ * nothing is added. Writes the new marks into `pebbles`. Moves past the budget are not looked at, and the totals may differ.
+ * Refused with 1 to 6, then 9, then for each move taken in turn with 10 to 13; then `pebbles` is as before, also where earlier moves were legal. */
+uint32_t javendriky_trial(const uint8_t *parents, size_t parents_len,
+                          uint8_t *pebbles, size_t pebbles_len,
+                          const uint8_t *targets, size_t targets_len,
+                          const uint8_t *plan, size_t plan_len,
+                          uint16_t budget);
+
+#ifdef __cplusplus
+}
+#endif
+
+#endif
