@@ -29,7 +29,7 @@ module _ (plan : List ℕ) (k : ℕ) (h : 2 * k + 2 ≤ length plan) where
   moves-next = ap movesOf take-two ∙ moves-append k (take (2 * k) plan) _ _ (length-take-le (2 * k) plan (omega arith))
 
 -- the two values of a move, and the lines of the first k moves of a plan
-abbrev pub pair : Move → List ℕ
+abbrev pair : Move → List ℕ
 pair m = m .from ∷ m .to ∷ []
 
 abbrev pub moveRows : List ℕ → ℕ → List ℕ

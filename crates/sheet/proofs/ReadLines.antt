@@ -113,11 +113,11 @@ module _ (sheet ps cs ts : List ℕ) where
         room : maxSize - v ≡ suc (255 - v)
         room = omega arith
 
-        pub so-far-shape : nodeLine (drop at sheet) ≡ none → refused (row 16 (v + 2)) ≡ readNodes maxSize 0 (drop 24 sheet)
-        so-far-shape e = sym (s ∙ rw (room, drop-next sheet at h, line-shape (255 - v) v (getD sheet at 0) (drop (at + 1) sheet) (ap nodeLine (sym (drop-next sheet at h)) ∙ e)))
+        pub so-far-shape : {p : ℕ} → p ≡ v + 2 → nodeLine (drop at sheet) ≡ none → refused (row 16 p) ≡ readNodes maxSize 0 (drop 24 sheet)
+        so-far-shape q e = sym (s ∙ rw (q, room, drop-next sheet at h, line-shape (255 - v) v (getD sheet at 0) (drop (at + 1) sheet) (ap nodeLine (sym (drop-next sheet at h)) ∙ e)))
 
-        pub so-far-other : {x : NodeLine} → nodeLine (drop at sheet) ≡ some x → (x .node ≡ v → ⊥) → refused (row 17 (v + 2)) ≡ readNodes maxSize 0 (drop 24 sheet)
-        so-far-other e n = sym (s ∙ rw (room, drop-next sheet at h, line-other (255 - v) v (getD sheet at 0) (drop (at + 1) sheet) (ap nodeLine (sym (drop-next sheet at h)) ∙ e) n))
+        pub so-far-other : {p : ℕ} {x : NodeLine} → p ≡ v + 2 → nodeLine (drop at sheet) ≡ some x → (x .node ≡ v → ⊥) → refused (row 17 p) ≡ readNodes maxSize 0 (drop 24 sheet)
+        so-far-other q e n = sym (s ∙ rw (q, room, drop-next sheet at h, line-other (255 - v) v (getD sheet at 0) (drop (at + 1) sheet) (ap nodeLine (sym (drop-next sheet at h)) ∙ e) n))
 
         pub so-far-next : {x : NodeLine} (next : ℕ) → nodeLine (drop at sheet) ≡ some x → x .node ≡ v → x .rest ≡ drop next sheet
             → Full ps cs ts

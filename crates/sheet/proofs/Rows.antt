@@ -3,7 +3,7 @@
 use mathlib.Core.Path.{_≡_, refl, sym, ap, _∙_}
 use mathlib.Core.Bool.{Bool, true, false}
 use mathlib.Core.List.{List, [], _∷_, _++_, map, append-assoc, append-nil}
-use Prim.Native.Nat.{ℕ, zero, suc, _+_, _≤_, _<_}
+use Prim.Native.Nat.{ℕ, zero, suc, _+_, _≤_}
 use native.Mathlib.Nat.{zero-add, add-zero, suc-add, add-suc}
 use native.Mathlib.Numerals.{add-one}
 use native.Mathlib.Omega.{arith}
@@ -13,7 +13,6 @@ use borrow.Author.Tests.{ltb-true, ltb-false}
 use Rattle.model.specs.Yard.{Yard, size}
 use Rattle.model.specs.Calls.{range}
 use Rattle.model.specs.Sheets.{text, space, lineFeed, decimal, line, lines, header, nodeValues, yardSheet}
-use Rattle.sheet.proofs.Decimals.{decimal-short}
 
 -- a value and the byte that ends it
 abbrev pub word : ℕ → ℕ → List ℕ
@@ -35,16 +34,6 @@ length-two a b = rw (← line-two a b) (simp length-append (omega arith))
 
 pub length-four : (a b c d : ℕ) → length (line (a ∷ b ∷ c ∷ d ∷ [])) ≡ length (decimal a) + length (decimal b) + length (decimal c) + length (decimal d) + 4
 length-four a b c d = rw (← line-four a b c d) (simp length-append (omega arith))
-
-pub length-node : (a b c d : ℕ) → a < 256 → b < 256 → c < 256 → d < 256 → length (line (a ∷ b ∷ c ∷ d ∷ [])) ≤ 16
-length-node a b c d ha hb hc hd = omega (
-  arith,
-  length-four a b c d,
-  decimal-short a (omega arith),
-  decimal-short b (omega arith),
-  decimal-short c (omega arith),
-  decimal-short d (omega arith),
-)
 
 -- one line more
 pub lines-next : {A : Type 0} (f : A → List ℕ) (xs : List A) (x : A) → lines (map f (xs ++ (x ∷ []))) ≡ lines (map f xs) ++ line (f x)

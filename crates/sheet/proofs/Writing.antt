@@ -12,17 +12,17 @@ use Rattle.model.specs.Sheets.{decimal}
 use Rattle.sheet.specs.Written.{put, Written}
 use Rattle.sheet.proofs.Decimals.{decimal-low, decimal-high, length-low, length-high}
 
-pub put-nil : (at : ℕ) (l : List ℕ) → put at [] l ≡ l
+put-nil : (at : ℕ) (l : List ℕ) → put at [] l ≡ l
 put-nil at l = rw add-zero (take-append-drop at l)
 
-pub length-put : (at : ℕ) (w l : List ℕ) → at + length w ≤ length l → length (put at w l) ≡ length l
+length-put : (at : ℕ) (w l : List ℕ) → at + length w ≤ length l → length (put at w l) ≡ length l
 length-put at w l h = simp (length-append, length-take, length-drop) (omega arith)
 
 module _ (at : ℕ) (l : List ℕ) where
   seam : (w : List ℕ) → at ≤ length l → length (take at l ++ w) ≡ at + length w
   seam w h = length-append (take at l) w ∙ rw (length-take-le at l h)
 
-  pub put-put : (v w : List ℕ) → at ≤ length l → put (at + length v) w (put at v l) ≡ put at (v ++ w) l
+  put-put : (v w : List ℕ) → at ≤ length l → put (at + length v) w (put at v l) ≡ put at (v ++ w) l
   put-put v w h =
       let m : ℕ = at + length v in
       let xs : List ℕ = take at l ++ v in
@@ -34,7 +34,7 @@ module _ (at : ℕ) (l : List ℕ) where
       ∙ rw (length-append v w, add-assoc at (length v) (length w)) in
       rw (← append-assoc (take at l) v rest, t, d) (simp append-assoc)
 
-  pub put-snoc : (w : List ℕ) (b : ℕ) → at + length w < length l → put at (w ++ (b ∷ [])) l ≡ put at w (set l (at + length w) b)
+  put-snoc : (w : List ℕ) (b : ℕ) → at + length w < length l → put at (w ++ (b ∷ [])) l ≡ put at w (set l (at + length w) b)
   put-snoc w b h =
       let i : ℕ = at + length w in
       let e : set l i b ≡ take i l ++ (b ∷ drop (suc i) l) = set-split l i b h in
@@ -43,11 +43,11 @@ module _ (at : ℕ) (l : List ℕ) where
       let n : at + length (w ++ (b ∷ [])) ≡ suc i = rw (length-append w (b ∷ [])) (omega arith) in
       rw (t, d, n) (simp append-assoc)
 
-  pub put-byte : (b : ℕ) → at < length l → put at (b ∷ []) l ≡ set l at b
+  put-byte : (b : ℕ) → at < length l → put at (b ∷ []) l ≡ set l at b
   put-byte b h = rw add-one (sym (set-split l at b h))
 
 -- at the front
-pub put-front : (w l : List ℕ) → put 0 w l ≡ overwrite w l
+put-front : (w l : List ℕ) → put 0 w l ≡ overwrite w l
 put-front w l = rw zero-add
 
 -- Written
@@ -66,7 +66,7 @@ written-as {at = at} {e} {old} {new} q a = subst (λ (l : List ℕ). Written l a
 pub written-byte : (b at : ℕ) (l : List ℕ) → at < length l → Written (b ∷ []) at l (at + 1) (set l at b)
 written-byte b at l h = record { list = sym (put-byte at l b h); end = refl }
 
-pub written-length : {w : List ℕ} {at e : ℕ} {old new : List ℕ} → at + length w ≤ length old → Written w at old e new → length new ≡ length old
+written-length : {w : List ℕ} {at e : ℕ} {old new : List ℕ} → at + length w ≤ length old → Written w at old e new → length new ≡ length old
 written-length {w} {at} {old = old} h a = rw (a .list) (length-put at w old h)
 
 -- the digits of a number, from its last to its first, each at the place i

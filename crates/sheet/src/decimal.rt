@@ -36,7 +36,7 @@ pub fn put_decimal(out: &mut [u8], at: usize, n: usize) -> usize
     end
 }
 
-// Writes a number and the byte that ends it.
+// Writes a number and the byte that ends it, and answers the place behind both.
 pub fn put_value(out: &mut [u8], at: usize, n: usize, stop: u8) -> usize
     requires { ⌜ at + length (decimal n) + 1 ≤ length (now out) ⌝ }
     ensures { λ r. ⌜ Written (decimal n ++ (stop ∷ [])) at (now (out .entry)) r (now (out .exit)) ⌝ }
@@ -46,7 +46,7 @@ pub fn put_value(out: &mut [u8], at: usize, n: usize, stop: u8) -> usize
     end + 1
 }
 
-// Writes a text.
+// Writes a text from `at` on, and answers the place behind it.
 pub fn put_text(out: &mut [u8], at: usize, text: &[u8]) -> usize
     requires { ⌜ at + length (now text) ≤ length (now out) ⌝ }
     ensures { λ r. ⌜ Written (now (text .entry)) at (now (out .entry)) r (now (out .exit)) ⌝ }

@@ -10,7 +10,7 @@ ghost use Rattle.sheet.specs.Written.{Written};
 use crate::decimal::put_text;
 use crate::decimal::put_value;
 
-// Writes a line of two values.
+// Writes a line of two values, and answers the place behind it.
 fn put_pair(out: &mut [u8], at: usize, first: usize, second: usize) -> usize
     requires { ⌜ at + length (line (first ∷ second ∷ [])) ≤ length (now out) ⌝ }
     ensures { λ r. ⌜ Written (line (first ∷ second ∷ [])) at (now (out .entry)) r (now (out .exit)) ⌝ }

@@ -27,7 +27,7 @@ fn line_bytes(node: usize, parent: u8, pebble: u8, target: u8) -> usize
     width(node) + width(parent as usize) + marks + 4
 }
 
-// Writes a node's line.
+// Writes a node's line, and answers the place behind it.
 fn put_node(out: &mut [u8], at: usize, node: usize, parent: u8, pebble: u8, target: u8) -> usize
     requires { ⌜ at + length (line (node ∷ parent ∷ pebble ∷ target ∷ [])) ≤ length (now out) ⌝ }
     ensures { λ r. ⌜ Written (line (node ∷ parent ∷ pebble ∷ target ∷ [])) at (now (out .entry)) r (now (out .exit)) ⌝ }
@@ -52,7 +52,7 @@ fn sheet_bytes(parents: &[u8], pebbles: &[u8], targets: &[u8]) -> usize
     needed
 }
 
-// Writes the sheet of three lists.
+// Writes the sheet of three lists at the front of a list, and answers its length.
 fn put_sheet(parents: &[u8], pebbles: &[u8], targets: &[u8], sheet: &mut [u8]) -> usize
     requires { ⌜ (length (now pebbles) ≡ length (now parents)) × (length (now targets) ≡ length (now parents)) × (length (yardSheet (yardOf (now parents) (now pebbles) (now targets))) ≤ length (now sheet)) ⌝ }
     ensures { λ r. ⌜ Written (yardSheet (yardOf (now (parents .entry)) (now (pebbles .entry)) (now (targets .entry)))) 0 (now (sheet .entry)) r (now (sheet .exit)) ⌝ }

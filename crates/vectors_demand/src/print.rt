@@ -3,21 +3,27 @@ use demand::signed::size;
 use vectors::print::figure;
 use vectors::print::text;
 
-// A demand; none lies outside −256 to 256.
-fn entry(x: i16) {
+// A number's size, and 999 for a number outside −256 to 256, which no demand is.
+fn magnitude(x: i16) -> usize {
     if x < -256 {
-        text(b" below");
-        return;
+        return 999;
     }
     if x > 256 {
-        text(b" above");
-        return;
+        return 999;
     }
+    size(x)
+}
+
+fn sign(x: i16) {
     if x < 0 {
-        figure(b" -", size(x));
-        return;
+        text(b"-");
     }
-    figure(b" ", size(x));
+}
+
+fn entry(x: i16) {
+    text(b" ");
+    sign(x);
+    figure(b"", magnitude(x));
 }
 
 // A list with its name before it.

@@ -6,13 +6,13 @@ use Rattle.sheet.proofs.reader.extended.Statement.{statement}
 use Rattle.sheet.proofs.reader.extended.Tie as tie
 
 returns : tie.Need-returns
-returns c = extended-zero _ _ (c .if1 .taken)
+returns c = extended-zero _ _ (omega arith)
 
 returns-2 : tie.Need-returns-2
-returns-2 c = extended-other _ _ (λ d. omega (arith, d .0, c .if2 .taken))
+returns-2 c = extended-other _ _ (λ d. omega (arith, d .0))
 
 returns-3 : tie.Need-returns-3
-returns-3 c = extended-other _ _ (λ d. omega (arith, d .1, c .if3 .taken))
+returns-3 c = extended-other _ _ (λ d. omega (arith, d .1))
 
 mul-result : tie.Need-mul-result
 mul-result c = search needs

@@ -1,6 +1,6 @@
 -- `field` reads a value digit by digit: behind its bytes so far, which are the decimal of `value`, lie the bytes from `i` on. It ends at the byte
 -- `stop`, or where no value goes on as the bytes do. The measure is what is left of the sheet.
-use mathlib.Core.Path.{_≡_, _∙_}
+use mathlib.Core.Path.{_≡_, sym, _∙_}
 use mathlib.Core.List.{_++_}
 use Prim.Native.Nat.{_-_, _<_, _≤_}
 use native.Mathlib.Omega.{arith}
@@ -65,7 +65,7 @@ returns-5 : tie.Need-returns-5 Inv-loop μ-loop
 returns-5 c =
     let l = c .before .before .before .before .before in
     let s = l .before .before .before .before .before .before in
-    field-break _ (s .pre) _ _ (l .loop .inv .1) _ (l .loop .inv .2) _ _ (drop-next (s .args .sheet .now) (l .loop .i) (omega arith)) (c .before .before .if4 .left) (c .before .extended .ensures) (c .if5 .taken)
+    field-break _ (s .pre) _ _ (l .loop .inv .1) _ (l .loop .inv .2) _ _ (drop-next (s .args .sheet .now) (l .loop .i) (omega arith)) (c .before .before .if4 .left) (c .before .extended .ensures) (omega arith)
 
 add-i-2 : tie.Need-add-i-2 Inv-loop μ-loop
 add-i-2 c = omega arith
@@ -83,7 +83,7 @@ returns-6 : tie.Need-returns-6 Inv-loop μ-loop
 returns-6 c =
     let l = c .before in
     let s = l .before .before .before .before .before .before in
-    field-end _ (s .pre) _ _ (l .loop .inv .1) _ (l .loop .inv .2) (drop-of-length-le _ (c .loop-test .left))
+    rw (sym (field-end _ (s .pre) _ _ (l .loop .inv .1) _ (l .loop .inv .2) (drop-of-length-le _ (c .loop-test .left))))
 
 pub field-spec : {M : Type 1} → statement M
 field-spec =

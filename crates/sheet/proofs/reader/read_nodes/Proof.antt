@@ -23,7 +23,7 @@ returns : tie.Need-returns Inv-loop μ-loop
 returns c =
     let l = c .before .before in
     let s = l .before .before in
-    (so-far-over (s .args .sheet .now) (l .loop .parents) (l .loop .pebbles) (l .loop .targets) (l .loop .at) (l .loop .v) (l .loop .inv .2) (omega arith) (c .if1 .taken), (omega arith, l .loop .inv .1))
+    (so-far-over (s .args .sheet .now) (l .loop .parents) (l .loop .pebbles) (l .loop .targets) (l .loop .at) (l .loop .v) (l .loop .inv .2) (omega arith) (omega arith), (omega arith, l .loop .inv .1))
 
 node-line-requires : tie.Need-node-line-requires Inv-loop μ-loop
 node-line-requires c κs = search needs
@@ -41,7 +41,7 @@ returns-2 : tie.Need-returns-2 Inv-loop μ-loop
 returns-2 c =
     let l = c .before .before .before .before .before in
     let s = l .before .before in
-    (so-far-shape (s .args .sheet .now) (l .loop .parents) (l .loop .pebbles) (l .loop .targets) (l .loop .at) (l .loop .v) (l .loop .inv .2) (omega arith) (omega arith) (seen (lineIn (s .args .sheet .now)) (c .before .before .node-line .ensures) (c .enum-told .given .1)), (omega arith, l .loop .inv .1))
+    (so-far-shape (s .args .sheet .now) (l .loop .parents) (l .loop .pebbles) (l .loop .targets) (l .loop .at) (l .loop .v) (l .loop .inv .2) (omega arith) (omega arith) (omega arith) (seen (lineIn (s .args .sheet .now)) (c .before .before .node-line .ensures) (c .enum-told .given .1)), (omega arith, l .loop .inv .1))
 
 cast-if2 : tie.Need-cast-if2 Inv-loop μ-loop
 cast-if2 c = search needs
@@ -53,7 +53,7 @@ returns-3 : tie.Need-returns-3 Inv-loop μ-loop
 returns-3 c =
     let l = c .before .before .before .before .before .before .before in
     let s = l .before .before in
-    (so-far-other (s .args .sheet .now) (l .loop .parents) (l .loop .pebbles) (l .loop .targets) (l .loop .at) (l .loop .v) (l .loop .inv .2) (omega arith) (omega arith) (seen (lineIn (s .args .sheet .now)) (c .before .before .before .before .node-line .ensures) (c .before .before .line .given .1)) (c .if2 .taken), (omega arith, l .loop .inv .1))
+    (so-far-other (s .args .sheet .now) (l .loop .parents) (l .loop .pebbles) (l .loop .targets) (l .loop .at) (l .loop .v) (l .loop .inv .2) (omega arith) (omega arith) (omega arith) (seen (lineIn (s .args .sheet .now)) (c .before .before .before .before .node-line .ensures) (c .before .before .line .given .1)) (c .if2 .taken), (omega arith, l .loop .inv .1))
 
 element-write-parents : tie.Need-element-write-parents Inv-loop μ-loop
 element-write-parents c = omega arith

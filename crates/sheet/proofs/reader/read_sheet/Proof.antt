@@ -29,13 +29,13 @@ room : (c : tie.After-read) → let a = c .before .before .before .before .befor
 room c = omega arith
 
 returns : tie.Need-returns
-returns c = let a = c .before .before .before .before .before .args in short-parents (a .sheet .now) (a .parents .now) (a .pebbles .now) (a .targets .now) (c .if1 .taken)
+returns c = let a = c .before .before .before .before .before .args in short-parents (a .sheet .now) (a .parents .now) (a .pebbles .now) (a .targets .now) (omega arith)
 
 returns-2 : tie.Need-returns-2
-returns-2 c = let a = c .before .before .before .before .before .before .args in short-pebbles (a .sheet .now) (a .parents .now) (a .pebbles .now) (a .targets .now) (omega arith) (c .if2 .taken)
+returns-2 c = let a = c .before .before .before .before .before .before .args in short-pebbles (a .sheet .now) (a .parents .now) (a .pebbles .now) (a .targets .now) (omega arith) (omega arith)
 
 returns-3 : tie.Need-returns-3
-returns-3 c = let a = c .before .before .before .before .before .before .before .args in short-targets (a .sheet .now) (a .parents .now) (a .pebbles .now) (a .targets .now) (omega arith) (omega arith) (c .if3 .taken)
+returns-3 c = let a = c .before .before .before .before .before .before .before .args in short-targets (a .sheet .now) (a .parents .now) (a .pebbles .now) (a .targets .now) (omega arith) (omega arith) (omega arith)
 
 read-lines-requires : tie.Need-read-lines-requires
 read-lines-requires c κs = search needs

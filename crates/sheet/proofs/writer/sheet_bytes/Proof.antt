@@ -1,6 +1,6 @@
 -- `sheet_bytes` adds up the lines: after v turns it has the header's 24 bytes and those of the first v lines, of which none has more than 16. The
 -- measure is the nodes left.
-use mathlib.Core.Path.{_≡_, sym, _∙_}
+use mathlib.Core.Path.{_≡_, sym, ap, _∙_}
 use Prim.Native.Nat.{_+_, _-_, _*_, _≤_}
 use native.Mathlib.Omega.{arith}
 use lib.ListN.{length}
@@ -18,7 +18,7 @@ abbrev μ-loop : tie.MeasureT-loop
 loop-holds : tie.Need-loop-holds Inv-loop μ-loop
 loop-holds c =
     let a = c .before .before .before .args in
-    (omega arith, rw (rows-none (yardOf (a .parents .now) (a .pebbles .now) (a .targets .now))), omega arith)
+    omega (arith, ap length (rows-none (yardOf (a .parents .now) (a .pebbles .now) (a .targets .now))))
 
 shared-slice-read-line-bytes : tie.Need-shared-slice-read-line-bytes Inv-loop μ-loop
 shared-slice-read-line-bytes c = omega arith

@@ -1,5 +1,5 @@
--- The loop's invariant: the list keeps its length.
-use Prim.Native.Nat.{_≤_, _<_, _-_}
+-- The loop's invariant: the list keeps its length. The measure is what is left of it.
+use Prim.Native.Nat.{_-_}
 use mathlib.Core.Path.{_≡_}
 use lib.ListN.{length, length-set}
 use native.Mathlib.Omega.{arith}

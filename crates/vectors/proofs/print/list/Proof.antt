@@ -1,5 +1,5 @@
--- The loop's invariant: `i` is at most the list's length.
-use Prim.Native.Nat.{_≤_, _<_, _-_}
+-- The loop's invariant: `i` is at most the list's length. The measure is what is left of it.
+use Prim.Native.Nat.{_≤_, _-_}
 use lib.ListN.{length}
 use borrow.Author.Needs.{needs}
 use Rattle.vectors.proofs.print.list.Statement.{statement}

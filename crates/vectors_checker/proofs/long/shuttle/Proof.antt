@@ -1,4 +1,4 @@
--- The loop's invariant: the list keeps its length.
+-- The loop's invariant: the list keeps its length. The measure is what is left of it.
 use Prim.Native.Nat.{_-_}
 use mathlib.Core.Path.{_≡_}
 use lib.ListN.{length, length-set}
