@@ -35,11 +35,14 @@ extern "C" {
 /* What an accepted javendriky_trial adds to the moves taken where the budget ended it. */
 #define JAVENDRIKY_BUDGET_ENDED 500000
 
+/* The bytes of the longest yard sheet: room for any that javendriky_write_sheet writes. */
+#define JAVENDRIKY_MAX_SHEET_BYTES 4010
+
 /* An answer taken apart: the refusal's number, which is 0 for an accepted call, and its place. */
 #define JAVENDRIKY_REFUSAL(a) ((uint32_t)(a) / 1000000u)
 #define JAVENDRIKY_PLACE(a) ((uint32_t)(a) % 1000000u)
 
-/* The refusals, with their places. The calls below answer 1 to 14; the others belong to the sheets that yards are written on. */
+/* The refusals, with their places. Each call tells below which it answers, and in what order. */
 #define JAVENDRIKY_NODE_COUNT 1      /* the parent list has no entry, or more than 256; place 0 (of a sheet: the line) */
 #define JAVENDRIKY_LIST_LENGTH 2     /* a list has another number of entries than the parent list; place 0 */
 #define JAVENDRIKY_MARK 3            /* an entry of pebbles, or else of targets, is above 1; the lowest such node */
@@ -125,6 +128,24 @@ uint32_t javendriky_trial(const uint8_t *parents, size_t parents_len,
                           const uint8_t *targets, size_t targets_len,
                           const uint8_t *plan, size_t plan_len,
                           uint16_t budget);
+
+/* Read sheet: what a yard sheet says. A sheet is the line 'berth parent car target', then a line for each node in rising number from 0: the node,
+ * its parent, its pebble mark and its target mark, in decimal from 0 to 255 without leading zeros, one space between; every line ends with a line feed.
+ * Answers the number of nodes n, and writes the first n entries of the three lists; the others stay. Whether the lists are a yard is not tested.
+ * Refused with 18 if one of the three lists has fewer than 256 entries; then 15; then line by line, with the line as place (the header is line 1), 1 if
+ * bytes follow line 257, 16 or 17; then 1 with place 2 if no line follows the header. */
+uint32_t javendriky_read_sheet(const uint8_t *sheet, size_t sheet_len,
+                               uint8_t *parents, size_t parents_len,
+                               uint8_t *pebbles, size_t pebbles_len,
+                               uint8_t *targets, size_t targets_len);
+
+/* Write sheet: the yard sheet of three lists. Their entries may be any bytes, so that what is read from the sheet is what was written.
+ * Answers the number of bytes of the sheet, writes them at the front of `sheet` and leaves the bytes behind them.
+ * Refused with 1, then 2, then 8 with the bytes needed as place. */
+uint32_t javendriky_write_sheet(const uint8_t *parents, size_t parents_len,
+                                const uint8_t *pebbles, size_t pebbles_len,
+                                const uint8_t *targets, size_t targets_len,
+                                uint8_t *sheet, size_t sheet_len);
 
 #ifdef __cplusplus
 }

@@ -1,19 +1,19 @@
--- What the tests of the account call and of the figures say, case by case; that a tree has few pebbles; and of a list of all demands of a tree
--- that its entries are small and their sizes add up to the shortest length.
+-- What the tests of the account call and of the figures say, case by case; and of a list of all demands of a tree that its entries are small and
+-- their sizes add up to the shortest length.
 use mathlib.Core.Path.{_≡_, sym, ap, _∙_}
 use mathlib.Core.List.{List, map}
 use mathlib.Core.Option.{Option, none, some}
-use Prim.Native.Nat.{ℕ, _-_, _*_, _≤_}
-use native.Mathlib.Nat.{zero-add, mul-le-mul}
+use Prim.Native.Nat.{ℕ, _≤_}
+use native.Mathlib.Nat.{zero-add}
 use native.Mathlib.Omega.{arith}
 use lib.ListN.{length, getD}
 use lib.IntN.{ℤ, pos, natAbs}
 use borrow.Author.Tests.{eq-eqb, ne-eqb}
-use Rattle.model.specs.Yard.{Yard, size, maxSize, pebble, sum, demand, imbalance, shortest, pebbleCount, Matched}
+use Rattle.model.specs.Yard.{Yard, size, maxSize, sum, demand, imbalance, shortest, Matched}
 use Rattle.model.specs.Judge.{Fault, fault, judge, Tree}
 use Rattle.model.specs.Calls.{lent, range, demandsFault, figureTests, figureFault}
 use Rattle.model.proofs.Basics.{none-all}
-use Rattle.model.proofs.Sums.{sum-cong, sum-mono, sum-le}
+use Rattle.model.proofs.Sums.{sum-cong}
 use Rattle.model.proofs.Judged.{facts}
 use Rattle.model.proofs.Signed.{demand-size, demand-range}
 use Rattle.model.proofs.Calls.{totals-none, totals-differ}
@@ -59,13 +59,6 @@ module _ (y : Yard) where
   figure-tree e = none-all (figureTests y) e .0
 
   module _ (t : Tree y) where
-    -- no more pebbles than nodes, so the bound is small
-    pub pebbles-few : pebbleCount y ≤ maxSize
-    pebbles-few = omega (arith, facts y t .few, sum-mono (size y) (pebble y) (λ _. 1) (facts y t .pebble-le), sum-le (size y) (λ _. 1) (λ _. omega arith))
-
-    pub bound-small : pebbleCount y * (size y - 1) ≤ maxSize * maxSize
-    bound-small = let few : size y - 1 ≤ maxSize = omega (arith, facts y t .few) in mul-le-mul pebbles-few few
-
     -- a list of all demands
     pub demands-small : {list : List ℤ} → list ≡ map (demand y) (range 0 (size y)) → (length list ≤ maxSize) × ((v : ℕ) → natAbs (getD list v (pos 0)) ≤ maxSize)
     demands-small e = rw e (

@@ -3,13 +3,14 @@
 ghost use mathlib.Core.Path.{_≡_};
 ghost use mathlib.Core.Bool.{cond};
 ghost use Prim.Native.Nat.{_+_, _*_};
-ghost use Rattle.model.specs.Yard.{yardOf};
+ghost use Rattle.model.specs.Yard.{Yard, yardOf};
 ghost use Rattle.model.specs.Judge.{judge};
 ghost use Rattle.model.specs.Push.{push, pushFault, legal, shifted};
 ghost use Rattle.model.specs.Calls.{inC, zeroInC, trialInC, answer, mapAnswer, demandsFault, demandsList, planAnswer, planList, checkFault, checkAnswer, trialAnswer, trialPebbles, boundAnswer, displacedAnswer};
 ghost use Rattle.model.specs.Paper.{paper, paperDone, paperCounted, paperTried};
 ghost use Rattle.planner.specs.Promise.{Promised};
-ghost use Rattle.javendriky.specs.Small.{Row, Small};
+ghost use Rattle.model.specs.Sheets.{reader, readAnswer, filled, writeAnswer, writeList};
+ghost use Rattle.model.proofs.Places.{Row, Small};
 use checker::check::check;
 use checker::trial::trial;
 use demand::call::demands;
@@ -20,6 +21,8 @@ use model::Counted;
 use model::Done;
 use model::Refusal;
 use model::Tried;
+use sheet::reader::read_sheet;
+use sheet::writer::write_sheet;
 use yard::refusal::number;
 use yard::refusal::place;
 use yard::state::push_lists;
@@ -181,4 +184,34 @@ pub extern "C" fn javendriky_excess(
         Checked::Accepted(_, excess) => excess as u32,
         Checked::Refused(r) => refused(r),
     }
+}
+
+// The reader: fills the first entries of three lists of at least 256, and answers how many. Refusals 18, 15, then line by line 1, 16, 17.
+#[no_mangle]
+pub extern "C" fn javendriky_read_sheet(
+    sheet: &[u8],
+    parents: &mut [u8],
+    pebbles: &mut [u8],
+    targets: &mut [u8],
+) -> u32
+    ensures { λ r. ⌜ r ≡ inC (readAnswer (now (sheet .entry)) (now (parents .entry)) (now (pebbles .entry)) (now (targets .entry))) ⌝ }
+    ensures { λ r. ⌜ now (parents .exit) ≡ filled (λ (y : Yard). y .parents) (reader (now (sheet .entry)) (now (parents .entry)) (now (pebbles .entry)) (now (targets .entry))) (now (parents .entry)) ⌝ }
+    ensures { λ r. ⌜ now (pebbles .exit) ≡ filled (λ (y : Yard). y .pebbles) (reader (now (sheet .entry)) (now (parents .entry)) (now (pebbles .entry)) (now (targets .entry))) (now (pebbles .entry)) ⌝ }
+    ensures { λ r. ⌜ now (targets .exit) ≡ filled (λ (y : Yard). y .targets) (reader (now (sheet .entry)) (now (parents .entry)) (now (pebbles .entry)) (now (targets .entry))) (now (targets .entry)) ⌝ }
+{
+    counted(read_sheet(sheet, parents, pebbles, targets))
+}
+
+// The writer: writes the sheet of three lists at the front of its list, and answers its bytes. Refusals 1, 2, 8.
+#[no_mangle]
+pub extern "C" fn javendriky_write_sheet(
+    parents: &[u8],
+    pebbles: &[u8],
+    targets: &[u8],
+    sheet: &mut [u8],
+) -> u32
+    ensures { λ r. ⌜ r ≡ inC (writeAnswer (yardOf (now (parents .entry)) (now (pebbles .entry)) (now (targets .entry))) (now (sheet .entry))) ⌝ }
+    ensures { λ r. ⌜ now (sheet .exit) ≡ writeList (yardOf (now (parents .entry)) (now (pebbles .entry)) (now (targets .entry))) (now (sheet .entry)) ⌝ }
+{
+    counted(write_sheet(parents, pebbles, targets, sheet))
 }

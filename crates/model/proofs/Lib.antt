@@ -23,4 +23,5 @@ pub mod Demand2
 pub mod Trial
 pub mod Lines
 pub mod Sheets
+pub mod Places
 pub mod Worked

@@ -298,3 +298,36 @@ read-cut bs =
 pub program-cut : (input : List ℕ) → program input ≡ sheetOf (planOf (readYard input))
 unfolding program
 program-cut input = ap (λ (a : Answer Yard). sheetOf (planOf a)) (read-cut input)
+
+-- a refused sheet is refused at a line up to 258
+abbrev pub AtLine : Answer Yard → Type 0
+AtLine (answered y) = Unit {0}
+AtLine (refused f) = (0 < f .number) × (f .number ≤ 18) × (f .place ≤ 258)
+
+lines-places : (k v : ℕ) (bs : List ℕ) → v + k ≤ 256 → AtLine (readNodes k v bs)
+unfolding readNodes
+lines-places zero v [] h = tt
+lines-places zero v (b ∷ bs) h = omega arith
+lines-places (suc k) v [] h = tt
+lines-places (suc k) v (b ∷ bs) h = go (nodeLine (b ∷ bs)) (lines-places k (suc v))
+  where
+    go : (o : Option NodeLine) → ((rest : List ℕ) → suc v + k ≤ 256 → AtLine (readNodes k (suc v) rest)) → AtLine (parsed k v o)
+    go none ih = omega arith
+    go (some l) ih = at (eqb (l .node) v)
+      where
+        further : (a : Answer Yard) → AtLine a → AtLine (mapAnswer (withNode l) a)
+        further (answered y) r = tt
+        further (refused f) r = r
+
+        at : (t : Bool) → AtLine (checked k v l t)
+        at true = further (readNodes k (suc v) (l .rest)) (ih (l .rest) (omega arith))
+        at false = omega arith
+
+pub read-places : (bs : List ℕ) → AtLine (readYard bs)
+unfolding readYard
+read-places bs = go (same (take (length header) bs) header) (drop (length header) bs)
+  where
+    go : (t : Bool) (rest : List ℕ) → AtLine (afterHeader t rest)
+    go false rest = omega arith
+    go true [] = omega arith
+    go true (b ∷ rest) = lines-places maxSize 0 (b ∷ rest) (omega arith)

@@ -1,5 +1,5 @@
--- The digits of a number: those of its tenth, and its last. A number below 10 has one, one below 1,000 at most three, and one below 100,000
--- at most five.
+-- The digits of a number: those of its tenth, and its last. A number below 10 has one, one below 1,000 at most three, and one below 1,000,000
+-- at most six.
 use mathlib.Core.Path.{_≡_, refl, sym, ap, _∙_}
 use mathlib.Core.Bool.{Bool, true, false}
 use mathlib.Core.List.{List, [], _∷_, _++_}
@@ -65,5 +65,5 @@ tenth n k f = go (ltb n 10) refl
 pub decimal-short : (n : ℕ) → n < 1_000 → length (decimal n) ≤ 3
 decimal-short n h = tenth n 2 (λ _. tenth (n / 10) 1 (λ _. omega (arith, length-low (n / 10 / 10) (omega arith))))
 
-pub decimal-five : (n : ℕ) → n < 100_000 → length (decimal n) ≤ 5
-decimal-five n h = tenth n 4 (λ _. tenth (n / 10) 3 (λ _. decimal-short (n / 10 / 10) (omega arith)))
+pub decimal-six : (n : ℕ) → n < 1_000_000 → length (decimal n) ≤ 6
+decimal-six n h = tenth n 5 (λ _. tenth (n / 10) 4 (λ _. tenth (n / 10 / 10) 3 (λ _. decimal-short (n / 10 / 10 / 10) (omega arith))))

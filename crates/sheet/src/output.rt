@@ -38,7 +38,7 @@ pub fn put_moves(plan: &[u8], count: usize, out: &mut [u8]) -> usize
 
 // Writes a refusal, its number and its place, at the front of a list, and answers its length.
 pub fn put_refusal(number: usize, place: usize, out: &mut [u8]) -> usize
-    requires { ⌜ (number < 100000) × (place < 100000) × (26 ≤ length (now out)) ⌝ }
+    requires { ⌜ (number < 1_000_000) × (place < 1_000_000) × (28 ≤ length (now out)) ⌝ }
     ensures { λ r. ⌜ r ≡ length (refusalSheet (row number place)) ⌝ }
     ensures { λ r. ⌜ now (out .exit) ≡ overwrite (refusalSheet (row number place)) (now (out .entry)) ⌝ }
 {

@@ -1,7 +1,7 @@
 -- `javendriky_check` answers 0 where `check` accepts, and is refused as `check` is.
 use borrow.Author.Needs.{needs}
 use mathlib.Core.Path.{_∙_}
-use Rattle.javendriky.proofs.Places.{checked, excess-small}
+use Rattle.model.proofs.Places.{checked, excess-small}
 use Rattle.javendriky.proofs.javendriky_check.Statement.{statement}
 use Rattle.javendriky.proofs.javendriky_check.Tie as tie
 

@@ -2,7 +2,7 @@
 use borrow.Author.Needs.{needs}
 use mathlib.Core.Path.{ap, _∙_}
 use Rattle.model.specs.Calls.{inC}
-use Rattle.javendriky.proofs.Places.{displaced-small}
+use Rattle.model.proofs.Places.{displaced-small}
 use Rattle.javendriky.proofs.javendriky_displaced.Statement.{statement}
 use Rattle.javendriky.proofs.javendriky_displaced.Tie as tie
 

@@ -4,7 +4,7 @@ use native.Mathlib.Omega.{arith}
 use Prim.Native.Nat.{ℕ}
 use mathlib.Core.Path.{ap, _∙_}
 use Rattle.model.specs.Calls.{Answer, Verdict, mapAnswer, inC}
-use Rattle.javendriky.proofs.Places.{excess-small}
+use Rattle.model.proofs.Places.{excess-small}
 use Rattle.javendriky.proofs.javendriky_excess.Statement.{statement}
 use Rattle.javendriky.proofs.javendriky_excess.Tie as tie
 

@@ -2,7 +2,7 @@
 use borrow.Author.Needs.{needs}
 use mathlib.Core.Path.{ap, _∙_}
 use Rattle.model.specs.Calls.{inC}
-use Rattle.javendriky.proofs.Places.{length-bound-small}
+use Rattle.model.proofs.Places.{length-bound-small}
 use Rattle.javendriky.proofs.javendriky_length_bound.Statement.{statement}
 use Rattle.javendriky.proofs.javendriky_length_bound.Tie as tie
 

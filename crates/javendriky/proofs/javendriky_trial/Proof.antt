@@ -2,7 +2,7 @@
 use borrow.Author.Needs.{needs}
 use mathlib.Core.Path.{ap, _∙_}
 use Rattle.model.specs.Calls.{Answer, Trial, mapAnswer, inC, trialInC}
-use Rattle.javendriky.proofs.Places.{trial-small}
+use Rattle.model.proofs.Places.{trial-small}
 use Rattle.javendriky.proofs.javendriky_trial.Statement.{statement}
 use Rattle.javendriky.proofs.javendriky_trial.Tie as tie
 

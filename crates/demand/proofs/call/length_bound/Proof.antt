@@ -10,7 +10,8 @@ use Rattle.model.specs.Judge.{Tree}
 use Rattle.model.specs.Calls.{answered, figureFault}
 use Rattle.model.proofs.Judged.{facts}
 use Rattle.yard.proofs.Laws.{sees}
-use Rattle.demand.proofs.Answers.{figure-tree, bound-small}
+use Rattle.model.proofs.Places.{bound-small}
+use Rattle.demand.proofs.Answers.{figure-tree}
 use Rattle.demand.proofs.call.length_bound.Statement.{statement}
 use Rattle.demand.proofs.call.length_bound.Tie as tie
 

@@ -1,9 +1,9 @@
--- `put_refusal` writes the head of 14 bytes and a line of two values, each of at most five digits.
+-- `put_refusal` writes the head of 14 bytes and a line of two values, each of at most six digits.
 use native.Mathlib.Omega.{arith}
 use borrow.Author.Needs.{needs}
 use Rattle.model.specs.Sheets.{text}
 use Rattle.sheet.specs.Written.{Written}
-use Rattle.sheet.proofs.Decimals.{decimal-five}
+use Rattle.sheet.proofs.Decimals.{decimal-six}
 use Rattle.sheet.proofs.Rows.{length-two}
 use Rattle.sheet.proofs.Moves.{refusal-all}
 use Rattle.sheet.proofs.Writing.{written-append, written-as, written-front}
@@ -19,7 +19,7 @@ put-text-requires c κs = search needs
 put-pair-requires : tie.Need-put-pair-requires
 put-pair-requires c κs =
     let a = c .before .before .before .before .before .before .before .args in
-    omega (arith, length-two (a .number) (a .place), decimal-five (a .number) (omega arith), decimal-five (a .place) (omega arith))
+    omega (arith, length-two (a .number) (a .place), decimal-six (a .number) (omega arith), decimal-six (a .place) (omega arith))
 
 same-length : tie.Need-same-length
 same-length c = search needs

@@ -1,28 +1,43 @@
 -- Every answer of the calls is one that a number tells. A place is 0, a node, the number of a move, or the length of the plan: past refusal 1 there
--- are at most 256 nodes, past refusal 9 at most 65,535 moves, and the plan of a tree has at most 65,536. The values are as small.
+-- are at most 256 nodes, past refusal 9 at most 65,535 moves, and the plan of a tree has at most 65,536; of a sheet it is a line up to 258, or its
+-- length. The values are as small.
 use mathlib.Core.Path.{_≡_, refl, ap}
 use mathlib.Core.Bool.{Bool, true, false, not, cond, _&&_, and-eq-true-iff}
 use mathlib.Core.List.{List, [], _∷_}
 use mathlib.Core.Option.{Option, none, some}
 use Prim.Native.Nat.{ℕ, suc, _+_, _-_, _*_, _%_, _≤_, _<_}
+use native.Mathlib.Nat.{mul-le-mul}
 use native.Mathlib.Omega.{arith}
 use lib.ListN.{length, drop, length-take}
 use lib.IntN.{ℤ}
 use lib.Dec.{leb, ltb, eqb}
-use borrow.Author.Tests.{leb-true}
+use borrow.Author.Tests.{leb-true, le-leb}
 use Rattle.model.specs.Yard.{Yard, size, maxSize, parent, pebble, target, full, held, below, roots, pebbleCount, targetCount, Matched}
-use Rattle.model.specs.Judge.{Fault, fault, firstOf, unless, atLowest, rootFault, tests, judge, Tree}
+use Rattle.model.specs.Judge.{Fault, row, fault, firstOf, unless, atLowest, sizeFault, lengthFault, rootFault, tests, judge, Tree}
 use Rattle.model.specs.Push.{Move, adjacent, moveTests, moveFault, pushFault, pushed}
 use Rattle.model.specs.Plan.{plan}
 use Rattle.model.specs.Calls.{Answer, answered, refused, inC, zeroInC, answer, mapAnswer, demandsTests, demandsFault, totalsFault, planTests, planFault, maxPlanBytes, bytesFault, movesOf, movesFault, Verdict, checkTests, checkFault, checkAnswer, within, trialTests, trialFault, trialAnswer, trialInC, figureTests, figureFault, boundAnswer, displacedAnswer}
+use Rattle.model.specs.Sheets.{maxSheetBytes, yardSheet, readYard, reader, readAnswer, writeTests, writeFault, writeAnswer}
 use Rattle.model.proofs.Basics.{All, all-below, none-all, unless-none}
-use Rattle.model.proofs.Sums.{sum-mono}
+use Rattle.model.proofs.Sums.{sum-mono, sum-le}
 use Rattle.model.proofs.Judged.{facts}
 use Rattle.model.proofs.Signed.{shortest-small}
 use Rattle.model.proofs.Calls.{movesOf-half, totals-none, plan-none, figure-matched}
 use Rattle.model.proofs.Demand3.{plan-length}
-use Rattle.demand.proofs.Answers.{pebbles-few, bound-small}
-use Rattle.javendriky.specs.Small.{InTable, Row, Small}
+use Rattle.model.proofs.Sheets.{Bytes, read-write, read-sizes, sheet-length, read-places}
+
+-- a refusal of the table with a small place, and an answer that one number tells: a value below 1,000,000, or such a refusal. So all fits 32 bits,
+-- and value or number and place can be read off again (`tells`)
+abbrev pub InTable : ℕ → Type 0
+InTable n = (0 < n) × (n ≤ 18)
+
+pub record Row (f : Fault) : Type 0 where
+  pub numbered : InTable (f .number)
+  pub placed : f .place < 1_000_000
+
+abbrev pub Small : Answer ℕ → Type 0
+Small (answered n) = n < 1_000_000
+Small (refused f) = Row f
 
 -- a refusal, if there is one, is of the table and has a small place
 pub data Low : Option Fault → Type 0 where
@@ -183,8 +198,47 @@ module _ (y : Yard) where
   pub plan-small : (room : ℕ) → Small (answer (planFault y room) (length (plan y)))
   plan-small room = small _ (plan-low room) (λ e. let h = plan-none y room .0 e in plan-short (h .0) (h .1))
 
+  -- no more pebbles than nodes, so the bound is small
+  pub pebbles-few : Tree y → pebbleCount y ≤ maxSize
+  pebbles-few t = omega (arith, facts y t .few, sum-mono (size y) (pebble y) (λ _. 1) (facts y t .pebble-le), sum-le (size y) (λ _. 1) (λ _. omega arith))
+
+  pub bound-small : Tree y → pebbleCount y * (size y - 1) ≤ maxSize * maxSize
+  bound-small t = let few : size y - 1 ≤ maxSize = omega (arith, facts y t .few) in mul-le-mul (pebbles-few t) few
+
   pub length-bound-small : Small (boundAnswer y)
-  length-bound-small = small _ figure-low (λ e. omega (arith, bound-small y (figure-matched y e .0)))
+  length-bound-small = small _ figure-low (λ e. omega (arith, bound-small (figure-matched y e .0)))
 
   pub displaced-small : Small (displacedAnswer y)
-  displaced-small = small _ figure-low (λ e. omega (arith, pebbles-few y (figure-matched y e .0), sum-mono (size y) (λ v. pebble y v - target y v) (pebble y) (λ v _. omega arith)))
+  displaced-small = small _ figure-low (λ e. omega (arith, pebbles-few (figure-matched y e .0), sum-mono (size y) (λ v. pebble y v - target y v) (pebble y) (λ v _. omega arith)))
+
+-- reading a sheet
+pub read-row : (bs : List ℕ) {f : Fault} → readYard bs ≡ refused f → Row f
+read-row bs e = let l = rw e at (read-places bs) in record { numbered = omega arith; placed = omega arith }
+
+pub read-small : (bs ps cs ts : List ℕ) → Small (readAnswer bs ps cs ts)
+unfolding reader
+read-small bs ps cs ts = go ((leb maxSize (length ps)) && ((leb maxSize (length cs)) && (leb maxSize (length ts))))
+  where
+    said : (a : Answer Yard) → readYard bs ≡ a → Small (mapAnswer size a)
+    said (answered y) e = omega (arith, read-sizes bs y e)
+    said (refused f) e = read-row bs e
+
+    go : (t : Bool) → Small (mapAnswer size (elim t [ true ↦ readYard bs | false ↦ refused (row 18 0) ]))
+    go true = said (readYard bs) refl
+    go false = record { numbered = omega arith; placed = omega arith }
+
+-- writing one, of lists of bytes
+module _ (y : Yard) (ps : Bytes (y .parents)) (cs : Bytes (y .pebbles)) (ts : Bytes (y .targets)) where
+  sheet-short : sizeFault y ≡ none → lengthFault y ≡ none → length (yardSheet y) ≤ maxSheetBytes
+  unfolding writeFault
+  sheet-short a b = sheet-length (yardSheet y) y (read-write y (length (yardSheet y)) (rw (a, b, le-leb (length (yardSheet y)) (length (yardSheet y)) (omega arith))) ps cs ts)
+
+  pub write-small : (list : List ℕ) → Small (writeAnswer y list)
+  unfolding writeFault
+  write-small list = small _ low (λ e. let a = none-all (writeTests y (length list)) e in omega (arith, sheet-short (a .0) (a .1 .0)))
+    where
+      low : Low (writeFault y (length list))
+      low =
+          first (drop 1 (writeTests y (length list))) (once ((ltb 0 (size y)) && (leb (size y) maxSize)) 1 0 (omega arith) (omega arith)) (λ a.
+          first (drop 2 (writeTests y (length list))) (once ((eqb (length (y .pebbles)) (size y)) && (eqb (length (y .targets)) (size y))) 2 0 (omega arith) (omega arith)) (λ b.
+          all (drop 2 (writeTests y (length list))) (once (leb (length (yardSheet y)) (length list)) 8 (length (yardSheet y)) (omega arith) (omega (arith, sheet-short a b)), tt)))
