@@ -10,11 +10,11 @@ use native.Mathlib.Omega.{arith}
 use lib.ListN.{length, take, drop, getD, replicate, length-append, take-append-drop}
 use lib.Seq.{take-nil, take-take, take-append-seam, drop-append-seam}
 use lib.Dec.{leb, ltb, eqb}
-use borrow.Author.Tests.{ltb-true, leb-true, eqb-true, eq-eqb}
+use borrow.Author.Tests.{ltb-true, leb-true, le-leb, eqb-true, eq-eqb}
 use Rattle.model.specs.Yard.{Yard, yardOf, size, maxSize, parent, pebble, target}
 use Rattle.model.specs.Judge.{Fault, row}
 use Rattle.model.specs.Calls.{Answer, answered, refused, mapAnswer, range}
-use Rattle.model.specs.Sheets.{text, digits, decimal, line, lines, header, yardSheet, maxSheetBytes, writeTests, writeFault, cut, same, field, NodeLine, nodeLine, noNode, withNode, readNodes, readYard, judgedBytes, sheetOf, planOf, program}
+use Rattle.model.specs.Sheets.{text, digits, decimal, line, lines, header, yardSheet, maxSheetBytes, writeTests, writeFault, cut, same, field, NodeLine, nodeLine, noNode, withNode, readNodes, readYard, reader, judgedBytes, sheetOf, planOf, program}
 use Rattle.model.proofs.Basics.{none-all, unless-none}
 use Rattle.model.proofs.Lines.{same-true, same-self, nodeText, Begins, nodeText-length, nodeLine-begins, nodeLine-some, cutLine, nodeLine-take}
 
@@ -50,7 +50,7 @@ reads-readNodes : {k v : ℕ} {bs : List ℕ} {y : Yard} → Reads k v bs y → 
 reads-readNodes (end {k} {v}) = readNodes-end k v
 reads-readNodes (next {k} {v} {bs} {l} b e r) = readNodes-next k v bs l (nodeLine-begins b) e ∙ rw (reads-readNodes r)
 
-refused-ne-answered : {A : Type 0} {f : Fault} {a : A} → refused f ≡ answered a → ⊥
+pub refused-ne-answered : {A : Type 0} {f : Fault} {a : A} → refused f ≡ answered a → ⊥
 refused-ne-answered e = let z : _≡_ {A = ℕ} 0 1 = cc in omega arith
 
 answered-injective : {A : Type 0} {a b : A} → answered a ≡ answered b → a ≡ b
@@ -298,6 +298,11 @@ read-cut bs =
 pub program-cut : (input : List ℕ) → program input ≡ sheetOf (planOf (readYard input))
 unfolding program
 program-cut input = ap (λ (a : Answer Yard). sheetOf (planOf a)) (read-cut input)
+
+-- the reader's call, with three lists of at least 256
+pub reader-room : (bs ps cs ts : List ℕ) → maxSize ≤ length ps → maxSize ≤ length cs → maxSize ≤ length ts → reader bs ps cs ts ≡ readYard bs
+unfolding reader
+reader-room bs ps cs ts p c t = rw (le-leb 256 (length ps) p, le-leb 256 (length cs) c, le-leb 256 (length ts) t, reader)
 
 -- a refused sheet is refused at a line up to 258
 abbrev pub AtLine : Answer Yard → Type 0

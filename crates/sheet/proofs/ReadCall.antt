@@ -13,6 +13,7 @@ use Rattle.model.specs.Judge.{Fault, row}
 use Rattle.model.specs.Calls.{Answer, answered, refused}
 use Rattle.model.specs.Sheets.{text, header, same, readNodes, readYard, reader, readAnswer, filled}
 use Rattle.model.proofs.Lines.{same-true}
+use Rattle.model.proofs.Sheets.{reader-room}
 use Rattle.sheet.specs.Written.{Written}
 use Rattle.sheet.specs.Reading.{Full}
 use Rattle.sheet.proofs.Fields.{drop-next}
@@ -67,17 +68,13 @@ module _ (bs ps cs ts : List ℕ) where
       short-targets h = refuses (rw (le-leb 256 (length ps) p, le-leb 256 (length cs) c, lt-leb 256 (length ts) h, reader))
 
       module _ (t : 256 ≤ length ts) where
-        judged : reader bs ps cs ts ≡ readYard bs
-        unfolding reader
-        judged = rw (le-leb 256 (length ps) p, le-leb 256 (length cs) c, le-leb 256 (length ts) t, reader)
-
         pub sheet-refused : {f : Fault} → readYard bs ≡ refused f → Leaves (refused f) ps cs ts
-        sheet-refused e = refuses (judged ∙ e)
+        sheet-refused e = refuses (reader-room bs ps cs ts p c t ∙ e)
 
         pub sheet-read : (n : ℕ) (us vs ws : List ℕ) {i j k : ℕ} {ps' cs' ts' : List ℕ} → n ≤ maxSize → Full us vs ws
             → readYard bs ≡ answered (yardOf (take n us) (take n vs) (take n ws))
             → Written (take n us) 0 ps i ps' → Written (take n vs) 0 cs j cs' → Written (take n ws) 0 ts k ts'
             → Leaves (answered n) ps' cs' ts'
         sheet-read n us vs ws l f e a b d =
-            let r = judged ∙ e in
+            let r = reader-room bs ps cs ts p c t ∙ e in
             (rw (r, length-take-le n us (omega arith)), (rw r (written-front a .1), (rw r (written-front b .1), rw r (written-front d .1))))

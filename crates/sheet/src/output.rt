@@ -2,11 +2,11 @@
 ghost use mathlib.Core.Path.{_≡_};
 ghost use mathlib.Core.List.{[], _∷_};
 ghost use Prim.Native.Nat.{_+_, _*_, _≤_, _<_};
-ghost use lib.ListN.{length, take};
+ghost use lib.ListN.{length};
 ghost use Rattle.model.specs.Judge.{row};
-ghost use Rattle.model.specs.Calls.{movesOf, overwrite};
-ghost use Rattle.model.specs.Sheets.{line, moveSheet, refusalSheet};
-ghost use Rattle.sheet.specs.Written.{Written};
+ghost use Rattle.model.specs.Calls.{overwrite};
+ghost use Rattle.model.specs.Sheets.{line, refusalSheet};
+ghost use Rattle.sheet.specs.Written.{Written, MovesWritten};
 use crate::decimal::put_text;
 use crate::decimal::put_value;
 
@@ -22,8 +22,7 @@ fn put_pair(out: &mut [u8], at: usize, first: usize, second: usize) -> usize
 // Writes the move sheet of the first `count` moves of a plan at the front of a list, and answers its length.
 pub fn put_moves(plan: &[u8], count: usize, out: &mut [u8]) -> usize
     requires { ⌜ (2 * count ≤ length (now plan)) × (8 + 8 * count ≤ length (now out)) ⌝ }
-    ensures { λ r. ⌜ r ≡ length (moveSheet (movesOf (take (2 * count) (now (plan .entry))))) ⌝ }
-    ensures { λ r. ⌜ now (out .exit) ≡ overwrite (moveSheet (movesOf (take (2 * count) (now (plan .entry))))) (now (out .entry)) ⌝ }
+    ensures { λ r. ⌜ MovesWritten (now (plan .entry)) count (now (out .entry)) r (now (out .exit)) ⌝ }
 {
     let mut at = put_text(out, 0, b"from to\n");
     let mut i = 0;

@@ -89,7 +89,8 @@ returns c =
     let s = c .before .before .before .before .before .before .before .before .before in
     let p : Written (text "from to\n") 0 (s .args .out .now) _ _ = c .before .before .before .before .put-text .ensures in
     let e : c .before .loop .i ≡ s .args .count = omega arith in
-    written-front (written-as (moveRows-all (s .args .plan .now) (s .args .count)) (written-append (omega arith) p (written-as (ap (moveRows (s .args .plan .now)) e) (c .before .loop .inv .3))))
+    let w = written-front (written-as (moveRows-all (s .args .plan .now) (s .args .count)) (written-append (omega arith) p (written-as (ap (moveRows (s .args .plan .now)) e) (c .before .loop .inv .3)))) in
+    record { end = w .0; list = w .1 }
 
 pub put-moves-spec : {M : Type 1} → statement M
 put-moves-spec =

@@ -1,0 +1,95 @@
+-- The program, step by step: what a list holds after its front is written; the sheet of a plan, or of the planner's refusal; what was read, or the
+-- reader's refusal.
+use mathlib.Core.Path.{_≡_, refl, sym, ap, _∙_}
+use mathlib.Core.List.{List}
+use Prim.Native.Nat.{ℕ, _*_, _≤_}
+use native.Mathlib.Omega.{arith}
+use lib.ListN.{length, take, replicate, length-append, length-replicate}
+use Rattle.model.specs.Yard.{Yard, yardOf, size, maxSize}
+use Rattle.model.specs.Judge.{Fault, row}
+use Rattle.model.specs.Calls.{Answer, answered, refused, mapAnswer, overwrite, movesOf, planFault, planAnswer, planList}
+use Rattle.model.specs.Plan.{plan}
+use Rattle.model.specs.Sheets.{moveSheet, refusalSheet, programPlanBytes, sheetOf, planOf, readYard, reader, readAnswer, filled, program}
+use Rattle.model.proofs.Calls.{answer-answered, answer-refused, take-overwrite, plan-none}
+use Rattle.model.proofs.Demand3.{written}
+use Rattle.model.proofs.Sheets.{refused-ne-answered, read-sizes, reader-room, program-cut}
+use Rattle.model.proofs.Places.{Row, plan-small, read-row}
+use Rattle.sheet.specs.Written.{MovesWritten}
+use Rattle.moves.specs.Printed.{Printed}
+
+-- a text at the front of a list, known under another name
+pub prints : (text list : List ℕ) {other new : List ℕ} {n : ℕ} → n ≡ length text → new ≡ overwrite text list → text ≡ other → Printed other n new
+prints text list {n = n} e d q = rw (d, ← q) record {
+  whole = e;
+  room = rw length-append (omega arith);
+  front = take-overwrite text list n (sym e);
+}
+
+pub prints-refusal : (f : Fault) (list : List ℕ) {a b n : ℕ} {new : List ℕ} → a ≡ f .number → b ≡ f .place
+    → n ≡ length (refusalSheet (row a b)) → new ≡ overwrite (refusalSheet (row a b)) list → Printed (refusalSheet f) n new
+prints-refusal f list {a} {b} p q e d = prints (refusalSheet (row a b)) list e d (rw (p, q))
+
+-- the first k moves of a list, where k is the number m of all moves of the plan
+pub prints-moves : {ms list new other : List ℕ} {k n : ℕ} (m : ℕ) → MovesWritten ms k list n new → k ≡ m → moveSheet (movesOf (take (2 * m) ms)) ≡ other → Printed other n new
+prints-moves {ms} {list} {k = k} m w h q = prints (moveSheet (movesOf (take (2 * k) ms))) list (w .end) (w .list) (rw h q)
+
+-- the planner's answer, with the program's list
+abbrev pub zeros : List ℕ
+zeros = replicate programPlanBytes 0
+
+pub room : length zeros ≡ programPlanBytes
+room = length-replicate {A = ℕ} programPlanBytes 0
+
+module _ (y : Yard) where
+  pub plan-number : {m : ℕ} → answered m ≡ planAnswer y zeros
+      → (m ≤ 16_384) × ((list : List ℕ) → list ≡ planList y zeros → moveSheet (movesOf (take (2 * m) list)) ≡ sheetOf (planOf (answered y)))
+  plan-number {m} e =
+      let a = answer-answered (planFault y (length zeros)) (length (plan y)) m (sym e) in
+      let q = rw room at (a .0) in
+      (omega (arith, plan-none y (length zeros) .0 (a .0) .2, a .1, room), λ list d. rw (d, written y zeros m (sym e) .1, q))
+
+  pub plan-refused : {f : Fault} → refused f ≡ planAnswer y zeros → Row f × (refusalSheet f ≡ sheetOf (planOf (answered y)))
+  plan-refused {f} e =
+      let a = answer-refused (planFault y (length zeros)) (length (plan y)) f (sym e) in
+      let q = rw room at a in
+      (rw (← e) at (plan-small y (length zeros)), rw q)
+
+-- the reader's answer, with three lists of 256
+abbrev pub blank : List ℕ
+blank = replicate maxSize 0
+
+module _ (bs : List ℕ) where
+  judged : reader bs blank blank blank ≡ readYard bs
+  judged = let l : maxSize ≤ length blank = omega (arith, length-replicate {A = ℕ} maxSize 0) in reader-room bs blank blank blank l l l
+
+  pub record Found (n : ℕ) (ps cs ts : List ℕ) : Type 0 where
+    pub fits : (n ≤ length ps) × (n ≤ length cs) × (n ≤ length ts)
+    pub said : sheetOf (planOf (answered (yardOf (take n ps) (take n cs) (take n ts)))) ≡ program bs
+
+  pub read-number : {n : ℕ} {ps cs ts : List ℕ} → answered n ≡ readAnswer bs blank blank blank
+      → ps ≡ filled (λ (y : Yard). y .parents) (reader bs blank blank blank) blank
+      → cs ≡ filled (λ (y : Yard). y .pebbles) (reader bs blank blank blank) blank
+      → ts ≡ filled (λ (y : Yard). y .targets) (reader bs blank blank blank) blank
+      → Found n ps cs ts
+  read-number {n} {ps} {cs} {ts} e p c t = go (readYard bs) refl (rw judged at e) (rw judged at p) (rw judged at c) (rw judged at t)
+    where
+      go : (r : Answer Yard) → readYard bs ≡ r → answered n ≡ mapAnswer size r
+          → ps ≡ filled (λ (y : Yard). y .parents) r blank → cs ≡ filled (λ (y : Yard). y .pebbles) r blank → ts ≡ filled (λ (y : Yard). y .targets) r blank
+          → Found n ps cs ts
+      go (answered y) q e p c t =
+          let m : n ≡ size y = cc in
+          let s = read-sizes bs y q in
+          record {
+            fits = rw (p, c, t) (simp length-append (omega arith));
+            said = rw (p, c, t, take-overwrite (y .parents) blank n (sym m), take-overwrite (y .pebbles) blank n (omega arith), take-overwrite (y .targets) blank n (omega arith)) (sym (program-cut bs ∙ ap (λ (a : Answer Yard). sheetOf (planOf a)) q));
+          }
+      go (refused f) q e p c t = absurd (refused-ne-answered (sym e))
+
+  pub read-refused : {f : Fault} → refused f ≡ readAnswer bs blank blank blank → Row f × (refusalSheet f ≡ program bs)
+  read-refused {f} e = go (readYard bs) refl (rw judged at e)
+    where
+      go : (r : Answer Yard) → readYard bs ≡ r → refused f ≡ mapAnswer size r → Row f × (refusalSheet f ≡ program bs)
+      go (answered y) q e = absurd (refused-ne-answered e)
+      go (refused g) q e =
+          let h : f ≡ g = cc in
+          rw h (read-row bs q, rw (program-cut bs, q))
