@@ -1,0 +1,240 @@
+//! Every call of the library beside the unrelated planner: one input to both, then answers and all lent lists compared.
+
+use crate::lent::{unwritten, Lender, Lent, Placement};
+use std::cell::Cell;
+use std::fmt;
+use std::ptr;
+use std::sync::atomic::{AtomicPtr, Ordering};
+use unrelated::yard::{Answer, Yard};
+use unrelated::{checker, demands, fast, figures, library, planner, yard};
+
+/// Nothing, or the difference found.
+pub type Same<T = ()> = Result<T, String>;
+
+/// What a call was given.
+pub struct Inputs<'a> {
+    pub call: &'static str,
+    pub yard: &'a Yard,
+    /// The plan or the sheet, where the call has one.
+    pub bytes: &'a [u8],
+    /// Lengths of lists to be written, budget, or nodes of a push.
+    pub numbers: &'a [usize],
+}
+
+impl fmt::Display for Inputs<'_> {
+    fn fmt(&self, f: &mut fmt::Formatter) -> fmt::Result {
+        let Yard { parents, pebbles, targets } = self.yard;
+        writeln!(f, "call {}, numbers {:?}", self.call, self.numbers)?;
+        writeln!(f, "parents {parents:?}\npebbles {pebbles:?}\ntargets {targets:?}\nbytes {:?}", self.bytes)
+    }
+}
+
+/// The inputs of the call that runs now.
+static RUNNING: AtomicPtr<Inputs<'static>> = AtomicPtr::new(ptr::null_mut());
+
+/// Makes a call whose inputs are shown if it touches a page that it must not.
+pub fn during<T>(inputs: &Inputs, call: impl FnOnce() -> T) -> T {
+    RUNNING.store(ptr::from_ref(inputs).cast_mut().cast(), Ordering::Relaxed);
+    let result = call();
+    RUNNING.store(ptr::null_mut(), Ordering::Relaxed);
+    result
+}
+
+/// From now on an access to a page that must not be touched shows the inputs and ends the run.
+pub fn watch_pages() {
+    extern "C" {
+        fn signal(number: i32, handler: extern "C" fn(i32)) -> usize;
+    }
+    extern "C" fn fault(_: i32) {
+        let running = RUNNING.load(Ordering::Relaxed);
+        // SAFETY: the inputs outlive the call, during which this is.
+        match unsafe { running.as_ref() } {
+            Some(inputs) => eprintln!("the library touched memory that was not lent to it:\n{inputs}"),
+            None => eprintln!("a fault outside the library"),
+        }
+        std::process::exit(1);
+    }
+    const SIGBUS: i32 = 7;
+    const SIGSEGV: i32 = 11;
+    // SAFETY: the handler ends the process.
+    unsafe {
+        signal(SIGBUS, fault);
+        signal(SIGSEGV, fault);
+    }
+}
+
+/// Calls both sides; counts the calls, and how often each refusal was met.
+pub struct Caller {
+    pub lender: Lender,
+    pub calls: Cell<u64>,
+    pub refusals: [Cell<u64>; 19],
+}
+
+/// A yard's three lists on loan.
+struct LentYard<'a> {
+    parents: Lent<'a, u8>,
+    pebbles: Lent<'a, u8>,
+    targets: Lent<'a, u8>,
+}
+
+impl LentYard<'_> {
+    fn wrong(&self, expected: &Yard) -> Option<String> {
+        self.wrong_but_for_pebbles(expected, &expected.pebbles)
+    }
+
+    fn wrong_but_for_pebbles(&self, expected: &Yard, pebbles: &[u8]) -> Option<String> {
+        let Yard { parents, targets, .. } = expected;
+        let wrong = self.parents.wrong("parents", parents).or_else(|| self.pebbles.wrong("pebbles", pebbles));
+        wrong.or_else(|| self.targets.wrong("targets", targets))
+    }
+}
+
+/// What a list must hold after a call that writes `front` into it if it accepts.
+pub fn written<T: Copy>(before: &[T], front: &Answer<Vec<T>>) -> Vec<T> {
+    let mut after = before.to_vec();
+    if let Ok(front) = front {
+        after[..front.len()].copy_from_slice(front);
+    }
+    after
+}
+
+impl Caller {
+    pub fn new(placement: Placement) -> Caller {
+        Caller { lender: Lender::new(placement), calls: Cell::new(0), refusals: Default::default() }
+    }
+
+    fn lend(&self, yard: &Yard) -> LentYard<'_> {
+        LentYard {
+            parents: self.lender.lend(&yard.parents),
+            pebbles: self.lender.lend(&yard.pebbles),
+            targets: self.lender.lend(&yard.targets),
+        }
+    }
+
+    /// Compares a call's answers; `wrong` tells what is amiss with the lent lists.
+    pub fn same<T: PartialEq + fmt::Debug>(&self, inputs: &Inputs, got: Answer<T>, expected: Answer<T>, wrong: Option<String>) -> Same {
+        self.calls.set(self.calls.get() + 1);
+        if let Err(refusal) = expected {
+            let met = &self.refusals[refusal.number as usize];
+            met.set(met.get() + 1);
+        }
+        if got != expected {
+            return Err(format!("{inputs}the library answers {got:?}, the unrelated planner {expected:?}"));
+        }
+        match wrong {
+            Some(wrong) => Err(format!("{inputs}{wrong}")),
+            None => Ok(()),
+        }
+    }
+
+    pub fn test_yard(&self, yard: &Yard) -> Same {
+        let inputs = Inputs { call: "test_yard", yard, bytes: &[], numbers: &[] };
+        let lent = self.lend(yard);
+        let got = during(&inputs, || library::test_yard(lent.parents.list(), lent.pebbles.list(), lent.targets.list()));
+        let expected = yard::judge(yard);
+        quick(&inputs, fast::test_yard(&yard.parents, &yard.pebbles, &yard.targets), &expected)?;
+        self.same(&inputs, got, expected, lent.wrong(yard))
+    }
+
+    pub fn demands(&self, yard: &Yard, length: usize) -> Same {
+        let inputs = Inputs { call: "demands", yard, bytes: &[], numbers: &[length] };
+        // No demand that a list of bytes can have.
+        let before: Vec<i16> = (0..length).map(|at| 20_000 + at as i16).collect();
+        let lent = self.lend(yard);
+        let mut list = self.lender.lend(&before);
+        let got = during(&inputs, || library::demands(lent.parents.list(), lent.pebbles.list(), lent.targets.list(), list.list_mut()));
+        let expected = demands::list(yard, length);
+        let wrong = lent.wrong(yard).or_else(|| list.wrong("demands", &written(&before, &expected)));
+        self.same(&inputs, got, expected.map(|_| ()), wrong)
+    }
+
+    pub fn length_bound(&self, yard: &Yard) -> Same {
+        let inputs = Inputs { call: "length_bound", yard, bytes: &[], numbers: &[] };
+        let lent = self.lend(yard);
+        let got = during(&inputs, || library::length_bound(lent.parents.list(), lent.pebbles.list(), lent.targets.list()));
+        self.same(&inputs, got, figures::length_bound(yard), lent.wrong(yard))
+    }
+
+    pub fn displaced(&self, yard: &Yard) -> Same {
+        let inputs = Inputs { call: "displaced", yard, bytes: &[], numbers: &[] };
+        let lent = self.lend(yard);
+        let got = during(&inputs, || library::displaced(lent.parents.list(), lent.pebbles.list(), lent.targets.list()));
+        self.same(&inputs, got, figures::displaced(yard), lent.wrong(yard))
+    }
+
+    /// The planner with a list of `room` bytes.
+    pub fn plan(&self, yard: &Yard, room: usize) -> Same {
+        let inputs = Inputs { call: "plan", yard, bytes: &[], numbers: &[room] };
+        let before = unwritten(room);
+        let lent = self.lend(yard);
+        let mut list = self.lender.lend(&before);
+        let got = during(&inputs, || library::plan(lent.parents.list(), lent.pebbles.list(), lent.targets.list(), list.list_mut()));
+        let expected = planner::plan(yard, room);
+        let after = written(&before, &expected);
+        let moves = expected.map(|plan| plan.len() as u32 / 2);
+        for planner in [fast::plan, fast::plan_with_cursors] {
+            let mut quick_list = before.clone();
+            quick(&inputs, planner(&yard.parents, &yard.pebbles, &yard.targets, &mut quick_list), &moves)?;
+            quick(&inputs, Ok(quick_list), &Ok(after.clone()))?;
+        }
+        self.same(&inputs, got, moves, lent.wrong(yard).or_else(|| list.wrong("plan", &after)))
+    }
+
+    pub fn push(&self, yard: &Yard, from: usize, to: usize) -> Same {
+        let inputs = Inputs { call: "push", yard, bytes: &[], numbers: &[from, to] };
+        let mut lent = self.lend(yard);
+        let got = during(&inputs, || library::push(lent.parents.list(), lent.pebbles.list_mut(), lent.targets.list(), from, to));
+        let expected = checker::push(yard, from, to);
+        let after = written(&yard.pebbles, &expected);
+        self.same(&inputs, got, expected.map(|_| ()), lent.wrong_but_for_pebbles(yard, &after))
+    }
+
+    /// The checker, and the excess, which refuses as it does.
+    pub fn check(&self, yard: &Yard, plan: &[u8]) -> Same {
+        let inputs = Inputs { call: "check", yard, bytes: plan, numbers: &[] };
+        let lent = self.lend(yard);
+        let list = self.lender.lend(plan);
+        let expected = checker::check(yard, plan);
+        let got = during(&inputs, || library::check(lent.parents.list(), lent.pebbles.list(), lent.targets.list(), list.list()));
+        let accepted = expected.map(|_| ());
+        quick(&inputs, fast::check(&yard.parents, &yard.pebbles, &yard.targets, plan), &accepted)?;
+        self.same(&inputs, got, accepted, lent.wrong(yard).or_else(|| list.wrong("plan", plan)))?;
+
+        let inputs = Inputs { call: "excess", ..inputs };
+        let got = during(&inputs, || library::excess(lent.parents.list(), lent.pebbles.list(), lent.targets.list(), list.list()));
+        self.same(&inputs, got, expected.map(|checked| checked.excess), lent.wrong(yard).or_else(|| list.wrong("plan", plan)))
+    }
+
+    pub fn trial(&self, yard: &Yard, plan: &[u8], budget: u16) -> Same {
+        let inputs = Inputs { call: "trial", yard, bytes: plan, numbers: &[usize::from(budget)] };
+        let mut lent = self.lend(yard);
+        let list = self.lender.lend(plan);
+        let got = during(&inputs, || {
+            library::trial(lent.parents.list(), lent.pebbles.list_mut(), lent.targets.list(), list.list(), budget)
+        });
+        let expected = checker::trial(yard, plan, budget);
+        let tried = expected.as_ref().map(|(tried, _)| *tried).map_err(|refusal| *refusal);
+        let after = written(&yard.pebbles, &expected.map(|(_, pebbles)| pebbles));
+        let mut quick_pebbles = yard.pebbles.clone();
+        quick(&inputs, fast::trial(&yard.parents, &mut quick_pebbles, &yard.targets, plan, budget), &tried)?;
+        quick(&inputs, Ok(quick_pebbles), &Ok(after.clone()))?;
+        self.same(&inputs, got, tried, lent.wrong_but_for_pebbles(yard, &after).or_else(|| list.wrong("plan", plan)))
+    }
+
+    /// The calls that take the yard alone.
+    pub fn figures(&self, yard: &Yard) -> Same {
+        self.test_yard(yard)?;
+        self.demands(yard, yard.nodes())?;
+        self.length_bound(yard)?;
+        self.displaced(yard)
+    }
+}
+
+/// The plan written for speed is compared too, as a benchmark against a wrong one would mean nothing.
+fn quick<T: PartialEq + fmt::Debug>(inputs: &Inputs, got: Answer<T>, expected: &Answer<T>) -> Same {
+    if got == *expected {
+        Ok(())
+    } else {
+        Err(format!("{inputs}the fast planner gives {got:?}, the unrelated planner {expected:?}"))
+    }
+}

@@ -1,0 +1,377 @@
+//! The cases, in families. Every family takes its random numbers from a seed of its own, so leaving cases out of one does not change another.
+
+use crate::calls::{Caller, Same};
+use crate::worked::worked;
+use std::ops::RangeInclusive;
+use unrelated::random::Random;
+use unrelated::shapes::{self, Shape};
+use unrelated::yard::{Refusal, Yard};
+use unrelated::{checker, damage, demands, figures, library, planner, shortest, yard};
+
+/// A family tries its cases and tells how many there were.
+pub type Family = fn(&Caller, Thin) -> Same<u64>;
+
+pub const FAMILIES: [(&str, Family); 13] = [
+    ("yards and examples of document 01", |caller, _| worked(caller)),
+    ("every tree up to 5 nodes with all marks, against the search", every_tree),
+    ("6 and 7 nodes, against the search", against_search),
+    ("up to 24 nodes, against the cheapest matching", against_matching),
+    ("6 to 256 nodes in six shapes", all_shapes),
+    ("every three lists up to length 3 with few values", every_list),
+    ("lists with one to three faults", damaged_lists),
+    ("lists that were never legal", noise),
+    ("every plan up to 5 bytes on every yard up to 3 nodes", every_plan),
+    ("plans altered in one to three places, budgets", altered_plans),
+    ("plans about as long as a plan can be", long_plans),
+    ("pushes of any two numbers", pushes),
+    ("empty lists with no address", no_address),
+];
+
+/// The refusals that a full run must have met.
+pub const REFUSALS_MET: RangeInclusive<usize> = 1..=14;
+
+/// How much of each family is tried.
+#[derive(Clone, Copy)]
+pub struct Thin(u64);
+
+impl Thin {
+    pub fn full() -> Thin {
+        Thin(1)
+    }
+
+    pub fn one_of(cases: u64) -> Option<Thin> {
+        (cases > 0).then_some(Thin(cases))
+    }
+
+    pub fn is_full(self) -> bool {
+        self.0 == 1
+    }
+
+    /// Whether the case with this number is tried.
+    fn keeps(self, case: u64) -> bool {
+        case % self.0 == 0
+    }
+
+    /// How many of so many random cases are tried.
+    fn of(self, cases: u64) -> u64 {
+        (cases / self.0).max(1)
+    }
+}
+
+/// All calls on a legal yard with equal totals, the crossings of its plan, and its length against the least number of moves.
+fn solved(caller: &Caller, yard: &Yard, least: u32, random: &mut Random) -> Same {
+    caller.figures(yard)?;
+    let plan = planner::plan(yard, usize::MAX).map_err(|refusal| format!("{yard:?} is refused: {refusal:?}"))?;
+    planned(caller, yard, &plan, random)?;
+    let length = figures::shortest_length(yard);
+    if plan.len() != 2 * least as usize || length != least {
+        return Err(format!("{yard:?}: {} moves, the demands say {length}, the least is {least}", plan.len() / 2));
+    }
+    Ok(())
+}
+
+/// The planner with room enough, just enough or too little, then its plan checked and tried.
+fn planned(caller: &Caller, yard: &Yard, plan: &[u8], random: &mut Random) -> Same {
+    caller.plan(yard, plan.len())?;
+    match random.below(4) {
+        0 => caller.plan(yard, plan.len() + random.within(1, 80))?,
+        1 if !plan.is_empty() => caller.plan(yard, plan.len() - 1)?,
+        2 => caller.plan(yard, random.within(0, plan.len()))?,
+        _ => {}
+    }
+    caller.check(yard, plan)?;
+    caller.trial(yard, plan, random.within(0, plan.len() / 2 + 1) as u16)?;
+    crossings(yard, plan)
+}
+
+/// Demand 3's sentence about edges: each is crossed as often as its demand says, away from the root if that is positive, towards it if negative, and
+/// the pebbles end on the targets. Counted from the bytes alone.
+fn crossings(yard: &Yard, plan: &[u8]) -> Same {
+    let mut downwards = vec![0i16; yard.nodes()];
+    let mut upwards = vec![0i16; yard.nodes()];
+    let mut pebbles = yard.pebbles.clone();
+    for ends in plan.chunks(2) {
+        let (from, to) = (usize::from(ends[0]), usize::from(ends[1]));
+        if yard.parent(to) == from {
+            downwards[to] += 1;
+        } else {
+            upwards[from] += 1;
+        }
+        pebbles.swap(from, to);
+    }
+    let demands = demands::of_tree(yard);
+    let crossed_so = (0..yard.nodes()).all(|v| downwards[v] == demands[v].max(0) && upwards[v] == (-demands[v]).max(0));
+    if !crossed_so || pebbles != yard.targets {
+        return Err(format!("{yard:?}: the plan {plan:?} does not cross the edges as the demands {demands:?} say"));
+    }
+    Ok(())
+}
+
+fn every_tree(caller: &Caller, thin: Thin) -> Same<u64> {
+    let mut random = Random::new(2);
+    let (mut number, mut cases) = (0, 0);
+    for n in 1..=5 {
+        for parents in shapes::every_tree(n) {
+            for pebbles in 0..1usize << n {
+                let marks = |set: usize| -> Vec<u8> { (0..n).map(|node| (set >> node & 1) as u8).collect() };
+                let mut yard = Yard { parents: parents.clone(), pebbles: marks(pebbles), targets: vec![0; n] };
+                let least = shortest::by_search(&yard);
+                for (targets, &least) in least.iter().enumerate() {
+                    number += 1;
+                    if !thin.keeps(number) {
+                        continue;
+                    }
+                    cases += 1;
+                    yard.targets = marks(targets);
+                    searched(caller, &yard, least, &mut random)?;
+                }
+            }
+        }
+    }
+    Ok(cases)
+}
+
+/// A tree with any marks: refused as having no plan exactly if the search found no way.
+fn searched(caller: &Caller, yard: &Yard, least: Option<u32>, random: &mut Random) -> Same {
+    match least {
+        Some(least) => solved(caller, yard, least, random),
+        None => {
+            caller.figures(yard)?;
+            caller.plan(yard, 64)?;
+            if planner::plan(yard, 64) != Err(Refusal { number: 7, place: 0 }) {
+                return Err(format!("{yard:?} has no plan, but is not refused so"));
+            }
+            let plan = damage::wander(yard, 4, random);
+            caller.check(yard, &plan)?;
+            caller.trial(yard, &plan, random.below(6) as u16)
+        }
+    }
+}
+
+fn against_search(caller: &Caller, thin: Thin) -> Same<u64> {
+    let mut random = Random::new(3);
+    let trees = thin.of(600);
+    let mut cases = 0;
+    for _ in 0..trees {
+        let (shape, n) = (random.pick(&Shape::ALL), random.within(6, 7));
+        let mut yard = shapes::yard(shape, n, &mut random);
+        let least = shortest::by_search(&yard);
+        for _ in 0..32 {
+            let k = if random.once_in(8) { random.within(0, n) } else { yard::total(&yard.pebbles) };
+            yard.targets = shapes::marks(n, k, &mut random);
+            searched(caller, &yard, least[shortest::set(&yard.targets)], &mut random)?;
+            cases += 1;
+        }
+    }
+    Ok(cases)
+}
+
+fn against_matching(caller: &Caller, thin: Thin) -> Same<u64> {
+    let mut random = Random::new(4);
+    let cases = thin.of(40_000);
+    for _ in 0..cases {
+        let (shape, n) = (random.pick(&Shape::ALL), random.within(1, 24));
+        let yard = shapes::yard(shape, n, &mut random);
+        solved(caller, &yard, shortest::by_matching(&yard), &mut random)?;
+    }
+    Ok(cases)
+}
+
+fn all_shapes(caller: &Caller, thin: Thin) -> Same<u64> {
+    let mut random = Random::new(5);
+    let cases = thin.of(24_000);
+    for case in 0..cases {
+        let shape = Shape::ALL[case as usize % Shape::ALL.len()];
+        let n = if random.once_in(20) { 256 } else { shapes::size(6, 256, &mut random) };
+        let yard = shapes::yard(shape, n, &mut random);
+        solved(caller, &yard, figures::shortest_length(&yard), &mut random)?;
+    }
+    Ok(cases)
+}
+
+/// All calls on lists of which nothing is known.
+fn any_lists(caller: &Caller, yard: &Yard, random: &mut Random) -> Same {
+    caller.figures(yard)?;
+    caller.demands(yard, (yard.nodes() + 2).saturating_sub(random.below(4)))?;
+    caller.plan(yard, random.pick(&[0, 1, 2, 3, 8, 200]))?;
+    let mut plan: Vec<u8> = (0..random.below(3)).flat_map(|_| damage::any_move(yard, random)).collect();
+    if random.once_in(3) {
+        plan.push(0);
+    }
+    caller.check(yard, &plan)?;
+    caller.trial(yard, &plan, random.below(4) as u16)?;
+    let [from, to] = damage::any_move(yard, random);
+    caller.push(yard, usize::from(from), usize::from(to))
+}
+
+fn every_list(caller: &Caller, thin: Thin) -> Same<u64> {
+    let mut random = Random::new(6);
+    let lists = |values: &[u8]| -> Vec<Vec<u8>> {
+        (0..=3)
+            .flat_map(|length: u32| {
+                let base = values.len();
+                (0..base.pow(length)).map(move |code| (0..length).map(|at| values[code / base.pow(at) % base]).collect())
+            })
+            .collect()
+    };
+    let (mut number, mut cases) = (0, 0);
+    for parents in lists(&[0, 1, 2, 3, 255]) {
+        for pebbles in lists(&[0, 1, 2]) {
+            for targets in lists(&[0, 1, 2]) {
+                number += 1;
+                if thin.keeps(number) {
+                    cases += 1;
+                    let yard = Yard { parents: parents.clone(), pebbles: pebbles.clone(), targets };
+                    any_lists(caller, &yard, &mut random)?;
+                }
+            }
+        }
+    }
+    Ok(cases)
+}
+
+fn damaged_lists(caller: &Caller, thin: Thin) -> Same<u64> {
+    let mut random = Random::new(7);
+    let cases = thin.of(120_000);
+    for _ in 0..cases {
+        let n = if random.once_in(30) { random.within(250, 256) } else { shapes::size(1, 40, &mut random) };
+        let mut yard = shapes::yard(random.pick(&Shape::ALL), n, &mut random);
+        damage::lists(&mut yard, &mut random);
+        any_lists(caller, &yard, &mut random)?;
+    }
+    Ok(cases)
+}
+
+fn noise(caller: &Caller, thin: Thin) -> Same<u64> {
+    let mut random = Random::new(8);
+    let cases = thin.of(200_000);
+    for _ in 0..cases {
+        any_lists(caller, &damage::noise(&mut random), &mut random)?;
+    }
+    Ok(cases)
+}
+
+fn every_plan(caller: &Caller, thin: Thin) -> Same<u64> {
+    let (mut number, mut cases) = (0, 0);
+    for n in 1..=3usize {
+        let plans: Vec<Vec<u8>> = (0..=5)
+            .flat_map(|length: u32| {
+                // The last value names no node.
+                let values = n + 1;
+                (0..values.pow(length)).map(move |code| (0..length).map(|at| (code / values.pow(at) % values) as u8).collect())
+            })
+            // One odd plan of each length is as good as all.
+            .filter(|plan: &Vec<u8>| plan.len() % 2 == 0 || plan.iter().all(|&byte| byte == 0))
+            .collect();
+        for parents in shapes::every_tree(n) {
+            for marks in 0..1usize << (2 * n) {
+                let mark = |at: usize| (marks >> at & 1) as u8;
+                let yard = Yard { parents: parents.clone(), pebbles: (0..n).map(mark).collect(), targets: (n..2 * n).map(mark).collect() };
+                for plan in &plans {
+                    number += 1;
+                    if thin.keeps(number) {
+                        cases += 1;
+                        caller.check(&yard, plan)?;
+                        caller.trial(&yard, plan, (number % 4) as u16)?;
+                    }
+                }
+            }
+        }
+    }
+    Ok(cases)
+}
+
+fn altered_plans(caller: &Caller, thin: Thin) -> Same<u64> {
+    let mut random = Random::new(9);
+    let cases = thin.of(120_000);
+    for _ in 0..cases {
+        let n = if random.once_in(40) { random.within(200, 256) } else { shapes::size(1, 30, &mut random) };
+        let yard = shapes::yard(random.pick(&Shape::ALL), n, &mut random);
+        let mut plan = planner::plan(&yard, usize::MAX).map_err(|refusal| format!("{yard:?} is refused: {refusal:?}"))?;
+        if random.once_in(4) {
+            let most = random.below(200);
+            plan = damage::wander(&yard, most, &mut random);
+        }
+        damage::plan(&mut plan, &yard, &mut random);
+        caller.check(&yard, &plan)?;
+        for budget in [random.within(0, plan.len() / 2 + 2), random.pick(&[0, 1, 65_534, 65_535])] {
+            caller.trial(&yard, &plan, budget.min(65_535) as u16)?;
+        }
+    }
+    Ok(cases)
+}
+
+/// One pebble goes to and fro between two nodes, for as many bytes as a plan may have and some more or fewer.
+fn long_plans(caller: &Caller, _: Thin) -> Same<u64> {
+    let mut cases = 0;
+    for target in [0, 1] {
+        let yard = Yard { parents: vec![0, 0], pebbles: vec![1, 0], targets: vec![1 - target, target] };
+        for length in checker::MAX_PLAN_BYTES - 5..=checker::MAX_PLAN_BYTES + 5 {
+            let plan: Vec<u8> = [0, 1, 1, 0].into_iter().cycle().take(length).collect();
+            caller.check(&yard, &plan)?;
+            for budget in [0, 1, 40_000, 65_534, 65_535] {
+                caller.trial(&yard, &plan, budget)?;
+                cases += 1;
+            }
+        }
+    }
+    Ok(cases)
+}
+
+fn pushes(caller: &Caller, thin: Thin) -> Same<u64> {
+    let mut random = Random::new(11);
+    let cases = thin.of(150_000);
+    for _ in 0..cases {
+        let n = if random.once_in(20) { 256 } else { shapes::size(1, 20, &mut random) };
+        let mut yard = shapes::yard(random.pick(&Shape::ALL), n, &mut random);
+        if random.once_in(10) {
+            damage::lists(&mut yard, &mut random);
+        }
+        let [a, b] = damage::any_move(&yard, &mut random);
+        let mut number = |near: u8| match random.below(12) {
+            0 => yard.nodes(),
+            1 => random.below(yard.nodes() + 3),
+            // A node once the high bytes are lost.
+            2 => usize::from(near) + (1 << random.pick(&[8, 16, 31, 32, 33, 63])),
+            3 => usize::MAX - random.below(3),
+            _ => usize::from(near),
+        };
+        let (from, to) = (number(a), number(b));
+        caller.push(&yard, from, to)?;
+    }
+    Ok(cases)
+}
+
+/// The header allows NULL for a list of length 0, which no list of Rust's is.
+fn no_address(_: &Caller, _: Thin) -> Same<u64> {
+    use std::ptr::{null, null_mut};
+    let (parents, one, zero) = ([0u8], [1u8], [0u8]);
+    // SAFETY: lengths are 0 where there is no address, else those of the arrays.
+    let answers = unsafe {
+        use library::raw::*;
+        [
+            ("plan", javendriky_plan(null(), 0, null(), 0, null(), 0, null_mut(), 0), 1_000_000),
+            ("test_yard", javendriky_test_yard(null(), 0, null(), 0, null(), 0), 1_000_000),
+            ("demands", javendriky_demands(null(), 0, null(), 0, null(), 0, null_mut(), 0), 1_000_000),
+            ("length_bound", javendriky_length_bound(null(), 0, null(), 0, null(), 0), 1_000_000),
+            ("displaced", javendriky_displaced(null(), 0, null(), 0, null(), 0), 1_000_000),
+            ("push", javendriky_push(null(), 0, null_mut(), 0, null(), 0, 0, 0), 1_000_000),
+            ("check", javendriky_check(null(), 0, null(), 0, null(), 0, null(), 0), 1_000_000),
+            ("excess", javendriky_excess(null(), 0, null(), 0, null(), 0, null(), 0), 1_000_000),
+            ("trial", javendriky_trial(null(), 0, null_mut(), 0, null(), 0, null(), 0, 0), 1_000_000),
+            ("test_yard", javendriky_test_yard(parents.as_ptr(), 1, null(), 0, zero.as_ptr(), 1), 2_000_000),
+            ("plan", javendriky_plan(parents.as_ptr(), 1, one.as_ptr(), 1, one.as_ptr(), 1, null_mut(), 0), 0),
+            ("demands", javendriky_demands(parents.as_ptr(), 1, one.as_ptr(), 1, one.as_ptr(), 1, null_mut(), 0), 2_000_000),
+            ("check", javendriky_check(parents.as_ptr(), 1, one.as_ptr(), 1, one.as_ptr(), 1, null(), 0), 0),
+            ("excess", javendriky_excess(parents.as_ptr(), 1, one.as_ptr(), 1, one.as_ptr(), 1, null(), 0), 0),
+            ("check", javendriky_check(parents.as_ptr(), 1, one.as_ptr(), 1, zero.as_ptr(), 1, null(), 0), 7_000_000),
+        ]
+    };
+    for (call, got, expected) in answers {
+        if got != expected {
+            return Err(format!("{call} with lists of no address: {got}, must be {expected}"));
+        }
+    }
+    Ok(answers.len() as u64)
+}
+

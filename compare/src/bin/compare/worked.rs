@@ -1,0 +1,124 @@
+//! The yards and examples that document 01 works by hand: the unrelated planner against its words, and the library against the unrelated planner.
+
+use crate::calls::{Caller, Same};
+use std::fmt::Debug;
+use unrelated::checker::{check, push, trial, Checked, Tried};
+use unrelated::demands;
+use unrelated::planner::plan;
+use unrelated::random::Random;
+use unrelated::shapes::{far, Shape};
+use unrelated::sheet::{self, program};
+use unrelated::yard::{judge, refuse, Answer, Yard};
+
+const ANY: usize = usize::MAX;
+
+fn yard(parents: &[u8], pebbles: &[u8], targets: &[u8]) -> Yard {
+    Yard { parents: parents.to_vec(), pebbles: pebbles.to_vec(), targets: targets.to_vec() }
+}
+
+struct Worked<'a> {
+    caller: &'a Caller,
+    cases: u64,
+}
+
+impl Worked<'_> {
+    fn is<T: PartialEq + Debug>(&mut self, name: &str, got: T, expected: T) -> Same {
+        self.cases += 1;
+        if got == expected {
+            Ok(())
+        } else {
+            Err(format!("{name}: document 01 says {expected:?}, the unrelated planner {got:?}"))
+        }
+    }
+
+    fn plan(&mut self, name: &str, yard: &Yard, room: usize, expected: Answer<&[u8]>) -> Same {
+        self.is(name, plan(yard, room), expected.map(<[u8]>::to_vec))?;
+        self.caller.figures(yard)?;
+        self.caller.plan(yard, room.min(40_000))
+    }
+
+    fn check(&mut self, name: &str, yard: &Yard, moves: &[u8], expected: Answer<Checked>) -> Same {
+        self.is(name, check(yard, moves), expected)?;
+        self.caller.check(yard, moves)
+    }
+
+    fn trial(&mut self, name: &str, yard: &Yard, moves: &[u8], budget: u16, expected: Answer<(Tried, Vec<u8>)>) -> Same {
+        self.is(name, trial(yard, moves, budget), expected)?;
+        self.caller.trial(yard, moves, budget)
+    }
+
+    fn push(&mut self, name: &str, yard: &Yard, from: usize, to: usize, expected: Answer<Vec<u8>>) -> Same {
+        self.is(name, push(yard, from, to), expected)?;
+        self.caller.push(yard, from, to)
+    }
+}
+
+pub fn worked(caller: &Caller) -> Same<u64> {
+    let mut w = Worked { caller, cases: 0 };
+
+    let a = yard(&[0, 0, 0, 1, 1], &[0, 1, 0, 1, 0], &[0, 0, 1, 0, 1]);
+    let a_plan = [1, 0, 0, 2, 3, 1, 1, 4];
+    w.is("A, demands", demands::of_tree(&a), vec![0, -1, 1, -1, 1])?;
+    w.plan("A", &a, ANY, Ok(&a_plan))?;
+    w.is("A, printed", program(&sheet::unjudged(&a)), b"from to\n1 0\n0 2\n3 1\n1 4\n".to_vec())?;
+
+    let b = yard(&[0, 0, 1], &[1, 1, 0], &[0, 1, 1]);
+    let b_plan = [1, 2, 0, 1];
+    w.plan("B", &b, ANY, Ok(&b_plan))?;
+
+    w.plan("C, pebble and target", &yard(&[0], &[1], &[1]), ANY, Ok(&[]))?;
+    w.plan("C, neither", &yard(&[0], &[0], &[0]), ANY, Ok(&[]))?;
+
+    let d = yard(&[0, 0], &[1, 0], &[1, 0]);
+    w.plan("D", &d, ANY, Ok(&[]))?;
+    w.check("D, there and back", &d, &[0, 1, 1, 0], Ok(Checked { moves: 2, excess: 2 }))?;
+
+    w.plan("E, 7 bytes", &a, 7, refuse(8, 4))?;
+    w.plan("E, 8 bytes", &a, 8, Ok(&a_plan))?;
+
+    w.trial("F, budget 0", &b, &b_plan, 0, Ok((Tried { taken: 0, budget_ended: true }, b.pebbles.clone())))?;
+    w.trial("F, budget 2", &b, &b_plan, 2, Ok((Tried { taken: 2, budget_ended: false }, b.targets.clone())))?;
+
+    w.check("G", &b, &[0, 1], refuse(13, 0))?;
+
+    let i = far(Shape::Line, 256, &mut Random::new(0));
+    w.is("I, moves", plan(&i, 32_768).map(|plan| plan.len() / 2), Ok(16_384))?;
+    w.plan("I, 32,767 bytes", &i, 32_767, refuse(8, 16_384))?;
+    caller.plan(&i, 32_768)?;
+
+    // The table of refusals, with H among them.
+    let two = |pebbles: &[u8], targets: &[u8]| yard(&[0, 0], pebbles, targets);
+    for (lists, number, place) in [
+        (yard(&[], &[], &[]), 1, 0),
+        (yard(&[0, 0], &[1], &[0, 0]), 2, 0),
+        (two(&[0, 2], &[0, 0]), 3, 1),
+        (yard(&[0, 2], &[0, 0], &[0, 0]), 4, 1),
+        (yard(&[0, 1], &[0, 0], &[0, 0]), 5, 1),
+        (yard(&[0, 2, 1], &[0, 0, 0], &[0, 0, 0]), 6, 1),
+    ] {
+        w.is(&format!("refusal {number}"), judge(&lists), refuse(number, place))?;
+        caller.figures(&lists)?;
+    }
+    w.plan("refusal 7", &two(&[1, 0], &[1, 1]), ANY, refuse(7, 0))?;
+    let away = two(&[1, 0], &[0, 1]);
+    w.plan("refusal 8", &away, 1, refuse(8, 1))?;
+    w.check("refusal 9", &away, &[0, 1, 1], refuse(9, 0))?;
+    w.check("refusal 10", &away, &[0, 2], refuse(10, 0))?;
+    w.check("refusal 11", &away, &[0, 0], refuse(11, 0))?;
+    w.check("refusal 12", &two(&[0, 1], &[0, 1]), &[0, 1], refuse(12, 0))?;
+    w.check("refusal 13", &two(&[1, 1], &[1, 1]), &[0, 1], refuse(13, 0))?;
+    w.check("refusal 14", &away, &[], refuse(14, 1))?;
+    w.push("push", &away, 0, 1, Ok(vec![0, 1]))?;
+    w.push("push, refusal 10", &away, 0, 2, refuse(10, 0))?;
+
+    let header = "berth parent car target\n";
+    let longest = yard(&[255; 256], &[255; 256], &[255; 256]);
+    w.is("the longest sheet", sheet::write(&longest, ANY).map(|sheet| sheet.len()), Ok(sheet::MAX_SHEET_BYTES))?;
+    w.is("refusal 1 of a sheet", sheet::read(header.as_bytes(), [256; 3]), refuse(1, 2))?;
+    w.is("refusal 1 of a long sheet", sheet::read(&[&sheet::unjudged(&longest)[..], b"2"].concat(), [256; 3]), refuse(1, 258))?;
+    w.is("refusal 15", sheet::read(b"berth parent", [256; 3]), refuse(15, 1))?;
+    w.is("refusal 16", sheet::read(format!("{header}0 00 1 1\n").as_bytes(), [256; 3]), refuse(16, 2))?;
+    w.is("refusal 17", sheet::read(format!("{header}1 0 1 1\n").as_bytes(), [256; 3]), refuse(17, 2))?;
+    w.is("refusal 18", sheet::read(b"", [256, 255, 256]), refuse(18, 0))?;
+    Ok(w.cases)
+}

@@ -1,0 +1,225 @@
+//! Lists, plans and sheets spoilt in one place or several: what a hand, a bad wire or an attacker makes of legal ones.
+
+use crate::checker::MAX_PLAN_BYTES;
+use crate::random::Random;
+use crate::yard::{Yard, MAX_NODES};
+
+/// A number of nodes that the library does not take, or at its edge.
+fn odd_length(random: &mut Random) -> usize {
+    match random.below(6) {
+        0 => 0,
+        1 => MAX_NODES,
+        2 => MAX_NODES + 1,
+        3 => random.within(MAX_NODES + 1, 3 * MAX_NODES),
+        _ => random.below(10),
+    }
+}
+
+/// A value above 1, often at an edge of a byte.
+fn high_mark(random: &mut Random) -> u8 {
+    match random.below(3) {
+        0 => 2,
+        1 => 255,
+        _ => random.within(2, 255) as u8,
+    }
+}
+
+/// A yard with one to three faults, each of a kind that one of refusals 1 to 7 names.
+pub fn lists(yard: &mut Yard, random: &mut Random) {
+    for _ in 0..random.within(1, 3) {
+        let n = yard.nodes();
+        let any = |list: &[u8], random: &mut Random| random.below(list.len().max(1));
+        match random.below(9) {
+            // 1: all lists of another length.
+            0 if random.once_in(2) => {
+                let length = odd_length(random);
+                for list in [&mut yard.parents, &mut yard.pebbles, &mut yard.targets] {
+                    list.resize(length, 0);
+                }
+            }
+            // 2: one list of another length.
+            0 | 1 => {
+                let length = if random.once_in(3) { odd_length(random) } else { (n + random.pick(&[1, 2])).saturating_sub(random.below(4)) };
+                let list = random.below(3);
+                [&mut yard.parents, &mut yard.pebbles, &mut yard.targets][list].resize(length, 0);
+            }
+            // 3: a mark above 1.
+            2 | 3 => {
+                let list = if random.once_in(2) { &mut yard.pebbles } else { &mut yard.targets };
+                let node = any(list, random);
+                if let Some(mark) = list.get_mut(node) {
+                    *mark = high_mark(random);
+                }
+            }
+            // 4: a parent outside.
+            4 => {
+                let node = any(&yard.parents, random);
+                if let Some(parent) = yard.parents.get_mut(node) {
+                    *parent = random.within(n.min(255), 255) as u8;
+                }
+            }
+            // 5: a second root, or the root hung from another node.
+            5 => {
+                let node = any(&yard.parents, random);
+                if let Some(parent) = yard.parents.get_mut(node) {
+                    *parent = node as u8;
+                }
+            }
+            6 => {
+                if let Some(root) = (0..n.min(MAX_NODES)).find(|&node| yard.is_root(node)) {
+                    yard.parents[root] = random.below(n) as u8;
+                }
+            }
+            // 6: a node hung from any other, perhaps from one below it.
+            7 => {
+                let node = any(&yard.parents, random);
+                if let Some(parent) = yard.parents.get_mut(node) {
+                    *parent = random.below(n) as u8;
+                }
+            }
+            // 7: one pebble or target more or less.
+            _ => {
+                let list = if random.once_in(2) { &mut yard.pebbles } else { &mut yard.targets };
+                let node = any(list, random);
+                if let Some(mark) = list.get_mut(node) {
+                    *mark ^= 1;
+                }
+            }
+        }
+    }
+}
+
+/// A small yard of lists that were never legal.
+pub fn noise(random: &mut Random) -> Yard {
+    let n = random.below(7);
+    let top = random.pick(&[n.max(1), n.max(1), n.max(1) + 1, 256]);
+    let mark_top = random.pick(&[2, 2, 2, 3, 256]);
+    let mut list = |length: usize, top: usize| -> Vec<u8> { (0..length).map(|_| random.below(top) as u8).collect() };
+    Yard { parents: list(n, top), pebbles: list(n, mark_top), targets: list(n, mark_top) }
+}
+
+/// A move of the yard along some edge if there is one, legal or not; else any two bytes.
+pub fn any_move(yard: &Yard, random: &mut Random) -> [u8; 2] {
+    if yard.nodes() == 0 || random.once_in(5) {
+        return [random.byte(), random.byte()];
+    }
+    let node = random.below(yard.nodes());
+    let (child, parent) = (node as u8, yard.parents[node]);
+    if random.once_in(2) {
+        [child, parent]
+    } else {
+        [parent, child]
+    }
+}
+
+/// Legal moves from a tree's pebbles, at most `most` of them, going nowhere.
+pub fn wander(yard: &Yard, most: usize, random: &mut Random) -> Vec<u8> {
+    let mut pebbles = yard.pebbles.clone();
+    let mut plan = Vec::new();
+    for _ in 0..most {
+        let [from, to] = any_move(yard, random);
+        let (at, next) = (usize::from(from), usize::from(to));
+        let inside = at < yard.nodes() && next < yard.nodes();
+        if inside && (yard.parents[at] == to || yard.parents[next] == from) && pebbles[at] == 1 && pebbles[next] == 0 {
+            pebbles.swap(at, next);
+            plan.extend([from, to]);
+        }
+    }
+    plan
+}
+
+/// A plan altered in up to three places.
+pub fn plan(plan: &mut Vec<u8>, yard: &Yard, random: &mut Random) {
+    for _ in 0..random.within(1, 3) {
+        let moves = plan.len() / 2;
+        let place = random.below(moves.max(1));
+        match random.below(9) {
+            // Two moves change places.
+            0 if moves > 1 => {
+                let other = random.below(moves);
+                plan.swap(2 * place, 2 * other);
+                plan.swap(2 * place + 1, 2 * other + 1);
+            }
+            1 if moves > 0 => drop(plan.drain(2 * place..2 * place + 2)),
+            2 => drop(plan.splice(2 * place..2 * place, any_move(yard, random))),
+            // There and back again: legal, and spare, where the move is.
+            3 => {
+                let [from, to] = any_move(yard, random);
+                plan.splice(2 * place..2 * place, [from, to, to, from]);
+            }
+            4 if moves > 0 => {
+                let at = random.below(plan.len());
+                plan[at] = random.byte();
+            }
+            // One byte off by one: often another node of the yard.
+            5 if moves > 0 => {
+                let at = random.below(plan.len());
+                plan[at] ^= 1;
+            }
+            6 if moves > 0 => plan.swap(2 * place, 2 * place + 1),
+            // Odd.
+            7 if random.once_in(4) => plan.push(random.byte()),
+            // Too long, or just not.
+            8 if random.once_in(200) => {
+                let length = MAX_PLAN_BYTES + random.below(5) - 2;
+                let edge = any_move(yard, random);
+                let tail = plan.len();
+                plan.resize(length, 0);
+                for (at, byte) in plan.iter_mut().enumerate().skip(tail) {
+                    *byte = edge[(at - tail + (at - tail) / 2 % 2) % 2];
+                }
+            }
+            _ => plan.truncate(random.below(plan.len() + 1)),
+        }
+    }
+}
+
+/// A sheet altered in up to three places, as an editor or a bad copy would.
+pub fn sheet(sheet: &mut Vec<u8>, random: &mut Random) {
+    for _ in 0..random.within(1, 3) {
+        let at = random.below(sheet.len().max(1)).min(sheet.len());
+        let lines: Vec<usize> = (0..sheet.len()).filter(|&at| sheet[at] == b'\n').collect();
+        // The beginning of some word, where there is one.
+        let word = (at..sheet.len()).find(|&at| sheet[at].is_ascii_digit() && (at == 0 || !sheet[at - 1].is_ascii_digit()));
+        match random.below(13) {
+            0 if at < sheet.len() => sheet[at] = random.byte(),
+            1 if at < sheet.len() => sheet[at] = random.pick(b"0123456789 \n\r\t-+/:"),
+            2 if at < sheet.len() => drop(sheet.remove(at)),
+            3 => sheet.insert(at, random.byte()),
+            4 => sheet.insert(at, random.pick(b"0123456789 \n\r")),
+            5 => sheet.truncate(at),
+            // Leading zeros, and values at the edge of a byte.
+            6 => {
+                if let Some(at) = word {
+                    sheet.insert(at, b'0');
+                }
+            }
+            7 | 8 => {
+                if let Some(at) = word {
+                    let end = (at..sheet.len()).find(|&at| !sheet[at].is_ascii_digit()).unwrap_or(sheet.len());
+                    let value = random.pick(&["255", "256", "257", "260", "300", "999", "1000", "4294967296", "18446744073709551616", "00", "1", "2"]);
+                    sheet.splice(at..end, value.bytes());
+                }
+            }
+            // Line ends of another kind.
+            9 => {
+                let crlf = sheet.iter().flat_map(|&byte| if byte == b'\n' { vec![b'\r', b'\n'] } else { vec![byte] }).collect();
+                *sheet = crlf;
+            }
+            10 if !lines.is_empty() => {
+                sheet.pop();
+            }
+            // A line twice, or left out.
+            11 if lines.len() > 1 => {
+                let line = random.below(lines.len() - 1);
+                let text = sheet[lines[line] + 1..=lines[line + 1]].to_vec();
+                sheet.splice(lines[line] + 1..lines[line] + 1, text);
+            }
+            _ if lines.len() > 1 => {
+                let line = random.below(lines.len() - 1);
+                sheet.drain(lines[line] + 1..=lines[line + 1]);
+            }
+            _ => sheet.push(b'\n'),
+        }
+    }
+}

@@ -1,0 +1,264 @@
+//! Test, planner, checker and trial once more, written for speed: no list is asked for from the heap, children stand side by side in rising number,
+//! each demand is kept and changed by one when its edge is crossed. The benchmark sets the library beside these.
+
+use crate::checker::{Tried, MAX_PLAN_BYTES};
+use crate::yard::{refuse, Answer, Refusal, MAX_NODES};
+
+/// Refusals 1 to 6.
+pub fn test_yard(parents: &[u8], pebbles: &[u8], targets: &[u8]) -> Answer<()> {
+    fold_up(parents, pebbles, targets, |_, _| {})?;
+    Ok(())
+}
+
+/// Refusals 1 to 8; writes the plan at the front of the list and answers its moves.
+pub fn plan(parents: &[u8], pebbles: &[u8], targets: &[u8], list: &mut [u8]) -> Answer<u32> {
+    plan_by::<false>(parents, pebbles, targets, list)
+}
+
+/// The same plan, but each node keeps where its last pick was: demands only go towards 0, so the next pick is never before it. This is what Lemma 20
+/// of the source does with lists, and takes constant time a move however many children a node has.
+pub fn plan_with_cursors(parents: &[u8], pebbles: &[u8], targets: &[u8], list: &mut [u8]) -> Answer<u32> {
+    plan_by::<true>(parents, pebbles, targets, list)
+}
+
+/// Refusals 1 to 7, 9, 10 to 13 for each move, 14.
+pub fn check(parents: &[u8], pebbles: &[u8], targets: &[u8], plan: &[u8]) -> Answer<()> {
+    test_yard(parents, pebbles, targets)?;
+    let total = |marks: &[u8]| -> u32 { marks.iter().map(|&mark| u32::from(mark)).sum() };
+    if total(pebbles) != total(targets) {
+        return refuse(7, 0);
+    }
+    let pebbles = &mut copy(pebbles)[..pebbles.len()];
+    obey(parents, pebbles, whole_moves(plan)?)?;
+    match pebbles.iter().zip(targets).position(|(&pebble, &target)| target > pebble) {
+        Some(node) => refuse(14, node),
+        None => Ok(()),
+    }
+}
+
+/// Refusals 1 to 6, 9, 10 to 13 for each move obeyed; writes the pebbles when all are accepted.
+pub fn trial(parents: &[u8], pebbles: &mut [u8], targets: &[u8], plan: &[u8], budget: u16) -> Answer<Tried> {
+    test_yard(parents, pebbles, targets)?;
+    let plan = whole_moves(plan)?;
+    let moves = plan.len() / 2;
+    let taken = moves.min(usize::from(budget));
+    let after = &mut copy(pebbles)[..pebbles.len()];
+    obey(parents, after, &plan[..2 * taken])?;
+    pebbles.copy_from_slice(after);
+    Ok(Tried { taken: taken as u32, budget_ended: taken < moves })
+}
+
+/// Tests the yard, and on the way calls `add` with each node and its parent, children first. Answers the root.
+fn fold_up(parents: &[u8], pebbles: &[u8], targets: &[u8], mut add: impl FnMut(usize, usize)) -> Answer<usize> {
+    let n = parents.len();
+    if n == 0 || n > MAX_NODES {
+        return refuse(1, 0);
+    }
+    if pebbles.len() != n || targets.len() != n {
+        return refuse(2, 0);
+    }
+    for marks in [pebbles, targets] {
+        if let Some(node) = marks.iter().position(|&mark| mark > 1) {
+            return refuse(3, node);
+        }
+    }
+    if let Some(node) = parents.iter().position(|&parent| usize::from(parent) >= n) {
+        return refuse(4, node);
+    }
+    let mut root = None;
+    let mut children_left = [0u16; MAX_NODES];
+    for (node, &parent) in parents.iter().enumerate() {
+        if usize::from(parent) != node {
+            children_left[usize::from(parent)] += 1;
+        } else if root.replace(node).is_some() {
+            return refuse(5, node);
+        }
+    }
+    let Some(root) = root else {
+        return refuse(5, 0);
+    };
+    let mut added = 1;
+    for leaf in 0..n {
+        // Upwards from each leaf, as far as no child is missing. A node passed on the way is not taken for a leaf later: its count then is gone.
+        let mut node = leaf;
+        while children_left[node] == 0 && node != root {
+            let parent = usize::from(parents[node]);
+            add(node, parent);
+            added += 1;
+            children_left[node] = u16::MAX;
+            children_left[parent] -= 1;
+            node = parent;
+        }
+    }
+    if added < n {
+        return refuse(6, lowest_lost(parents, root));
+    }
+    Ok(root)
+}
+
+/// The lowest node from which climbing never reaches the root; there is one.
+#[cold]
+fn lowest_lost(parents: &[u8], root: usize) -> usize {
+    let climb = |node| (0..parents.len()).fold(node, |at, _| usize::from(parents[at]));
+    (0..parents.len()).find(|&node| climb(node) != root).unwrap_or(0)
+}
+
+fn plan_by<const CURSORS: bool>(parents: &[u8], pebbles: &[u8], targets: &[u8], list: &mut [u8]) -> Answer<u32> {
+    let mut demand = [0i16; MAX_NODES];
+    for ((demand, &target), &pebble) in demand.iter_mut().zip(targets).zip(pebbles) {
+        *demand = i16::from(target) - i16::from(pebble);
+    }
+    let root = fold_up(parents, pebbles, targets, |node, parent| demand[parent] += demand[node])?;
+    if demand[root] != 0 {
+        return refuse(7, 0);
+    }
+    let moves: u32 = demand.iter().map(|demand| u32::from(demand.unsigned_abs())).sum();
+    if list.len() < 2 * moves as usize {
+        return refuse(8, moves as usize);
+    }
+    let (start, children) = children(parents, root);
+    let mut state = State::<CURSORS> {
+        positive_from: start,
+        negative_from: start,
+        start,
+        children,
+        demand,
+        pebble: copy(pebbles).map(|mark| mark == 1),
+        list,
+        written: 0,
+    };
+    state.balance(root);
+    Ok(moves)
+}
+
+/// The children of node u are entries `start[u]` to `start[u + 1]` − 1 of the second list, in rising number.
+fn children(parents: &[u8], root: usize) -> ([u16; MAX_NODES + 1], [u8; MAX_NODES]) {
+    let mut start = [0; MAX_NODES + 1];
+    let mut children = [0; MAX_NODES];
+    for (node, &parent) in parents.iter().enumerate() {
+        start[usize::from(parent) + 1] += u16::from(node != root);
+    }
+    for node in 0..MAX_NODES {
+        start[node + 1] += start[node];
+    }
+    let mut next = start;
+    for (node, &parent) in parents.iter().enumerate() {
+        if node != root {
+            let at = &mut next[usize::from(parent)];
+            children[usize::from(*at)] = node as u8;
+            *at += 1;
+        }
+    }
+    (start, children)
+}
+
+struct State<'a, const CURSORS: bool> {
+    start: [u16; MAX_NODES + 1],
+    children: [u8; MAX_NODES],
+    positive_from: [u16; MAX_NODES + 1],
+    negative_from: [u16; MAX_NODES + 1],
+    demand: [i16; MAX_NODES],
+    pebble: [bool; MAX_NODES],
+    list: &'a mut [u8],
+    written: usize,
+}
+
+impl<const CURSORS: bool> State<'_, CURSORS> {
+    /// Algorithm 1. The demand of u is 0, so a child of the sign wanted is there exactly if one of any sign is.
+    fn balance(&mut self, u: usize) {
+        loop {
+            if self.pebble[u] {
+                let Some(v) = self.positive_child(u) else { break };
+                self.inject(v, u);
+            } else {
+                let Some(v) = self.negative_child(u) else { break };
+                self.extract(v, u);
+            }
+        }
+        for at in self.start[u]..self.start[u + 1] {
+            self.balance(usize::from(self.children[usize::from(at)]));
+        }
+    }
+
+    /// Algorithm 2, from u into its child v.
+    fn inject(&mut self, v: usize, u: usize) {
+        if self.pebble[v] {
+            if let Some(w) = self.positive_child(v) {
+                self.inject(w, v);
+            }
+        }
+        self.demand[v] -= 1;
+        self.move_pebble(u, v);
+    }
+
+    /// Algorithm 3, from v into its parent u.
+    fn extract(&mut self, v: usize, u: usize) {
+        if !self.pebble[v] {
+            if let Some(w) = self.negative_child(v) {
+                self.extract(w, v);
+            }
+        }
+        self.demand[v] += 1;
+        self.move_pebble(v, u);
+    }
+
+    fn move_pebble(&mut self, from: usize, to: usize) {
+        self.pebble[from] = false;
+        self.pebble[to] = true;
+        self.list[self.written..self.written + 2].copy_from_slice(&[from as u8, to as u8]);
+        self.written += 2;
+    }
+
+    fn positive_child(&mut self, u: usize) -> Option<usize> {
+        let from = if CURSORS { &mut self.positive_from[u] } else { &mut { self.start[u] } };
+        lowest(&self.children, from, self.start[u + 1], |v| self.demand[v] > 0)
+    }
+
+    fn negative_child(&mut self, u: usize) -> Option<usize> {
+        let from = if CURSORS { &mut self.negative_from[u] } else { &mut { self.start[u] } };
+        lowest(&self.children, from, self.start[u + 1], |v| self.demand[v] < 0)
+    }
+}
+
+/// The first child, from entry `from` to before `end`, that is wanted; `from` is moved on to it.
+fn lowest(children: &[u8; MAX_NODES], from: &mut u16, end: u16, wanted: impl Fn(usize) -> bool) -> Option<usize> {
+    let row = &children[usize::from(*from)..usize::from(end)];
+    let ahead = row.iter().position(|&v| wanted(usize::from(v)))?;
+    *from += ahead as u16;
+    Some(usize::from(row[ahead]))
+}
+
+fn copy(list: &[u8]) -> [u8; MAX_NODES] {
+    let mut copy = [0; MAX_NODES];
+    copy[..list.len()].copy_from_slice(list);
+    copy
+}
+
+fn whole_moves(plan: &[u8]) -> Answer<&[u8]> {
+    if plan.len() % 2 == 1 || plan.len() > MAX_PLAN_BYTES {
+        return refuse(9, 0);
+    }
+    Ok(plan)
+}
+
+fn obey(parents: &[u8], pebbles: &mut [u8], plan: &[u8]) -> Answer<()> {
+    for (place, ends) in plan.chunks_exact(2).enumerate() {
+        let (from, to) = (usize::from(ends[0]), usize::from(ends[1]));
+        let refused = |number| Err(Refusal { number, place: place as u32 });
+        if from >= parents.len() || to >= parents.len() {
+            return refused(10);
+        }
+        if from == to || (parents[from] != ends[1] && parents[to] != ends[0]) {
+            return refused(11);
+        }
+        if pebbles[from] == 0 {
+            return refused(12);
+        }
+        if pebbles[to] == 1 {
+            return refused(13);
+        }
+        pebbles[from] = 0;
+        pebbles[to] = 1;
+    }
+    Ok(())
+}

@@ -1,0 +1,19 @@
+//! A planner for pebbles on trees that shares no line with the proved library: written from the source paper (document 000, Algorithms 1 to 4) and
+//! document 01 alone, plain first and quick nowhere. The program `compare` holds the library against it.
+//!
+//! `fast` is the same planner written for speed, as the benchmark's measure. `random`, `shapes` and `damage` make the inputs; equal seeds make
+//! equal inputs.
+
+pub mod checker;
+pub mod damage;
+pub mod demands;
+pub mod fast;
+pub mod figures;
+#[cfg(feature = "library")]
+pub mod library;
+pub mod planner;
+pub mod random;
+pub mod shapes;
+pub mod sheet;
+pub mod shortest;
+pub mod yard;

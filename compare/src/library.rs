@@ -1,0 +1,135 @@
+//! The proved library's calls, as include/javendriky.h tells them, with Rust's lists and answers.
+
+use crate::checker::Tried;
+use crate::yard::{Answer, Refusal};
+
+/// What an accepted trial adds to the moves taken where the budget ended it.
+const BUDGET_ENDED: u32 = 500_000;
+
+/// The calls as C sees them.
+pub mod raw {
+    extern "C" {
+        pub fn javendriky_plan(
+            parents: *const u8, parents_len: usize, pebbles: *const u8, pebbles_len: usize, targets: *const u8, targets_len: usize,
+            plan: *mut u8, plan_len: usize,
+        ) -> u32;
+        pub fn javendriky_test_yard(
+            parents: *const u8, parents_len: usize, pebbles: *const u8, pebbles_len: usize, targets: *const u8, targets_len: usize,
+        ) -> u32;
+        pub fn javendriky_demands(
+            parents: *const u8, parents_len: usize, pebbles: *const u8, pebbles_len: usize, targets: *const u8, targets_len: usize,
+            list: *mut i16, list_len: usize,
+        ) -> u32;
+        pub fn javendriky_length_bound(
+            parents: *const u8, parents_len: usize, pebbles: *const u8, pebbles_len: usize, targets: *const u8, targets_len: usize,
+        ) -> u32;
+        pub fn javendriky_displaced(
+            parents: *const u8, parents_len: usize, pebbles: *const u8, pebbles_len: usize, targets: *const u8, targets_len: usize,
+        ) -> u32;
+        pub fn javendriky_push(
+            parents: *const u8, parents_len: usize, pebbles: *mut u8, pebbles_len: usize, targets: *const u8, targets_len: usize,
+            from: usize, to: usize,
+        ) -> u32;
+        pub fn javendriky_check(
+            parents: *const u8, parents_len: usize, pebbles: *const u8, pebbles_len: usize, targets: *const u8, targets_len: usize,
+            plan: *const u8, plan_len: usize,
+        ) -> u32;
+        pub fn javendriky_excess(
+            parents: *const u8, parents_len: usize, pebbles: *const u8, pebbles_len: usize, targets: *const u8, targets_len: usize,
+            plan: *const u8, plan_len: usize,
+        ) -> u32;
+        pub fn javendriky_trial(
+            parents: *const u8, parents_len: usize, pebbles: *mut u8, pebbles_len: usize, targets: *const u8, targets_len: usize,
+            plan: *const u8, plan_len: usize, budget: u16,
+        ) -> u32;
+    }
+}
+
+/// The number that a call answers, taken apart.
+pub fn answer(number: u32) -> Answer<u32> {
+    match number / 1_000_000 {
+        0 => Ok(number),
+        refusal => Err(Refusal { number: refusal, place: number % 1_000_000 }),
+    }
+}
+
+/// An answer that has no value is the number 0.
+pub fn done(number: u32) -> Answer<()> {
+    answer(number).map(|value| assert_eq!(value, 0, "a call without a value answers 0"))
+}
+
+// Each call below gets lists that are borrowed for as long as it runs, the written ones by no one else: that is all that the header asks for.
+
+pub fn plan(parents: &[u8], pebbles: &[u8], targets: &[u8], plan: &mut [u8]) -> Answer<u32> {
+    answer(unsafe {
+        raw::javendriky_plan(
+            parents.as_ptr(), parents.len(), pebbles.as_ptr(), pebbles.len(), targets.as_ptr(), targets.len(),
+            plan.as_mut_ptr(), plan.len(),
+        )
+    })
+}
+
+pub fn test_yard(parents: &[u8], pebbles: &[u8], targets: &[u8]) -> Answer<()> {
+    done(unsafe {
+        raw::javendriky_test_yard(parents.as_ptr(), parents.len(), pebbles.as_ptr(), pebbles.len(), targets.as_ptr(), targets.len())
+    })
+}
+
+pub fn demands(parents: &[u8], pebbles: &[u8], targets: &[u8], list: &mut [i16]) -> Answer<()> {
+    done(unsafe {
+        raw::javendriky_demands(
+            parents.as_ptr(), parents.len(), pebbles.as_ptr(), pebbles.len(), targets.as_ptr(), targets.len(),
+            list.as_mut_ptr(), list.len(),
+        )
+    })
+}
+
+pub fn length_bound(parents: &[u8], pebbles: &[u8], targets: &[u8]) -> Answer<u32> {
+    answer(unsafe {
+        raw::javendriky_length_bound(parents.as_ptr(), parents.len(), pebbles.as_ptr(), pebbles.len(), targets.as_ptr(), targets.len())
+    })
+}
+
+pub fn displaced(parents: &[u8], pebbles: &[u8], targets: &[u8]) -> Answer<u32> {
+    answer(unsafe {
+        raw::javendriky_displaced(parents.as_ptr(), parents.len(), pebbles.as_ptr(), pebbles.len(), targets.as_ptr(), targets.len())
+    })
+}
+
+pub fn push(parents: &[u8], pebbles: &mut [u8], targets: &[u8], from: usize, to: usize) -> Answer<()> {
+    done(unsafe {
+        raw::javendriky_push(
+            parents.as_ptr(), parents.len(), pebbles.as_mut_ptr(), pebbles.len(), targets.as_ptr(), targets.len(),
+            from, to,
+        )
+    })
+}
+
+pub fn check(parents: &[u8], pebbles: &[u8], targets: &[u8], plan: &[u8]) -> Answer<()> {
+    done(unsafe {
+        raw::javendriky_check(
+            parents.as_ptr(), parents.len(), pebbles.as_ptr(), pebbles.len(), targets.as_ptr(), targets.len(),
+            plan.as_ptr(), plan.len(),
+        )
+    })
+}
+
+pub fn excess(parents: &[u8], pebbles: &[u8], targets: &[u8], plan: &[u8]) -> Answer<u32> {
+    answer(unsafe {
+        raw::javendriky_excess(
+            parents.as_ptr(), parents.len(), pebbles.as_ptr(), pebbles.len(), targets.as_ptr(), targets.len(),
+            plan.as_ptr(), plan.len(),
+        )
+    })
+}
+
+pub fn trial(parents: &[u8], pebbles: &mut [u8], targets: &[u8], plan: &[u8], budget: u16) -> Answer<Tried> {
+    let tried = |value| Tried { taken: value % BUDGET_ENDED, budget_ended: value >= BUDGET_ENDED };
+    answer(unsafe {
+        raw::javendriky_trial(
+            parents.as_ptr(), parents.len(), pebbles.as_mut_ptr(), pebbles.len(), targets.as_ptr(), targets.len(),
+            plan.as_ptr(), plan.len(), budget,
+        )
+    })
+    .map(tried)
+}

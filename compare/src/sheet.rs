@@ -1,0 +1,109 @@
+//! Yard sheets read and written, move sheets and refusals as bytes, and the move program as a function.
+
+use crate::planner;
+use crate::yard::{refuse, Answer, Refusal, Yard, MAX_NODES};
+
+const HEADER: &str = "berth parent car target\n";
+
+/// The most bytes that a sheet can have: three digits wherever a value allows them.
+pub const MAX_SHEET_BYTES: usize = 4_010;
+
+/// The move program looks at no byte behind these.
+pub const JUDGED_BYTES: usize = 4_200;
+
+/// The reader with lists of `lengths` entries lent to it.
+pub fn read(sheet: &[u8], lengths: [usize; 3]) -> Answer<Yard> {
+    if lengths.iter().any(|&length| length < MAX_NODES) {
+        return refuse(18, 0);
+    }
+    let Some(mut rest) = sheet.strip_prefix(HEADER.as_bytes()) else {
+        return refuse(15, 1);
+    };
+    let mut yard = Yard::default();
+    while !rest.is_empty() {
+        let node = yard.nodes();
+        let line = node + 2;
+        if node == MAX_NODES {
+            return refuse(1, line);
+        }
+        let Some(end) = rest.iter().position(|&byte| byte == b'\n') else {
+            return refuse(16, line);
+        };
+        let Some([own, parent, pebble, target]) = four_values(&rest[..end]) else {
+            return refuse(16, line);
+        };
+        if usize::from(own) != node {
+            return refuse(17, line);
+        }
+        yard.parents.push(parent);
+        yard.pebbles.push(pebble);
+        yard.targets.push(target);
+        rest = &rest[end + 1..];
+    }
+    if yard.nodes() == 0 {
+        return refuse(1, 2);
+    }
+    Ok(yard)
+}
+
+/// The writer with a list of `room` bytes lent to it.
+pub fn write(yard: &Yard, room: usize) -> Answer<Vec<u8>> {
+    let n = yard.nodes();
+    if n == 0 || n > MAX_NODES {
+        return refuse(1, 0);
+    }
+    if yard.pebbles.len() != n || yard.targets.len() != n {
+        return refuse(2, 0);
+    }
+    let sheet = unjudged(yard);
+    if sheet.len() > room {
+        return refuse(8, sheet.len());
+    }
+    Ok(sheet)
+}
+
+/// The sheet of any three equally long lists, legal or not.
+pub fn unjudged(yard: &Yard) -> Vec<u8> {
+    let mut sheet = String::from(HEADER);
+    for node in 0..yard.nodes() {
+        sheet += &format!("{node} {} {} {}\n", yard.parents[node], yard.pebbles[node], yard.targets[node]);
+    }
+    sheet.into_bytes()
+}
+
+pub fn move_sheet(plan: &[u8]) -> Vec<u8> {
+    let mut sheet = String::from("from to\n");
+    for ends in plan.chunks(2) {
+        sheet += &format!("{} {}\n", ends[0], ends[1]);
+    }
+    sheet.into_bytes()
+}
+
+pub fn refusal_sheet(refusal: Refusal) -> Vec<u8> {
+    format!("refusal place\n{} {}\n", refusal.number, refusal.place).into_bytes()
+}
+
+/// What the move program prints for what it is fed.
+pub fn program(input: &[u8]) -> Vec<u8> {
+    let judged = &input[..input.len().min(JUDGED_BYTES)];
+    match read(judged, [MAX_NODES; 3]).and_then(|yard| planner::plan(&yard, usize::MAX)) {
+        Ok(plan) => move_sheet(&plan),
+        Err(refusal) => refusal_sheet(refusal),
+    }
+}
+
+/// The values of a line of four, one space between.
+fn four_values(line: &[u8]) -> Option<[u8; 4]> {
+    let words: Vec<&[u8]> = line.split(|&byte| byte == b' ').collect();
+    let values: Option<Vec<u8>> = words.into_iter().map(value).collect();
+    values?.try_into().ok()
+}
+
+/// A value from 0 to 255 in decimal, without leading zeros.
+fn value(word: &[u8]) -> Option<u8> {
+    let leading_zero = word.len() > 1 && word[0] == b'0';
+    if word.is_empty() || leading_zero || !word.iter().all(u8::is_ascii_digit) {
+        return None;
+    }
+    std::str::from_utf8(word).ok()?.parse().ok()
+}
