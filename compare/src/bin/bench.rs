@@ -1,1 +1,162 @@
-fn main() {}
+//! The library's calls beside the same algorithm in plain Rust (`fast`): times, and their ratio. It ends with a failure only if answers differ.
+
+use std::hint::black_box;
+use std::process::ExitCode;
+use std::time::Instant;
+use unrelated::checker::Tried;
+use unrelated::random::Random;
+use unrelated::shapes::{far, Shape};
+use unrelated::yard::{Answer, Yard};
+use unrelated::{fast, library};
+
+const SAMPLES: usize = 101;
+/// Each sample repeats its call until it takes this long: far above what reading the clock takes.
+const SAMPLE_NS: f64 = 20_000.0;
+/// Room for any plan.
+const PLAN_BYTES: usize = 32_768;
+
+/// Times of one call, in nanoseconds.
+struct Times {
+    library: f64,
+    plain: f64,
+}
+
+impl Times {
+    fn ratio(&self) -> f64 {
+        self.library / self.plain
+    }
+}
+
+fn time<T>(call: &mut impl FnMut() -> T, times: usize) -> f64 {
+    let began = Instant::now();
+    for _ in 0..times {
+        let _ = black_box(call());
+    }
+    began.elapsed().as_nanos() as f64 / times as f64
+}
+
+fn median(mut samples: Vec<f64>) -> f64 {
+    samples.sort_by(f64::total_cmp);
+    samples[samples.len() / 2]
+}
+
+/// Medians over samples in turn: library, plain, then plain, library, so that a busy moment falls on both.
+fn measure<T>(mut library: impl FnMut() -> T, mut plain: impl FnMut() -> T) -> Times {
+    let mut repeats = 1;
+    while time(&mut library, repeats).min(time(&mut plain, repeats)) * (repeats as f64) < SAMPLE_NS {
+        repeats *= 2;
+    }
+    let (mut of_library, mut of_plain) = (Vec::new(), Vec::new());
+    for sample in 0..SAMPLES {
+        if sample % 2 == 0 {
+            of_library.push(time(&mut library, repeats));
+            of_plain.push(time(&mut plain, repeats));
+        } else {
+            of_plain.push(time(&mut plain, repeats));
+            of_library.push(time(&mut library, repeats));
+        }
+    }
+    Times { library: median(of_library), plain: median(of_plain) }
+}
+
+type Planner = fn(&[u8], &[u8], &[u8], &mut [u8]) -> Answer<u32>;
+
+/// The plan and the times of two planners, or nothing if they differ.
+fn plans(yard: &Yard, plain: Planner) -> Option<(Vec<u8>, Times)> {
+    let Yard { parents, pebbles, targets } = yard;
+    let call = |planner: Planner, list: &mut [u8]| planner(black_box(parents), black_box(pebbles), black_box(targets), black_box(list));
+    let (mut list, mut plain_list) = (vec![0; PLAN_BYTES], vec![0; PLAN_BYTES]);
+    let answer = call(library::plan, &mut list);
+    if answer != call(plain, &mut plain_list) || list != plain_list {
+        return None;
+    }
+    let plan = list[..2 * answer.ok()? as usize].to_vec();
+    let times = measure(|| call(library::plan, &mut list), || call(plain, &mut plain_list));
+    Some((plan, times))
+}
+
+fn checks(yard: &Yard, plan: &[u8]) -> Option<Times> {
+    let Yard { parents, pebbles, targets } = yard;
+    type Checker = fn(&[u8], &[u8], &[u8], &[u8]) -> Answer<()>;
+    let call = |checker: Checker| checker(black_box(parents), black_box(pebbles), black_box(targets), black_box(plan));
+    if call(library::check) != Ok(()) || call(fast::check) != Ok(()) {
+        return None;
+    }
+    Some(measure(|| call(library::check), || call(fast::check)))
+}
+
+fn trials(yard: &Yard, plan: &[u8]) -> Option<Times> {
+    let Yard { parents, pebbles, targets } = yard;
+    type Trial = fn(&[u8], &mut [u8], &[u8], &[u8], u16) -> Answer<Tried>;
+    let call = |trial: Trial, marks: &mut [u8]| {
+        marks.copy_from_slice(pebbles);
+        trial(black_box(parents), black_box(marks), black_box(targets), black_box(plan), black_box(u16::MAX))
+    };
+    let (mut marks, mut plain_marks) = (pebbles.clone(), pebbles.clone());
+    if call(library::trial, &mut marks) != call(fast::trial, &mut plain_marks) || marks != plain_marks || marks != *targets {
+        return None;
+    }
+    Some(measure(|| call(library::trial, &mut marks), || call(fast::trial, &mut plain_marks)))
+}
+
+fn tests(yard: &Yard) -> Option<Times> {
+    let Yard { parents, pebbles, targets } = yard;
+    type Test = fn(&[u8], &[u8], &[u8]) -> Answer<()>;
+    let call = |test: Test| test(black_box(parents), black_box(pebbles), black_box(targets));
+    if call(library::test_yard) != Ok(()) || call(fast::test_yard) != Ok(()) {
+        return None;
+    }
+    Some(measure(|| call(library::test_yard), || call(fast::test_yard)))
+}
+
+/// The yards of the benchmark: root 0, parents before children, pebbles on the first half of the nodes, targets on the other. The line is yard I.
+fn yard(shape: Shape, n: usize) -> Yard {
+    far(shape, n, &mut Random::new(n as u64))
+}
+
+/// The highest ratio of the table, or nothing if answers differ.
+fn run() -> Option<f64> {
+    println!("Medians of {SAMPLES} samples in turn. Plan lists are not cleared before a call. A trial's pebbles are set anew before each one, on both");
+    println!("sides and within the time (256 bytes copied). 'Plain' is the same algorithm in safe Rust, with the same tests first.\n");
+    println!("256 nodes    call        moves  library µs    plain µs   ratio");
+    let mut highest = 0.0;
+    for shape in Shape::ALL {
+        let yard = yard(shape, 256);
+        let (plan, planned) = plans(&yard, fast::plan)?;
+        let rows = [("plan", planned), ("check", checks(&yard, &plan)?), ("trial", trials(&yard, &plan)?), ("test_yard", tests(&yard)?)];
+        for (call, times) in rows {
+            let (library, plain, ratio) = (times.library / 1e3, times.plain / 1e3, times.ratio());
+            println!("{:<13}{call:<10}{:>7}{library:>12.2}{plain:>12.2}{ratio:>8.2}", shape.name(), plan.len() / 2);
+            highest = ratio.max(highest);
+        }
+    }
+    println!("\nPlan, time a move  nodes   moves  library ns    plain ns   ratio");
+    for shape in [Shape::Line, Shape::Caterpillar, Shape::Random] {
+        for n in [16, 32, 64, 128, 256] {
+            let (plan, times) = plans(&yard(shape, n), fast::plan)?;
+            let moves = plan.len() / 2;
+            let (library, plain) = (times.library / moves as f64, times.plain / moves as f64);
+            println!("{:<19}{n:>5}{moves:>8}{library:>12.2}{plain:>12.2}{:>8.2}", shape.name(), times.ratio());
+        }
+    }
+    println!("\nFor information: a planner that keeps its place among the children of each node, so that no pick looks at a child twice.");
+    println!("Plan         moves  library µs  keeping µs   ratio");
+    for shape in Shape::ALL {
+        let (plan, times) = plans(&yard(shape, 256), fast::plan_with_cursors)?;
+        println!("{:<11}{:>7}{:>12.2}{:>12.2}{:>8.2}", shape.name(), plan.len() / 2, times.library / 1e3, times.plain / 1e3, times.ratio());
+    }
+    Some(highest)
+}
+
+fn main() -> ExitCode {
+    match run() {
+        Some(highest) => {
+            println!("\nhighest ratio {highest:.2}");
+            ExitCode::SUCCESS
+        }
+        None => {
+            println!("answers differ");
+            ExitCode::FAILURE
+        }
+    }
+}

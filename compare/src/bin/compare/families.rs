@@ -47,9 +47,9 @@ impl Thin {
         self.0 == 1
     }
 
-    /// Whether the case with this number is tried.
+    /// Whether the case with this number is tried. Drawn by lot, as the marks of neighbouring cases repeat with the powers of two.
     fn keeps(self, case: u64) -> bool {
-        case % self.0 == 0
+        Random::new(case).next() % self.0 == 0
     }
 
     /// How many of so many random cases are tried.

@@ -1,0 +1,294 @@
+//! Writes the conformance sheets into the folder named: each yard sheet `NNN-name.yard` with what a supplier must print for it, `NNN-name.moves`.
+//! Fixed seeds, so every run writes the same bytes.
+
+use std::path::Path;
+use std::process::ExitCode;
+use unrelated::random::Random;
+use unrelated::shapes::{self, Shape};
+use unrelated::sheet;
+use unrelated::yard::{Yard, MAX_NODES};
+
+fn main() -> ExitCode {
+    let mut arguments = std::env::args().skip(1);
+    let (Some(folder), None) = (arguments.next(), arguments.next()) else {
+        eprintln!("make_conformance FOLDER");
+        return ExitCode::from(2);
+    };
+    let mut sheets = Sheets::default();
+    worked(&mut sheets);
+    choices(&mut sheets);
+    small(&mut sheets);
+    large(&mut sheets);
+    refused_yards(&mut sheets);
+    refused_sheets(&mut sheets);
+    match sheets.write(Path::new(&folder)) {
+        Ok(()) => {
+            println!("{} sheets", sheets.all.len());
+            ExitCode::SUCCESS
+        }
+        Err(error) => {
+            eprintln!("{folder}: {error}");
+            ExitCode::FAILURE
+        }
+    }
+}
+
+#[derive(Default)]
+struct Sheets {
+    all: Vec<(String, Vec<u8>)>,
+}
+
+impl Sheets {
+    /// A sheet whose answer begins as given: a case that is not what its name says is no use.
+    fn add(&mut self, name: &str, sheet: Vec<u8>, begins: &str) {
+        assert!(sheet::program(&sheet).starts_with(begins.as_bytes()), "{name} is not answered by {begins:?}");
+        self.all.push((format!("{:03}-{name}", self.all.len() + 1), sheet));
+    }
+
+    fn yard(&mut self, name: &str, yard: &Yard) {
+        self.add(name, sheet::unjudged(yard), "from to\n");
+    }
+
+    fn refused(&mut self, number: u32, name: &str, sheet: impl Into<Vec<u8>>) {
+        self.add(&format!("refusal-{number}-{name}"), sheet.into(), &format!("refusal place\n{number} "));
+    }
+
+    /// Parents, then the nodes that hold pebbles, then the targets.
+    fn tree(&mut self, name: &str, parents: &[u8], pebbles: &[usize], targets: &[usize]) {
+        self.yard(name, &tree(parents, pebbles, targets));
+    }
+
+    fn write(&self, folder: &Path) -> std::io::Result<()> {
+        std::fs::create_dir_all(folder)?;
+        for (name, sheet) in &self.all {
+            std::fs::write(folder.join(format!("{name}.yard")), sheet)?;
+            std::fs::write(folder.join(format!("{name}.moves")), sheet::program(sheet))?;
+        }
+        Ok(())
+    }
+}
+
+fn tree(parents: &[u8], pebbles: &[usize], targets: &[usize]) -> Yard {
+    let marks = |nodes: &[usize]| -> Vec<u8> { (0..parents.len()).map(|node| u8::from(nodes.contains(&node))).collect() };
+    Yard { parents: parents.to_vec(), pebbles: marks(pebbles), targets: marks(targets) }
+}
+
+/// The yards that document 01 works by hand; those of its letters that are other calls on the same yard are left out.
+fn worked(sheets: &mut Sheets) {
+    sheets.tree("yard-a", &[0, 0, 0, 1, 1], &[1, 3], &[2, 4]);
+    sheets.tree("yard-b", &[0, 0, 1], &[0, 1], &[1, 2]);
+    sheets.tree("yard-c-held", &[0], &[0], &[0]);
+    sheets.tree("yard-c-empty", &[0], &[], &[]);
+    sheets.tree("yard-d-one", &[0, 0], &[0], &[0]);
+    sheets.tree("yard-d-both", &[0, 0], &[0, 1], &[0, 1]);
+    sheets.tree("yard-d-none", &[0, 0], &[], &[]);
+    sheets.yard("yard-i", &shapes::far(Shape::Line, MAX_NODES, &mut Random::new(0)));
+}
+
+/// Yards with two children to choose from at a place where the algorithms say 'pick', or with something else that only one order of moves gets right.
+fn choices(sheets: &mut Sheets) {
+    sheets.tree("balance-injects-into-lowest", &[0, 0, 0, 0], &[0, 3], &[1, 2]);
+    sheets.tree("balance-extracts-from-lowest", &[0, 0, 0, 0], &[1, 2], &[0, 3]);
+    sheets.tree("clearing-injects-into-lowest", &[0, 0, 1, 1], &[0, 1], &[2, 3]);
+    sheets.tree("drawing-extracts-from-lowest", &[0, 0, 1, 1], &[2, 3], &[0, 1]);
+    sheets.tree("lowest-is-not-first-below", &[3, 3, 3, 3], &[2, 3], &[0, 1]);
+    sheets.tree("lowest-of-three-after-one-is-served", &[0, 0, 0, 0, 0, 0], &[0, 4, 5], &[1, 2, 3]);
+    sheets.tree("a-child-is-served-until-its-demand-is-0", &[0, 0, 0, 1, 0, 0], &[0, 4, 5], &[1, 2, 3]);
+    sheets.tree("clearing-goes-down-two-steps", &[0, 0, 1, 2, 2, 1], &[0, 1, 2], &[2, 3, 4]);
+    sheets.tree("drawing-goes-down-two-steps", &[0, 0, 1, 2, 2, 1], &[3, 4, 5], &[0, 1, 2]);
+    sheets.tree("a-held-target-is-moved-on", &[0, 0, 1, 2], &[0, 1, 2], &[1, 2, 3]);
+    sheets.tree("the-root-holds-and-injects-first", &[0, 0, 0], &[0, 1], &[0, 2]);
+    sheets.tree("the-root-is-empty-and-extracts-first", &[0, 0, 0], &[1], &[2]);
+    sheets.tree("children-after-the-loop", &[0, 0, 0, 1, 1, 2, 2], &[1, 3, 5], &[2, 4, 6]);
+    sheets.tree("children-in-rising-number", &[0, 0, 0, 1, 1, 2, 2], &[3, 5], &[4, 6]);
+    sheets.tree("children-in-rising-number-renamed", &[6, 6, 0, 0, 1, 1, 6], &[2, 4], &[3, 5]);
+    sheets.tree("grandchildren-after-children", &[0, 0, 1, 2, 2, 0, 5, 5], &[3, 6], &[4, 7]);
+    sheets.tree("parents-above-children", &[1, 2, 3, 4, 4], &[0, 1], &[3, 4]);
+    sheets.tree("root-in-the-middle", &[1, 2, 2, 2, 3], &[0, 1], &[3, 4]);
+    sheets.tree("root-last", &[4, 4, 0, 1, 4], &[2, 0], &[1, 3]);
+    sheets.tree("pebble-passes-a-balanced-node", &[0, 0, 1, 0, 3], &[2, 1], &[4, 1]);
+    sheets.tree("one-pebble-from-end-to-end", &[0, 0, 1, 2, 3, 4, 5, 6], &[7], &[0]);
+    sheets.tree("all-but-one-held", &[0, 0, 0, 1, 1, 2, 2], &[0, 1, 2, 3, 4, 5], &[0, 1, 2, 4, 5, 6]);
+    sheets.tree("all-held", &[0, 0, 0, 1, 1, 2, 2], &[0, 1, 2, 3, 4, 5, 6], &[0, 1, 2, 3, 4, 5, 6]);
+}
+
+fn small(sheets: &mut Sheets) {
+    let mut random = Random::new(101);
+    for shape in Shape::ALL {
+        for n in (2..=16).chain([19, 23, 28, 34, 41, 50, 61, 75]) {
+            let yard = shapes::yard(shape, n, &mut random);
+            sheets.yard(&format!("{}-{n}", shape.name()), &yard);
+        }
+    }
+}
+
+fn large(sheets: &mut Sheets) {
+    let mut random = Random::new(102);
+    for shape in Shape::ALL {
+        for n in [150, MAX_NODES - 1, MAX_NODES] {
+            let yard = shapes::yard(shape, n, &mut random);
+            sheets.yard(&format!("{}-{n}", shape.name()), &yard);
+        }
+    }
+    for shape in [Shape::Star, Shape::Caterpillar, Shape::Broom] {
+        sheets.yard(&format!("{}-{MAX_NODES}-far", shape.name()), &shapes::far(shape, MAX_NODES, &mut random));
+    }
+}
+
+/// Sheets that are read, with yards that have no plan.
+fn refused_yards(sheets: &mut Sheets) {
+    let mut lists = |number: u32, name: &str, parents: &[u8], pebbles: &[u8], targets: &[u8]| {
+        let yard = Yard { parents: parents.to_vec(), pebbles: pebbles.to_vec(), targets: targets.to_vec() };
+        sheets.refused(number, name, sheet::unjudged(&yard));
+    };
+    lists(3, "pebbles", &[0, 0], &[0, 2], &[0, 0]);
+    lists(3, "targets", &[0, 0], &[0, 0], &[255, 0]);
+    lists(3, "pebbles-before-targets", &[0, 0, 0], &[0, 0, 2], &[2, 0, 0]);
+    lists(3, "lowest-of-two", &[0, 0, 0], &[0, 3, 2], &[0, 0, 0]);
+    lists(3, "before-4", &[0, 9], &[0, 0], &[0, 2]);
+    lists(4, "alone", &[0, 2], &[0, 0], &[0, 0]);
+    lists(4, "is-n", &[0, 0, 3], &[0, 0, 0], &[0, 0, 0]);
+    lists(4, "lowest-of-two", &[0, 255, 3], &[0, 0, 0], &[0, 0, 0]);
+    lists(4, "one-node", &[1], &[1], &[1]);
+    lists(4, "before-5", &[0, 1, 7], &[0, 0, 0], &[0, 0, 0]);
+    lists(5, "two-roots", &[0, 1], &[0, 0], &[0, 0]);
+    lists(5, "three-roots", &[0, 0, 2, 3], &[0, 0, 0, 0], &[0, 0, 0, 0]);
+    lists(5, "no-root", &[1, 2, 0], &[0, 0, 0], &[0, 0, 0]);
+    lists(5, "no-root-of-two", &[1, 0], &[1, 0], &[0, 1]);
+    lists(5, "before-6", &[0, 1, 3, 2], &[0, 0, 0, 0], &[0, 0, 0, 0]);
+    lists(5, "before-7", &[0, 1], &[1, 0], &[0, 0]);
+    lists(6, "alone", &[0, 2, 1], &[0, 0, 0], &[0, 0, 0]);
+    lists(6, "root-last", &[1, 0, 2], &[0, 0, 0], &[0, 0, 0]);
+    lists(6, "hangs-from-a-circle", &[1, 2, 1, 3], &[0, 0, 0, 0], &[0, 0, 0, 0]);
+    lists(6, "two-circles", &[0, 0, 3, 2, 5, 4], &[0; 6], &[0; 6]);
+    lists(6, "before-7", &[0, 2, 1], &[1, 0, 0], &[0, 0, 0]);
+    lists(7, "one-pebble-more", &[0, 0], &[1, 1], &[0, 1]);
+    lists(7, "one-target-more", &[0, 0], &[1, 0], &[1, 1]);
+    lists(7, "one-node", &[0], &[1], &[0]);
+
+    let mut random = Random::new(103);
+    let large = shapes::yard(Shape::Random, MAX_NODES, &mut random);
+    let mut fault = |number: u32, damage: fn(&mut Yard)| {
+        let mut yard = large.clone();
+        damage(&mut yard);
+        sheets.refused(number, "of-256", sheet::unjudged(&yard));
+    };
+    fault(3, |yard| yard.targets[255] = 2);
+    fault(5, |yard| {
+        let child = (0..yard.nodes()).rfind(|&node| !yard.is_root(node)).expect("more than a root");
+        yard.parents[child] = child as u8;
+    });
+    fault(7, |yard| {
+        let node = (0..yard.nodes()).rfind(|&node| yard.pebbles[node] == 0).expect("not full");
+        yard.pebbles[node] = 1;
+    });
+    // The nodes of a line in a ring, but for the root.
+    let ring: Vec<u8> = (0..MAX_NODES).map(|node| if node == 1 { 255 } else { node.max(1) as u8 - 1 }).collect();
+    let unmarked = vec![0; MAX_NODES];
+    sheets.refused(6, "of-256", sheet::unjudged(&Yard { parents: ring, pebbles: unmarked.clone(), targets: unmarked }));
+}
+
+/// Inputs that are no yard sheets.
+fn refused_sheets(sheets: &mut Sheets) {
+    let header = "berth parent car target\n";
+    sheets.refused(1, "header-only", header);
+    let rows = |n: usize| -> String { (0..n).map(|node| format!("{node} 0 0 0\n")).collect() };
+    let full = header.to_string() + &rows(MAX_NODES);
+    for (name, more) in [
+        ("a-257th-line", "0 0 0 0\n"),
+        ("a-number-above-255", "256 0 0 0\n"),
+        ("a-byte-more", "x"),
+        ("a-line-feed-more", "\n"),
+    ] {
+        sheets.refused(1, name, full.clone() + more);
+    }
+    sheets.refused(1, "many-lines", header.to_string() + &rows(700));
+    let longest = Yard { parents: vec![255; MAX_NODES], pebbles: vec![255; MAX_NODES], targets: vec![255; MAX_NODES] };
+    sheets.refused(3, "longest-sheet", sheet::unjudged(&longest));
+    sheets.refused(1, "longest-sheet-and-more", [sheet::unjudged(&longest), b"junk ".repeat(1000)].concat());
+
+    for (name, text) in [
+        ("empty", ""),
+        ("line-feed-only", "\n"),
+        ("no-line-feed", "berth parent car target"),
+        ("short", "berth parent\n0 0 0 0\n"),
+        ("other-words", "node parent pebble target\n0 0 0 0\n"),
+        ("capital", "Berth parent car target\n0 0 0 0\n"),
+        ("leading-space", " berth parent car target\n0 0 0 0\n"),
+        ("trailing-space", "berth parent car target \n0 0 0 0\n"),
+        ("two-spaces", "berth  parent car target\n0 0 0 0\n"),
+        ("tab", "berth\tparent car target\n0 0 0 0\n"),
+        ("carriage-return", "berth parent car target\r\n0 0 0 0\r\n"),
+        ("line-feed-before", "\nberth parent car target\n0 0 0 0\n"),
+        ("left-out", "0 0 0 0\n"),
+        ("byte-order-mark", "\u{feff}berth parent car target\n0 0 0 0\n"),
+        ("cut", "berth parent car targe"),
+        ("move-sheet", "from to\n1 0\n"),
+    ] {
+        sheets.refused(15, name, text);
+    }
+
+    // The line after a good one of node 0.
+    for (name, line) in [
+        ("leading-zero-number", "01 0 0 0\n"),
+        ("leading-zero-parent", "1 00 0 0\n"),
+        ("leading-zero-pebble", "1 0 01 0\n"),
+        ("leading-zero-target", "1 0 0 00\n"),
+        ("leading-zeros-255", "1 0255 0 0\n"),
+        ("256-number", "256 0 0 0\n"),
+        ("256-parent", "1 256 0 0\n"),
+        ("256-pebble", "1 0 256 0\n"),
+        ("256-target", "1 0 0 256\n"),
+        ("260", "1 260 0 0\n"),
+        ("300", "1 300 0 0\n"),
+        ("1000", "1 1000 0 0\n"),
+        ("two-to-the-32", "1 4294967296 0 0\n"),
+        ("two-to-the-64", "1 18446744073709551616 0 0\n"),
+        ("minus", "1 -1 0 0\n"),
+        ("minus-zero", "1 -0 0 0\n"),
+        ("plus", "1 +0 0 0\n"),
+        ("letter", "1 a 0 0\n"),
+        ("hexadecimal", "1 0x0 0 0\n"),
+        ("point", "1 0.0 0 0\n"),
+        ("three-values", "1 0 0\n"),
+        ("five-values", "1 0 0 0 0\n"),
+        ("one-value", "1\n"),
+        ("leading-space", " 1 0 0 0\n"),
+        ("trailing-space", "1 0 0 0 \n"),
+        ("two-spaces", "1  0 0 0\n"),
+        ("tab", "1\t0 0 0\n"),
+        ("comma", "1,0,0,0\n"),
+        ("carriage-return", "1 0 0 0\r\n"),
+        ("carriage-return-alone", "1 0 0 0\r"),
+        ("zero-byte", "1 0 0 0\0\n"),
+        ("byte-above-ascii", "1 0 0 \u{660}\n"),
+        ("empty-line", "\n"),
+        ("space-only", " \n"),
+        ("empty-last-line", "1 0 0 0\n\n"),
+        ("no-line-feed", "1 0 0 0"),
+        ("one-digit-no-line-feed", "1"),
+        ("no-line-feed-and-wrong-number", "7 0 0 0"),
+        ("wrong-number-too", "7 0 0 256\n"),
+        ("later-line", "1 0 0 0\n2 0 0 0\n3 0 0\n4 0 0 0\n"),
+        ("header-again", "berth parent car target\n"),
+    ] {
+        sheets.refused(16, name, format!("{header}0 0 0 0\n{line}"));
+    }
+    sheets.refused(16, "first-line", format!("{header}0 00 1 1\n"));
+    sheets.refused(16, "long-word", format!("{header}0 0 0 {}\n", "1".repeat(5000)));
+    sheets.refused(16, "long-word-of-zeros", format!("{header}0 {} 0 0\n", "0".repeat(300)));
+    sheets.refused(16, "long-spaces", format!("{header}{}", " ".repeat(5000)));
+    sheets.refused(16, "last-of-256", full.strip_suffix("0\n").expect("the last line's end").to_string() + "256\n");
+
+    for (name, lines) in [
+        ("first-is-1", "1 0 1 1\n"),
+        ("repeated", "0 0 0 0\n0 0 0 0\n"),
+        ("left-out", "0 0 0 0\n2 0 0 0\n"),
+        ("falling", "2 0 0 0\n1 0 0 0\n0 0 0 0\n"),
+        ("before-3", "0 0 9 9\n2 0 0 0\n"),
+        ("before-a-later-16", "0 0 0 0\n2 0 0 0\n02 0 0 0\n"),
+    ] {
+        sheets.refused(17, name, format!("{header}{lines}"));
+    }
+    sheets.refused(17, "last-of-256", full.strip_suffix("255 0 0 0\n").expect("the last line").to_string() + "254 0 0 0\n");
+}
