@@ -42,6 +42,14 @@ pub mod raw {
             parents: *const u8, parents_len: usize, pebbles: *mut u8, pebbles_len: usize, targets: *const u8, targets_len: usize,
             plan: *const u8, plan_len: usize, budget: u16,
         ) -> u32;
+        pub fn javendriky_read_sheet(
+            sheet: *const u8, sheet_len: usize,
+            parents: *mut u8, parents_len: usize, pebbles: *mut u8, pebbles_len: usize, targets: *mut u8, targets_len: usize,
+        ) -> u32;
+        pub fn javendriky_write_sheet(
+            parents: *const u8, parents_len: usize, pebbles: *const u8, pebbles_len: usize, targets: *const u8, targets_len: usize,
+            sheet: *mut u8, sheet_len: usize,
+        ) -> u32;
     }
 }
 
@@ -132,4 +140,22 @@ pub fn trial(parents: &[u8], pebbles: &mut [u8], targets: &[u8], plan: &[u8], bu
         )
     })
     .map(tried)
+}
+
+pub fn read_sheet(sheet: &[u8], parents: &mut [u8], pebbles: &mut [u8], targets: &mut [u8]) -> Answer<u32> {
+    answer(unsafe {
+        raw::javendriky_read_sheet(
+            sheet.as_ptr(), sheet.len(),
+            parents.as_mut_ptr(), parents.len(), pebbles.as_mut_ptr(), pebbles.len(), targets.as_mut_ptr(), targets.len(),
+        )
+    })
+}
+
+pub fn write_sheet(parents: &[u8], pebbles: &[u8], targets: &[u8], sheet: &mut [u8]) -> Answer<u32> {
+    answer(unsafe {
+        raw::javendriky_write_sheet(
+            parents.as_ptr(), parents.len(), pebbles.as_ptr(), pebbles.len(), targets.as_ptr(), targets.len(),
+            sheet.as_mut_ptr(), sheet.len(),
+        )
+    })
 }

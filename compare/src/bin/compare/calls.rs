@@ -6,7 +6,7 @@ use std::fmt;
 use std::ptr;
 use std::sync::atomic::{AtomicPtr, Ordering};
 use unrelated::yard::{Answer, Yard};
-use unrelated::{checker, demands, fast, figures, library, planner, yard};
+use unrelated::{checker, demands, fast, figures, library, planner, sheet, yard};
 
 /// Nothing, or the difference found.
 pub type Same<T = ()> = Result<T, String>;
@@ -219,6 +219,40 @@ impl Caller {
         quick(&inputs, fast::trial(&yard.parents, &mut quick_pebbles, &yard.targets, plan, budget), &tried)?;
         quick(&inputs, Ok(quick_pebbles), &Ok(after.clone()))?;
         self.same(&inputs, got, tried, lent.wrong_but_for_pebbles(yard, &after).or_else(|| list.wrong("plan", plan)))
+    }
+
+    /// The reader with lists of these lengths. A sheet that both accept must be what the writer makes of its lists.
+    pub fn read_sheet(&self, bytes: &[u8], lengths: [usize; 3]) -> Same {
+        let nothing = Yard::default();
+        let inputs = Inputs { call: "read_sheet", yard: &nothing, bytes, numbers: &lengths };
+        let before = lengths.map(unwritten);
+        let lent = self.lender.lend(bytes);
+        let [mut parents, mut pebbles, mut targets] = [0, 1, 2].map(|list| self.lender.lend(&before[list]));
+        let got = during(&inputs, || library::read_sheet(lent.list(), parents.list_mut(), pebbles.list_mut(), targets.list_mut()));
+        let expected = sheet::read(bytes, lengths);
+        let after = |list: usize, read: fn(&Yard) -> &Vec<u8>| written(&before[list], &expected.as_ref().map(read).cloned().map_err(|refusal| *refusal));
+        let wrong = lent
+            .wrong("sheet", bytes)
+            .or_else(|| parents.wrong("parents", &after(0, |yard| &yard.parents)))
+            .or_else(|| pebbles.wrong("pebbles", &after(1, |yard| &yard.pebbles)))
+            .or_else(|| targets.wrong("targets", &after(2, |yard| &yard.targets)));
+        self.same(&inputs, got, expected.as_ref().map(|yard| yard.nodes() as u32).map_err(|refusal| *refusal), wrong)?;
+        match expected {
+            Ok(yard) if sheet::unjudged(&yard) != bytes => Err(format!("{inputs}accepted, but not what the writer makes of {yard:?}")),
+            _ => Ok(()),
+        }
+    }
+
+    /// The writer with a list of `room` bytes.
+    pub fn write_sheet(&self, yard: &Yard, room: usize) -> Same {
+        let inputs = Inputs { call: "write_sheet", yard, bytes: &[], numbers: &[room] };
+        let before = unwritten(room);
+        let lent = self.lend(yard);
+        let mut list = self.lender.lend(&before);
+        let got = during(&inputs, || library::write_sheet(lent.parents.list(), lent.pebbles.list(), lent.targets.list(), list.list_mut()));
+        let expected = sheet::write(yard, room);
+        let wrong = lent.wrong(yard).or_else(|| list.wrong("sheet", &written(&before, &expected)));
+        self.same(&inputs, got, expected.map(|sheet| sheet.len() as u32), wrong)
     }
 
     /// The calls that take the yard alone.

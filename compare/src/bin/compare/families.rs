@@ -1,6 +1,7 @@
 //! The cases, in families. Every family takes its random numbers from a seed of its own, so leaving cases out of one does not change another.
 
 use crate::calls::{Caller, Same};
+use crate::sheets;
 use crate::worked::worked;
 use std::ops::RangeInclusive;
 use unrelated::random::Random;
@@ -11,7 +12,7 @@ use unrelated::{checker, damage, demands, figures, library, planner, shortest, y
 /// A family tries its cases and tells how many there were.
 pub type Family = fn(&Caller, Thin) -> Same<u64>;
 
-pub const FAMILIES: [(&str, Family); 13] = [
+pub const FAMILIES: [(&str, Family); 18] = [
     ("yards and examples of document 01", |caller, _| worked(caller)),
     ("every tree up to 5 nodes with all marks, against the search", every_tree),
     ("6 and 7 nodes, against the search", against_search),
@@ -24,11 +25,16 @@ pub const FAMILIES: [(&str, Family); 13] = [
     ("plans altered in one to three places, budgets", altered_plans),
     ("plans about as long as a plan can be", long_plans),
     ("pushes of any two numbers", pushes),
+    ("sheets written and read, any room", sheets::written),
+    ("sheets altered in one to three places", sheets::damaged),
+    ("a small sheet with every byte changed, left out, put in", sheets::every_byte),
+    ("every word up to 4 letters as a value", sheets::every_value),
+    ("sheets of about 256 lines", sheets::long),
     ("empty lists with no address", no_address),
 ];
 
 /// The refusals that a full run must have met.
-pub const REFUSALS_MET: RangeInclusive<usize> = 1..=14;
+pub const REFUSALS_MET: RangeInclusive<usize> = 1..=18;
 
 /// How much of each family is tried.
 #[derive(Clone, Copy)]
@@ -48,12 +54,12 @@ impl Thin {
     }
 
     /// Whether the case with this number is tried. Drawn by lot, as the marks of neighbouring cases repeat with the powers of two.
-    fn keeps(self, case: u64) -> bool {
+    pub fn keeps(self, case: u64) -> bool {
         Random::new(case).next() % self.0 == 0
     }
 
     /// How many of so many random cases are tried.
-    fn of(self, cases: u64) -> u64 {
+    pub fn of(self, cases: u64) -> u64 {
         (cases / self.0).max(1)
     }
 }
@@ -364,6 +370,9 @@ fn no_address(_: &Caller, _: Thin) -> Same<u64> {
             ("demands", javendriky_demands(parents.as_ptr(), 1, one.as_ptr(), 1, one.as_ptr(), 1, null_mut(), 0), 2_000_000),
             ("check", javendriky_check(parents.as_ptr(), 1, one.as_ptr(), 1, one.as_ptr(), 1, null(), 0), 0),
             ("excess", javendriky_excess(parents.as_ptr(), 1, one.as_ptr(), 1, one.as_ptr(), 1, null(), 0), 0),
+            ("read_sheet", javendriky_read_sheet(null(), 0, null_mut(), 0, null_mut(), 0, null_mut(), 0), 18_000_000),
+            ("write_sheet", javendriky_write_sheet(null(), 0, null(), 0, null(), 0, null_mut(), 0), 1_000_000),
+            ("write_sheet", javendriky_write_sheet(parents.as_ptr(), 1, one.as_ptr(), 1, one.as_ptr(), 1, null_mut(), 0), 8_000_032),
             ("check", javendriky_check(parents.as_ptr(), 1, one.as_ptr(), 1, zero.as_ptr(), 1, null(), 0), 7_000_000),
         ]
     };

@@ -7,6 +7,7 @@
 mod calls;
 mod families;
 mod lent;
+mod sheets;
 mod worked;
 
 use calls::{watch_pages, Caller};

@@ -47,6 +47,11 @@ impl Worked<'_> {
         self.caller.trial(yard, moves, budget)
     }
 
+    fn read(&mut self, name: &str, sheet: &[u8], lengths: [usize; 3], expected: Answer<Yard>) -> Same {
+        self.is(name, sheet::read(sheet, lengths), expected)?;
+        self.caller.read_sheet(sheet, lengths)
+    }
+
     fn push(&mut self, name: &str, yard: &Yard, from: usize, to: usize, expected: Answer<Vec<u8>>) -> Same {
         self.is(name, push(yard, from, to), expected)?;
         self.caller.push(yard, from, to)
@@ -114,11 +119,12 @@ pub fn worked(caller: &Caller) -> Same<u64> {
     let header = "berth parent car target\n";
     let longest = yard(&[255; 256], &[255; 256], &[255; 256]);
     w.is("the longest sheet", sheet::write(&longest, ANY).map(|sheet| sheet.len()), Ok(sheet::MAX_SHEET_BYTES))?;
-    w.is("refusal 1 of a sheet", sheet::read(header.as_bytes(), [256; 3]), refuse(1, 2))?;
-    w.is("refusal 1 of a long sheet", sheet::read(&[&sheet::unjudged(&longest)[..], b"2"].concat(), [256; 3]), refuse(1, 258))?;
-    w.is("refusal 15", sheet::read(b"berth parent", [256; 3]), refuse(15, 1))?;
-    w.is("refusal 16", sheet::read(format!("{header}0 00 1 1\n").as_bytes(), [256; 3]), refuse(16, 2))?;
-    w.is("refusal 17", sheet::read(format!("{header}1 0 1 1\n").as_bytes(), [256; 3]), refuse(17, 2))?;
-    w.is("refusal 18", sheet::read(b"", [256, 255, 256]), refuse(18, 0))?;
+    caller.write_sheet(&longest, sheet::MAX_SHEET_BYTES)?;
+    w.read("refusal 1 of a sheet", header.as_bytes(), [256; 3], refuse(1, 2))?;
+    w.read("refusal 1 of a long sheet", &[&sheet::unjudged(&longest)[..], b"2"].concat(), [256; 3], refuse(1, 258))?;
+    w.read("refusal 15", b"berth parent", [256; 3], refuse(15, 1))?;
+    w.read("refusal 16", format!("{header}0 00 1 1\n").as_bytes(), [256; 3], refuse(16, 2))?;
+    w.read("refusal 17", format!("{header}1 0 1 1\n").as_bytes(), [256; 3], refuse(17, 2))?;
+    w.read("refusal 18", b"", [256, 255, 256], refuse(18, 0))?;
     Ok(w.cases)
 }
