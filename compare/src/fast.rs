@@ -1,5 +1,5 @@
 //! Test, planner, checker and trial once more, written for speed: no list is asked for from the heap, children stand side by side in rising number,
-//! each demand is kept and changed by one when its edge is crossed. The benchmark sets the library beside these.
+//! each self.children.find(u, from, |v| self.self.children.find(u, from, |v| self.demand[v] < 0)[v] > 0) is kept and changed by one when its edge is crossed. The benchmark sets the library beside these.
 
 use crate::checker::{Tried, MAX_PLAN_BYTES};
 use crate::yard::{refuse, Answer, Refusal, MAX_NODES};
@@ -12,13 +12,18 @@ pub fn test_yard(parents: &[u8], pebbles: &[u8], targets: &[u8]) -> Answer<()> {
 
 /// Refusals 1 to 8; writes the plan at the front of the list and answers its moves.
 pub fn plan(parents: &[u8], pebbles: &[u8], targets: &[u8], list: &mut [u8]) -> Answer<u32> {
-    plan_by::<false>(parents, pebbles, targets, list)
+    plan_by::<Rows, false>(parents, pebbles, targets, list)
 }
 
-/// The same plan, but each node keeps where its last pick was: demands only go towards 0, so the next pick is never before it. This is what Lemma 20
-/// of the source does with lists, and takes constant time a move however many children a node has.
+/// The same, with each child naming its next sibling.
+pub fn plan_by_siblings(parents: &[u8], pebbles: &[u8], targets: &[u8], list: &mut [u8]) -> Answer<u32> {
+    plan_by::<Siblings, false>(parents, pebbles, targets, list)
+}
+
+/// The same, but each node keeps where its last pick was: demands only go towards 0, so the next pick is never before it. This is what Lemma 20 of the
+/// source does with lists, and takes constant time a move however many children a node has.
 pub fn plan_with_cursors(parents: &[u8], pebbles: &[u8], targets: &[u8], list: &mut [u8]) -> Answer<u32> {
-    plan_by::<true>(parents, pebbles, targets, list)
+    plan_by::<Rows, true>(parents, pebbles, targets, list)
 }
 
 /// Refusals 1 to 7, 9, 10 to 13 for each move, 14.
@@ -103,7 +108,7 @@ fn lowest_lost(parents: &[u8], root: usize) -> usize {
     (0..parents.len()).find(|&node| climb(node) != root).unwrap_or(0)
 }
 
-fn plan_by<const CURSORS: bool>(parents: &[u8], pebbles: &[u8], targets: &[u8], list: &mut [u8]) -> Answer<u32> {
+fn plan_by<C: Children, const CURSORS: bool>(parents: &[u8], pebbles: &[u8], targets: &[u8], list: &mut [u8]) -> Answer<u32> {
     let mut demand = [0i16; MAX_NODES];
     for ((demand, &target), &pebble) in demand.iter_mut().zip(targets).zip(pebbles) {
         *demand = i16::from(target) - i16::from(pebble);
@@ -116,11 +121,11 @@ fn plan_by<const CURSORS: bool>(parents: &[u8], pebbles: &[u8], targets: &[u8], 
     if list.len() < 2 * moves as usize {
         return refuse(8, moves as usize);
     }
-    let (start, children) = children(parents, root);
-    let mut state = State::<CURSORS> {
-        positive_from: start,
-        negative_from: start,
-        start,
+    let children = C::of(parents, root);
+    let begins = if CURSORS { std::array::from_fn(|u| children.begin(u)) } else { [0; MAX_NODES] };
+    let mut state = State::<C, CURSORS> {
+        positive_from: begins,
+        negative_from: begins,
         children,
         demand,
         pebble: copy(pebbles).map(|mark| mark == 1),
@@ -131,39 +136,110 @@ fn plan_by<const CURSORS: bool>(parents: &[u8], pebbles: &[u8], targets: &[u8], 
     Ok(moves)
 }
 
-/// The children of node u are entries `start[u]` to `start[u + 1]` − 1 of the second list, in rising number.
-fn children(parents: &[u8], root: usize) -> ([u16; MAX_NODES + 1], [u8; MAX_NODES]) {
-    let mut start = [0; MAX_NODES + 1];
-    let mut children = [0; MAX_NODES];
-    for (node, &parent) in parents.iter().enumerate() {
-        start[usize::from(parent) + 1] += u16::from(node != root);
-    }
-    for node in 0..MAX_NODES {
-        start[node + 1] += start[node];
-    }
-    let mut next = start;
-    for (node, &parent) in parents.iter().enumerate() {
-        if node != root {
-            let at = &mut next[usize::from(parent)];
-            children[usize::from(*at)] = node as u8;
-            *at += 1;
-        }
-    }
-    (start, children)
+/// How the children of each node are kept, in rising number.
+trait Children {
+    fn of(parents: &[u8], root: usize) -> Self;
+    /// The place of the lowest child of u.
+    fn begin(&self, u: usize) -> u16;
+    /// The first child of u from a place on that is wanted, and its place.
+    fn find(&self, u: usize, from: u16, wanted: impl Fn(usize) -> bool) -> Option<(usize, u16)>;
+    /// The place of the next child.
+    fn after(&self, place: u16) -> u16;
 }
 
-struct State<'a, const CURSORS: bool> {
+/// All children of a node side by side: those of u at places `start[u]` to before `start[u + 1]`.
+struct Rows {
     start: [u16; MAX_NODES + 1],
-    children: [u8; MAX_NODES],
-    positive_from: [u16; MAX_NODES + 1],
-    negative_from: [u16; MAX_NODES + 1],
+    nodes: [u8; MAX_NODES],
+}
+
+impl Children for Rows {
+    fn of(parents: &[u8], root: usize) -> Rows {
+        let mut rows = Rows { start: [0; MAX_NODES + 1], nodes: [0; MAX_NODES] };
+        for (node, &parent) in parents.iter().enumerate() {
+            rows.start[usize::from(parent) + 1] += u16::from(node != root);
+        }
+        for node in 0..MAX_NODES {
+            rows.start[node + 1] += rows.start[node];
+        }
+        let mut next = rows.start;
+        for (node, &parent) in parents.iter().enumerate() {
+            if node != root {
+                let place = &mut next[usize::from(parent)];
+                rows.nodes[usize::from(*place)] = node as u8;
+                *place += 1;
+            }
+        }
+        rows
+    }
+
+    fn begin(&self, u: usize) -> u16 {
+        self.start[u]
+    }
+
+    fn find(&self, u: usize, from: u16, wanted: impl Fn(usize) -> bool) -> Option<(usize, u16)> {
+        let row = &self.nodes[usize::from(from)..usize::from(self.start[u + 1])];
+        let ahead = row.iter().position(|&v| wanted(usize::from(v)))?;
+        Some((usize::from(row[ahead]), from + ahead as u16))
+    }
+
+    fn after(&self, place: u16) -> u16 {
+        place + 1
+    }
+}
+
+/// Each node names its lowest child and its next sibling; places are nodes.
+struct Siblings {
+    first: [u16; MAX_NODES],
+    next: [u16; MAX_NODES],
+}
+
+const NO_NODE: u16 = u16::MAX;
+
+impl Children for Siblings {
+    fn of(parents: &[u8], root: usize) -> Siblings {
+        let mut siblings = Siblings { first: [NO_NODE; MAX_NODES], next: [NO_NODE; MAX_NODES] };
+        for (node, &parent) in parents.iter().enumerate().rev() {
+            if node != root {
+                siblings.next[node] = siblings.first[usize::from(parent)];
+                siblings.first[usize::from(parent)] = node as u16;
+            }
+        }
+        siblings
+    }
+
+    fn begin(&self, u: usize) -> u16 {
+        self.first[u]
+    }
+
+    fn find(&self, _: usize, from: u16, wanted: impl Fn(usize) -> bool) -> Option<(usize, u16)> {
+        let mut place = from;
+        while place != NO_NODE {
+            let v = usize::from(place);
+            if wanted(v) {
+                return Some((v, place));
+            }
+            place = self.next[v];
+        }
+        None
+    }
+
+    fn after(&self, place: u16) -> u16 {
+        self.next[usize::from(place)]
+    }
+}
+
+struct State<'a, C, const CURSORS: bool> {
+    children: C,
+    positive_from: [u16; MAX_NODES],
+    negative_from: [u16; MAX_NODES],
     demand: [i16; MAX_NODES],
     pebble: [bool; MAX_NODES],
     list: &'a mut [u8],
     written: usize,
 }
 
-impl<const CURSORS: bool> State<'_, CURSORS> {
+impl<C: Children, const CURSORS: bool> State<'_, C, CURSORS> {
     /// Algorithm 1. The demand of u is 0, so a child of the sign wanted is there exactly if one of any sign is.
     fn balance(&mut self, u: usize) {
         loop {
@@ -175,8 +251,10 @@ impl<const CURSORS: bool> State<'_, CURSORS> {
                 self.extract(v, u);
             }
         }
-        for at in self.start[u]..self.start[u + 1] {
-            self.balance(usize::from(self.children[usize::from(at)]));
+        let mut from = self.children.begin(u);
+        while let Some((v, place)) = self.children.find(u, from, |_| true) {
+            self.balance(v);
+            from = self.children.after(place);
         }
     }
 
@@ -210,22 +288,22 @@ impl<const CURSORS: bool> State<'_, CURSORS> {
     }
 
     fn positive_child(&mut self, u: usize) -> Option<usize> {
-        let from = if CURSORS { &mut self.positive_from[u] } else { &mut { self.start[u] } };
-        lowest(&self.children, from, self.start[u + 1], |v| self.demand[v] > 0)
+        let from = if CURSORS { self.positive_from[u] } else { self.children.begin(u) };
+        let (v, place) = self.children.find(u, from, |v| self.demand[v] > 0)?;
+        if CURSORS {
+            self.positive_from[u] = place;
+        }
+        Some(v)
     }
 
     fn negative_child(&mut self, u: usize) -> Option<usize> {
-        let from = if CURSORS { &mut self.negative_from[u] } else { &mut { self.start[u] } };
-        lowest(&self.children, from, self.start[u + 1], |v| self.demand[v] < 0)
+        let from = if CURSORS { self.negative_from[u] } else { self.children.begin(u) };
+        let (v, place) = self.children.find(u, from, |v| self.demand[v] < 0)?;
+        if CURSORS {
+            self.negative_from[u] = place;
+        }
+        Some(v)
     }
-}
-
-/// The first child, from entry `from` to before `end`, that is wanted; `from` is moved on to it.
-fn lowest(children: &[u8; MAX_NODES], from: &mut u16, end: u16, wanted: impl Fn(usize) -> bool) -> Option<usize> {
-    let row = &children[usize::from(*from)..usize::from(end)];
-    let ahead = row.iter().position(|&v| wanted(usize::from(v)))?;
-    *from += ahead as u16;
-    Some(usize::from(row[ahead]))
 }
 
 fn copy(list: &[u8]) -> [u8; MAX_NODES] {

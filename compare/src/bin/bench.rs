@@ -7,9 +7,9 @@ use unrelated::checker::Tried;
 use unrelated::random::Random;
 use unrelated::shapes::{far, Shape};
 use unrelated::yard::{Answer, Yard};
-use unrelated::{fast, library};
+use unrelated::{fast, library, planner};
 
-const SAMPLES: usize = 101;
+const SAMPLES: usize = 301;
 /// Each sample repeats its call until it takes this long: far above what reading the clock takes.
 const SAMPLE_NS: f64 = 20_000.0;
 /// Room for any plan.
@@ -139,11 +139,18 @@ fn run() -> Option<f64> {
             println!("{:<19}{n:>5}{moves:>8}{library:>12.2}{plain:>12.2}{:>8.2}", shape.name(), times.ratio());
         }
     }
-    println!("\nFor information: a planner that keeps its place among the children of each node, so that no pick looks at a child twice.");
-    println!("Plan         moves  library µs  keeping µs   ratio");
+    println!("\nFor information, plan in µs: the same algorithm in plain Rust with the children of a node in a row (as above), chained as siblings, and in a row");
+    println!("with the place of the last pick kept, so that no pick looks at a child twice.\n");
+    println!("256 nodes      moves       library         row    siblings        kept");
     for shape in Shape::ALL {
-        let (plan, times) = plans(&yard(shape, 256), fast::plan_with_cursors)?;
-        println!("{:<11}{:>7}{:>12.2}{:>12.2}{:>8.2}", shape.name(), plan.len() / 2, times.library / 1e3, times.plain / 1e3, times.ratio());
+        let yard = yard(shape, 256);
+        print!("{:<13}{:>7}", shape.name(), planner::plan(&yard, PLAN_BYTES).ok()?.len() / 2);
+        let times = [fast::plan, fast::plan_by_siblings, fast::plan_with_cursors].map(|planner| plans(&yard, planner));
+        print!("{:>14.2}", times[0].as_ref()?.1.library / 1e3);
+        for times in times {
+            print!("{:>12.2}", times?.1.plain / 1e3);
+        }
+        println!();
     }
     Some(highest)
 }

@@ -25,7 +25,12 @@ impl fmt::Display for Inputs<'_> {
     fn fmt(&self, f: &mut fmt::Formatter) -> fmt::Result {
         let Yard { parents, pebbles, targets } = self.yard;
         writeln!(f, "call {}, numbers {:?}", self.call, self.numbers)?;
-        writeln!(f, "parents {parents:?}\npebbles {pebbles:?}\ntargets {targets:?}\nbytes {:?}", self.bytes)
+        writeln!(f, "parents {parents:?}\npebbles {pebbles:?}\ntargets {targets:?}")?;
+        if self.call.ends_with("sheet") {
+            writeln!(f, "sheet \"{}\"", self.bytes.escape_ascii())
+        } else {
+            writeln!(f, "plan {:?}", self.bytes)
+        }
     }
 }
 
@@ -172,7 +177,7 @@ impl Caller {
         let expected = planner::plan(yard, room);
         let after = written(&before, &expected);
         let moves = expected.map(|plan| plan.len() as u32 / 2);
-        for planner in [fast::plan, fast::plan_with_cursors] {
+        for planner in [fast::plan, fast::plan_by_siblings, fast::plan_with_cursors] {
             let mut quick_list = before.clone();
             quick(&inputs, planner(&yard.parents, &yard.pebbles, &yard.targets, &mut quick_list), &moves)?;
             quick(&inputs, Ok(quick_list), &Ok(after.clone()))?;
