@@ -197,7 +197,8 @@ pub fn sheet(sheet: &mut Vec<u8>, random: &mut Random) {
             7 | 8 => {
                 if let Some(at) = word {
                     let end = (at..sheet.len()).find(|&at| !sheet[at].is_ascii_digit()).unwrap_or(sheet.len());
-                    let value = random.pick(&["255", "256", "257", "260", "300", "999", "1000", "4294967296", "18446744073709551616", "00", "1", "2"]);
+                    let value =
+                        random.pick(&["255", "256", "257", "260", "300", "999", "1000", "4294967296", "18446744073709551616", "00", "1", "2"]);
                     sheet.splice(at..end, value.bytes());
                 }
             }

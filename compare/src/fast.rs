@@ -1,5 +1,5 @@
 //! Test, planner, checker and trial once more, written for speed: no list is asked for from the heap, children stand side by side in rising number,
-//! each self.children.find(u, from, |v| self.self.children.find(u, from, |v| self.demand[v] < 0)[v] > 0) is kept and changed by one when its edge is crossed. The benchmark sets the library beside these.
+//! each demand is kept and changed by one when its edge is crossed. The benchmark sets the library beside these.
 
 use crate::checker::{Tried, MAX_PLAN_BYTES};
 use crate::yard::{refuse, Answer, Refusal, MAX_NODES};
@@ -63,11 +63,11 @@ fn fold_up(parents: &[u8], pebbles: &[u8], targets: &[u8], mut add: impl FnMut(u
         return refuse(2, 0);
     }
     for marks in [pebbles, targets] {
-        if let Some(node) = marks.iter().position(|&mark| mark > 1) {
+        if let Some(node) = first_above(marks, 1) {
             return refuse(3, node);
         }
     }
-    if let Some(node) = parents.iter().position(|&parent| usize::from(parent) >= n) {
+    if let Some(node) = first_above(parents, (n - 1) as u8) {
         return refuse(4, node);
     }
     let mut root = None;
@@ -99,6 +99,12 @@ fn fold_up(parents: &[u8], pebbles: &[u8], targets: &[u8], mut add: impl FnMut(u
         return refuse(6, lowest_lost(parents, root));
     }
     Ok(root)
+}
+
+/// The first entry above a limit. That there is one is seen by the greatest, which many bytes at a time can tell.
+fn first_above(list: &[u8], limit: u8) -> Option<usize> {
+    let greatest = list.iter().copied().max()?;
+    (greatest > limit).then(|| list.iter().position(|&entry| entry > limit))?
 }
 
 /// The lowest node from which climbing never reaches the root; there is one.

@@ -9,7 +9,9 @@ pub mod damage;
 pub mod demands;
 pub mod fast;
 pub mod figures;
+// A list on a line, as in the header.
 #[cfg(feature = "library")]
+#[rustfmt::skip]
 pub mod library;
 pub mod planner;
 pub mod random;

@@ -34,10 +34,8 @@ pub fn set(marks: &[u8]) -> usize {
 pub fn by_matching(yard: &Yard) -> u32 {
     let marked = |marks: &[u8]| -> Vec<usize> { (0..marks.len()).filter(|&node| marks[node] == 1).collect() };
     let targets = marked(&yard.targets);
-    let costs: Vec<Vec<i64>> = marked(&yard.pebbles)
-        .into_iter()
-        .map(|pebble| targets.iter().map(|&target| distance(yard, pebble, target)).collect())
-        .collect();
+    let costs: Vec<Vec<i64>> =
+        marked(&yard.pebbles).into_iter().map(|pebble| targets.iter().map(|&target| distance(yard, pebble, target)).collect()).collect();
     cheapest_assignment(&costs) as u32
 }
 

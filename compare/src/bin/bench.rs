@@ -116,7 +116,9 @@ fn yard(shape: Shape, n: usize) -> Yard {
 
 /// The highest ratio of the table, or nothing if answers differ.
 fn run() -> Option<f64> {
-    println!("Medians of {SAMPLES} samples in turn. Plan lists are not cleared before a call. A trial's pebbles are set anew before each one, on both");
+    println!(
+        "Medians of {SAMPLES} samples in turn. Plan lists are not cleared before a call. A trial's pebbles are set anew before each one, on both"
+    );
     println!("sides and within the time (256 bytes copied). 'Plain' is the same algorithm in safe Rust, with the same tests first.\n");
     println!("256 nodes    call        moves  library µs    plain µs   ratio");
     let mut highest = 0.0;
@@ -139,16 +141,15 @@ fn run() -> Option<f64> {
             println!("{:<19}{n:>5}{moves:>8}{library:>12.2}{plain:>12.2}{:>8.2}", shape.name(), times.ratio());
         }
     }
-    println!("\nFor information, plan in µs: the same algorithm in plain Rust with the children of a node in a row (as above), chained as siblings, and in a row");
+    println!("\nFor information, plan in µs and the library's ratio to it: plain Rust with the children of a node in a row (as above), chained as siblings, and in a row");
     println!("with the place of the last pick kept, so that no pick looks at a child twice.\n");
-    println!("256 nodes      moves       library         row    siblings        kept");
+    println!("256 nodes    moves         in a row, ratio    siblings, ratio        kept, ratio");
     for shape in Shape::ALL {
         let yard = yard(shape, 256);
-        print!("{:<13}{:>7}", shape.name(), planner::plan(&yard, PLAN_BYTES).ok()?.len() / 2);
-        let times = [fast::plan, fast::plan_by_siblings, fast::plan_with_cursors].map(|planner| plans(&yard, planner));
-        print!("{:>14.2}", times[0].as_ref()?.1.library / 1e3);
-        for times in times {
-            print!("{:>12.2}", times?.1.plain / 1e3);
+        print!("{:<11}{:>7}", shape.name(), planner::plan(&yard, PLAN_BYTES).ok()?.len() / 2);
+        for planner in [fast::plan, fast::plan_by_siblings, fast::plan_with_cursors] {
+            let (_, times) = plans(&yard, planner)?;
+            print!("{:>12.2} {:>6.2}", times.plain / 1e3, times.ratio());
         }
         println!();
     }

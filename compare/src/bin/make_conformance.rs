@@ -194,12 +194,7 @@ fn refused_sheets(sheets: &mut Sheets) {
     sheets.refused(1, "header-only", header);
     let rows = |n: usize| -> String { (0..n).map(|node| format!("{node} 0 0 0\n")).collect() };
     let full = header.to_string() + &rows(MAX_NODES);
-    for (name, more) in [
-        ("a-257th-line", "0 0 0 0\n"),
-        ("a-number-above-255", "256 0 0 0\n"),
-        ("a-byte-more", "x"),
-        ("a-line-feed-more", "\n"),
-    ] {
+    for (name, more) in [("a-257th-line", "0 0 0 0\n"), ("a-number-above-255", "256 0 0 0\n"), ("a-byte-more", "x"), ("a-line-feed-more", "\n")] {
         sheets.refused(1, name, full.clone() + more);
     }
     sheets.refused(1, "many-lines", header.to_string() + &rows(700));

@@ -190,10 +190,8 @@ fn main() -> ExitCode {
     large.extend((JUDGED_BYTES - 1..=JUDGED_BYTES + 1).map(|length| megabyte(&line, b"1")[..length].to_vec()));
 
     let slow: Vec<(Vec<u8>, usize)> = [&small, &refused, &line].into_iter().flat_map(|input| [1, 7].map(|piece| (input.clone(), piece))).collect();
-    let leaves: Vec<(Vec<u8>, usize)> = [&line, &small, &refused]
-        .into_iter()
-        .flat_map(|input| [0, 1, 8, 100, 65_536].map(|read| (input.clone(), read)))
-        .collect();
+    let leaves: Vec<(Vec<u8>, usize)> =
+        [&line, &small, &refused].into_iter().flat_map(|input| [0, 1, 8, 100, 65_536].map(|read| (input.clone(), read))).collect();
     let some: Vec<Vec<u8>> = (0..400).map(|_| nonsense(&mut random)).collect();
 
     let passed = family("a few bytes at a time", slow.into_iter().map(|(input, piece)| (input.clone(), tried.answers(&input, piece))))

@@ -109,11 +109,7 @@ impl Caller {
     }
 
     fn lend(&self, yard: &Yard) -> LentYard<'_> {
-        LentYard {
-            parents: self.lender.lend(&yard.parents),
-            pebbles: self.lender.lend(&yard.pebbles),
-            targets: self.lender.lend(&yard.targets),
-        }
+        LentYard { parents: self.lender.lend(&yard.parents), pebbles: self.lender.lend(&yard.pebbles), targets: self.lender.lend(&yard.targets) }
     }
 
     /// Compares a call's answers; `wrong` tells what is amiss with the lent lists.
@@ -214,9 +210,7 @@ impl Caller {
         let inputs = Inputs { call: "trial", yard, bytes: plan, numbers: &[usize::from(budget)] };
         let mut lent = self.lend(yard);
         let list = self.lender.lend(plan);
-        let got = during(&inputs, || {
-            library::trial(lent.parents.list(), lent.pebbles.list_mut(), lent.targets.list(), list.list(), budget)
-        });
+        let got = during(&inputs, || library::trial(lent.parents.list(), lent.pebbles.list_mut(), lent.targets.list(), list.list(), budget));
         let expected = checker::trial(yard, plan, budget);
         let tried = expected.as_ref().map(|(tried, _)| *tried).map_err(|refusal| *refusal);
         let after = written(&yard.pebbles, &expected.map(|(_, pebbles)| pebbles));
@@ -235,7 +229,8 @@ impl Caller {
         let [mut parents, mut pebbles, mut targets] = [0, 1, 2].map(|list| self.lender.lend(&before[list]));
         let got = during(&inputs, || library::read_sheet(lent.list(), parents.list_mut(), pebbles.list_mut(), targets.list_mut()));
         let expected = sheet::read(bytes, lengths);
-        let after = |list: usize, read: fn(&Yard) -> &Vec<u8>| written(&before[list], &expected.as_ref().map(read).cloned().map_err(|refusal| *refusal));
+        let after =
+            |list: usize, read: fn(&Yard) -> &Vec<u8>| written(&before[list], &expected.as_ref().map(read).cloned().map_err(|refusal| *refusal));
         let wrong = lent
             .wrong("sheet", bytes)
             .or_else(|| parents.wrong("parents", &after(0, |yard| &yard.parents)))

@@ -55,7 +55,7 @@ impl Thin {
 
     /// Whether the case with this number is tried. Drawn by lot, as the marks of neighbouring cases repeat with the powers of two.
     pub fn keeps(self, case: u64) -> bool {
-        Random::new(case).next() % self.0 == 0
+        Random::new(case).draw().is_multiple_of(self.0)
     }
 
     /// How many of so many random cases are tried.
@@ -267,7 +267,7 @@ fn every_plan(caller: &Caller, thin: Thin) -> Same<u64> {
                 (0..values.pow(length)).map(move |code| (0..length).map(|at| (code / values.pow(at) % values) as u8).collect())
             })
             // One odd plan of each length is as good as all.
-            .filter(|plan: &Vec<u8>| plan.len() % 2 == 0 || plan.iter().all(|&byte| byte == 0))
+            .filter(|plan: &Vec<u8>| plan.len().is_multiple_of(2) || plan.iter().all(|&byte| byte == 0))
             .collect();
         for parents in shapes::every_tree(n) {
             for marks in 0..1usize << (2 * n) {
@@ -383,4 +383,3 @@ fn no_address(_: &Caller, _: Thin) -> Same<u64> {
     }
     Ok(answers.len() as u64)
 }
-

@@ -61,11 +61,8 @@ pub fn damaged(caller: &Caller, thin: Thin) -> Same<u64> {
     let cases = thin.of(150_000);
     for _ in 0..cases {
         let n = any_size(&mut random);
-        let mut sheet = if random.once_in(2) {
-            unjudged(&any_yard(n, &mut random))
-        } else {
-            unjudged(&shapes::yard(random.pick(&Shape::ALL), n, &mut random))
-        };
+        let mut sheet =
+            if random.once_in(2) { unjudged(&any_yard(n, &mut random)) } else { unjudged(&shapes::yard(random.pick(&Shape::ALL), n, &mut random)) };
         damage::sheet(&mut sheet, &mut random);
         caller.read_sheet(&sheet, any_lengths(&mut random))?;
     }
