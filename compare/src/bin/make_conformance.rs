@@ -94,6 +94,8 @@ fn choices(sheets: &mut Sheets) {
     sheets.tree("lowest-is-not-first-below", &[3, 3, 3, 3], &[2, 3], &[0, 1]);
     sheets.tree("lowest-of-three-after-one-is-served", &[0, 0, 0, 0, 0, 0], &[0, 4, 5], &[1, 2, 3]);
     sheets.tree("a-child-is-served-until-its-demand-is-0", &[0, 0, 0, 1, 0, 0], &[0, 4, 5], &[1, 2, 3]);
+    sheets.tree("lowest-though-another-lacks-more", &[0, 0, 0, 2, 0, 0, 0], &[4, 5, 6], &[1, 2, 3]);
+    sheets.tree("lowest-though-another-has-more", &[0, 0, 0, 2, 0, 0, 0], &[1, 2, 3], &[4, 5, 6]);
     sheets.tree("clearing-goes-down-two-steps", &[0, 0, 1, 2, 2, 1], &[0, 1, 2], &[2, 3, 4]);
     sheets.tree("drawing-goes-down-two-steps", &[0, 0, 1, 2, 2, 1], &[3, 4, 5], &[0, 1, 2]);
     sheets.tree("a-held-target-is-moved-on", &[0, 0, 1, 2], &[0, 1, 2], &[1, 2, 3]);

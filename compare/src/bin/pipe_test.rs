@@ -29,10 +29,15 @@ impl Tried {
         command.spawn().map_err(|error| format!("{}: {error}", self.command[0]))
     }
 
-    /// Feeds the input in pieces and compares all that is printed.
+    /// Feeds the input in pieces, as fast as they are taken, and compares all that is printed.
     fn answers(&self, input: &[u8], piece: usize) -> Outcome {
+        self.answers_slowly(input, piece, Duration::ZERO)
+    }
+
+    /// The same with a pause after each piece, so that the program gets no more than that at a time.
+    fn answers_slowly(&self, input: &[u8], piece: usize, pause: Duration) -> Outcome {
         let mut child = self.start(Stdio::piped(), Stdio::null())?;
-        let feeder = feed(&mut child, input.to_vec(), piece);
+        let feeder = feed(&mut child, input.to_vec(), piece, pause);
         let mut output = child.stdout.take().expect("piped");
         let printed = in_time(&mut child, move || {
             let mut printed = Vec::new();
@@ -50,7 +55,7 @@ impl Tried {
     /// Reads so many bytes of the answer and closes the pipe: the program must end, and what was read be the answer's beginning.
     fn reader_leaves(&self, input: &[u8], read: usize) -> Outcome {
         let mut child = self.start(Stdio::piped(), Stdio::piped())?;
-        let feeder = feed(&mut child, input.to_vec(), input.len());
+        let feeder = feed(&mut child, input.to_vec(), input.len(), Duration::ZERO);
         let output = child.stdout.take().expect("piped");
         let printed = in_time(&mut child, move || {
             let mut printed = Vec::new();
@@ -69,7 +74,7 @@ impl Tried {
     fn device_is_full(&self, input: &[u8]) -> Outcome {
         let full = OpenOptions::new().write(true).open("/dev/full").map_err(|error| format!("/dev/full: {error}"))?;
         let mut child = self.start(full.into(), Stdio::piped())?;
-        let feeder = feed(&mut child, input.to_vec(), input.len());
+        let feeder = feed(&mut child, input.to_vec(), input.len(), Duration::ZERO);
         let complaint = complaint(&mut child)?;
         let _ = feeder.join();
         no_answer(&complaint)
@@ -77,13 +82,14 @@ impl Tried {
 }
 
 /// Writes the input in pieces from a thread of its own and closes it. A program may stop reading when it has seen enough.
-fn feed(child: &mut Child, input: Vec<u8>, piece: usize) -> thread::JoinHandle<()> {
+fn feed(child: &mut Child, input: Vec<u8>, piece: usize, pause: Duration) -> thread::JoinHandle<()> {
     let mut to_program = child.stdin.take().expect("piped");
     thread::spawn(move || {
         for piece in input.chunks(piece.max(1)) {
             if to_program.write_all(piece).is_err() {
                 return;
             }
+            thread::sleep(pause);
         }
     })
 }
@@ -189,13 +195,15 @@ fn main() -> ExitCode {
     // Just as many bytes as are judged, one fewer and one more.
     large.extend((JUDGED_BYTES - 1..=JUDGED_BYTES + 1).map(|length| megabyte(&line, b"1")[..length].to_vec()));
 
-    let slow: Vec<(Vec<u8>, usize)> = [&small, &refused, &line].into_iter().flat_map(|input| [1, 7].map(|piece| (input.clone(), piece))).collect();
+    let slow: Vec<(Vec<u8>, u64)> = [(&small, 1000), (&refused, 1000), (&line, 20)].map(|(input, pause)| (input.clone(), pause)).to_vec();
     let leaves: Vec<(Vec<u8>, usize)> =
         [&line, &small, &refused].into_iter().flat_map(|input| [0, 1, 8, 100, 65_536].map(|read| (input.clone(), read))).collect();
     let some: Vec<Vec<u8>> = (0..400).map(|_| nonsense(&mut random)).collect();
 
-    let passed = family("a few bytes at a time", slow.into_iter().map(|(input, piece)| (input.clone(), tried.answers(&input, piece))))
-        && family("no input", std::iter::once((Vec::new(), tried.answers(&[], 1))))
+    let passed = family(
+        "a byte at a time",
+        slow.into_iter().map(|(input, pause)| (input.clone(), tried.answers_slowly(&input, 1, Duration::from_micros(pause)))),
+    ) && family("no input", std::iter::once((Vec::new(), tried.answers(&[], 1))))
         && family("a megabyte, or about as much as is judged", large.into_iter().map(|input| (input.clone(), tried.answers(&input, 1 << 16))))
         && family("nonsense", some.into_iter().map(|input| (input.clone(), tried.answers(&input, input.len()))))
         && family("a reader that leaves", leaves.into_iter().map(|(input, read)| (input.clone(), tried.reader_leaves(&input, read))))

@@ -69,9 +69,14 @@ fn solved(caller: &Caller, yard: &Yard, least: u32, random: &mut Random) -> Same
     caller.figures(yard)?;
     let plan = planner::plan(yard, usize::MAX).map_err(|refusal| format!("{yard:?} is refused: {refusal:?}"))?;
     planned(caller, yard, &plan, random)?;
+    let (moves, n) = (plan.len() / 2, yard.nodes());
     let length = figures::shortest_length(yard);
-    if plan.len() != 2 * least as usize || length != least {
-        return Err(format!("{yard:?}: {} moves, the demands say {length}, the least is {least}", plan.len() / 2));
+    if moves != least as usize || length != least {
+        return Err(format!("{yard:?}: {moves} moves, the demands say {length}, the least is {least}"));
+    }
+    // Corollary 15, and the room for any plan that the header promises.
+    if figures::length_bound(yard).is_ok_and(|bound| least > bound) || moves > n * n / 4 {
+        return Err(format!("{yard:?}: {moves} moves are above a bound"));
     }
     Ok(())
 }
