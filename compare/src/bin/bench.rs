@@ -116,10 +116,8 @@ fn yard(shape: Shape, n: usize) -> Yard {
 
 /// The highest ratio of the table, or nothing if answers differ.
 fn run() -> Option<f64> {
-    println!(
-        "Medians of {SAMPLES} samples in turn. Plan lists are not cleared before a call. A trial's pebbles are set anew before each one, on both"
-    );
-    println!("sides and within the time (256 bytes copied). 'Plain' is the same algorithm in safe Rust, with the same tests first.\n");
+    println!("Medians of {SAMPLES} samples in turn. Plan lists are not cleared before a call. A trial's pebbles are set anew before each one,");
+    println!("on both sides and within the time (256 bytes copied). 'Plain' is the same algorithm in safe Rust, with the same tests first.\n");
     println!("256 nodes    call        moves  library µs    plain µs   ratio");
     let mut highest = 0.0;
     for shape in Shape::ALL {
@@ -141,8 +139,8 @@ fn run() -> Option<f64> {
             println!("{:<19}{n:>5}{moves:>8}{library:>12.2}{plain:>12.2}{:>8.2}", shape.name(), times.ratio());
         }
     }
-    println!("\nFor information, plan in µs and the library's ratio to it: plain Rust with the children of a node in a row (as above), chained as siblings, and in a row");
-    println!("with the place of the last pick kept, so that no pick looks at a child twice.\n");
+    println!("\nFor information, plan in µs and the library's ratio to it: plain Rust with the children of a node in a row (as above), chained");
+    println!("as siblings, and in a row with the place of the last pick kept, so that no pick looks at a child twice.\n");
     println!("256 nodes    moves         in a row, ratio    siblings, ratio        kept, ratio");
     for shape in Shape::ALL {
         let yard = yard(shape, 256);
