@@ -89,9 +89,9 @@ module _ (y : Yard) (ms : List Move) (ps ts : List ℕ) where
 
     -- the next move, judged without the targets
     module _ (m : Move) (d : drop i ms ≡ m ∷ drop (suc i) ms) where
-      pub left-refused : (f : Fault) → moveFault (yardOf ps qs []) m i ≡ some f → movesFault 0 y ms ≡ some f
+      pub left-refused : (f : Fault) (place : ℕ) → moveFault (yardOf ps qs []) m place ≡ some f → place ≡ i → movesFault 0 y ms ≡ some f
       unfolding movesFault moveFault
-      left-refused f e = h .1 ∙ rw (d, e)
+      left-refused f place e q = h .1 ∙ rw (d, ← q, e)
 
       pub left-next : moveFault (yardOf ps qs []) m i ≡ none → Left (i + 1) (shifted qs m)
       unfolding moveFault
@@ -118,8 +118,8 @@ module _ (y : Yard) (t : Tree y) (m : Matched y) (bs : List ℕ) where
       let v : Verdict = record { moves = length (movesOf bs); excess = length (movesOf bs) - shortest y } in
       omega (arith, moves-half bs, demand-2 y t m .excess bs v (rw e))
 
-  pub check-answered : checkFault y bs ≡ none → (k : ℕ) → k ≡ shortest y → answered (record { moves = length bs / 2; excess = length bs / 2 - k }) ≡ checkAnswer y bs
-  check-answered e k l = rw (e, moves-half bs, l)
+  pub check-answered : {moves excess : ℕ} → checkFault y bs ≡ none → moves ≡ length bs / 2 → excess ≡ moves - shortest y → answered (record { moves = moves; excess = excess }) ≡ checkAnswer y bs
+  check-answered f e k = rw (f, k, e, moves-half bs)
 
 -- the trial: refusals 1 to 6, then 9, then the moves taken, which are those within the budget
 taken-is : (bs : List ℕ) (budget taken : ℕ) → taken ≡ min (length bs / 2) budget → taken ≡ length (within bs budget)
@@ -129,9 +129,9 @@ module _ (y : Yard) (bs : List ℕ) (budget : ℕ) where
   pub trial-refused : (f : Fault) → trialFault y bs budget ≡ some f → (refused f ≡ trialAnswer y bs budget) × (y .pebbles ≡ trialPebbles y bs budget)
   trial-refused f e = (rw e, rw e)
 
-  pub trial-answered : trialFault y bs budget ≡ none → (taken : ℕ) → taken ≡ min (length bs / 2) budget → (b : Bool) → leb (length bs / 2) budget ≡ b
+  pub trial-answered : {taken : ℕ} {b : Bool} → trialFault y bs budget ≡ none → taken ≡ min (length bs / 2) budget → leb (length bs / 2) budget ≡ b
       → answered (record { taken = taken; planEnded = b }) ≡ trialAnswer y bs budget
-  trial-answered f taken e b l = rw (f, ← (taken-is bs budget taken e), ← (moves-half bs), l)
+  trial-answered {taken} f e l = rw (f, ← (taken-is bs budget taken e), ← (moves-half bs), l)
 
   pub trial-judged : (f : Fault) → judge y ≡ some f → trialFault y bs budget ≡ some f
   unfolding trialFault

@@ -58,7 +58,7 @@ fn obey_to_end(parents: &[u8], pebbles: &[u8], targets: &[u8], plan: &[u8]) -> D
 
 // The checker on a tree with as many pebbles as targets, whose shortest length is known: refusals 9, 10 to 13 move by move, 14; else the number
 // of moves and the excess, moves minus shortest length.
-pub fn check_matched(
+fn check_matched(
     parents: &[u8],
     pebbles: &[u8],
     targets: &[u8],

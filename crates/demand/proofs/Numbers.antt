@@ -30,16 +30,16 @@ neg-fits (pos zero) h = record { sfits = omega arith }
 neg-fits (pos (suc n)) h = small-fits (subℕ 0 (suc n)) (sub-small 0 (suc n) (omega arith) h)
 neg-fits (negsuc n) h = record { sfits = omega arith }
 
--- the difference of two bytes
-pub bytes-minus : (a b : ℕ) → a < 256 → b < 256 → toZ w16 a -ℤ toZ w16 b ≡ subℕ a b
-bytes-minus a b h k = rw (toZ-pos w16 a (omega arith), toZ-pos w16 b (omega arith)) (minus b)
+-- the difference of two numbers that fit, and of two bytes
+pub held-minus : {x y : ℕ} (a b : ℕ) → SFits w16 (pos x) → SFits w16 (pos y) → x ≡ a → y ≡ b → toZ w16 x -ℤ toZ w16 y ≡ subℕ a b
+held-minus {x} {y} a b h k e f = rw (toZ-pos w16 x (h .sfits), toZ-pos w16 y (k .sfits), e, f) (minus b)
   where
     minus : (b : ℕ) → pos a -ℤ pos b ≡ subℕ a b
     minus zero = rw (le-ltb a 0 (omega arith)) (ap pos (omega arith))
     minus (suc b) = refl
 
 pub bytes-fit : (a b : ℕ) → a < 256 → b < 256 → SFits w16 (toZ w16 a -ℤ toZ w16 b)
-bytes-fit a b h k = rw (bytes-minus a b h k) (small-fits (subℕ a b) (sub-small a b (omega arith) (omega arith)))
+bytes-fit a b h k = rw (held-minus a b (small-fits (pos a) (omega arith)) (small-fits (pos b) (omega arith)) refl refl) (small-fits (subℕ a b) (sub-small a b (omega arith) (omega arith)))
 
 -- what is below 0 is, taken from 0, its size, and any other number is its size
 pub turned : (z : ℤ) → ltZ z (pos 0) ≡ true → pos 0 -ℤ z ≡ pos (natAbs z)

@@ -94,8 +94,8 @@ module _ (ps : List ℕ) where
         roots-own ∙ below-rest (length ps) r (own 0) l (f .1) (f .2)
         ∙ ap (λ (vs : List ℕ). r ∷ vs) (below-cong (length ps) (λ v. (leb (r + 1) v) && (own 0 v)) (own (r + 1)) (λ v. rw (leb·zero v)))
 
-    pub second-root : (s : ℕ) → s ≡ headOr (length ps) (below (length ps) (own (r + 1))) → s < length ps → fault 5 s ≡ firstOf shape
-    second-root s f m = rw (ap rootFault roots-first ∙ go (below (length ps) (own (r + 1))) f)
+    pub second-root : {place : ℕ} (s : ℕ) → s ≡ headOr (length ps) (below (length ps) (own (r + 1))) → s < length ps → place ≡ s → fault 5 place ≡ firstOf shape
+    second-root s f m e = rw (e, ap rootFault roots-first ∙ go (below (length ps) (own (r + 1))) f)
       where
         go : (vs : List ℕ) → s ≡ headOr (length ps) vs → rootFault (r ∷ vs) ≡ fault 5 s
         go [] f = absurd (omega arith)

@@ -1,7 +1,7 @@
 -- The trial obeys the front of a plan, as much of it as the budget allows. An accepted trial tells and leaves what as many accepted pushes
 -- do (`trial-pushes`), one with budget enough refuses the moves that the checker refuses (`trial-check`), and what lies past the budget has
 -- no say but by its length (`trial-past`).
-use mathlib.Core.Path.{_≡_, refl}
+use mathlib.Core.Path.{_≡_, refl, ap}
 use mathlib.Core.Logic.{_↔_}
 use mathlib.Core.Bool.{true}
 use mathlib.Core.List.{List, [], _∷_}
@@ -33,10 +33,12 @@ trial-pushes y bs budget r e =
     let a = answer-answered (trialFault y bs budget) _ r e in
     let p = none-all (trialTests y bs budget) (a .0) in
     let l = length-take budget (movesOf bs) in
-    rw (← (a .1), take-again budget (movesOf bs)) (
+    let taken : r .taken ≡ length (within bs budget) = omega (arith, ap (λ (t : Trial). t .taken) (a .1)) in
+    let left : trialPebbles y bs budget ≡ after y (within bs budget) = rw (a .0) in
+    rw (taken, take-again budget (movesOf bs), ← (a .1)) (
       refl,
       movesFault-accepted (within bs budget) 0 y (p .0) .0 (p .1 .1 .0),
-      rw (a .0),
+      left,
       omega arith,
       ((λ h. omega (arith, leb-true (length (movesOf bs)) budget h)), λ h. le-leb (length (movesOf bs)) budget (omega arith)),
     )

@@ -20,7 +20,7 @@ pub fn width(n: usize) -> usize
 }
 
 // Writes a number from `at` on, its last digit first, and answers the place behind it.
-pub fn put_decimal(out: &mut [u8], at: usize, n: usize) -> usize
+fn put_decimal(out: &mut [u8], at: usize, n: usize) -> usize
     requires { ⌜ at + length (decimal n) ≤ length (now out) ⌝ }
     ensures { λ r. ⌜ Written (decimal n) at (now (out .entry)) r (now (out .exit)) ⌝ }
 {

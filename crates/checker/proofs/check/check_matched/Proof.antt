@@ -47,7 +47,7 @@ sub-t12 c =
 returns-3 : tie.Need-returns-3
 returns-3 c =
     let s = c .before .before .before .before .before .before .before .before .before in
-    check-answered _ (s .pre .0) (s .pre .1) _ (sees (decided (c .before .before)) (c .enum-told .given .1)) _ (s .pre .2)
+    check-answered _ (s .pre .0) (s .pre .1) _ (sees (decided (c .before .before)) (c .enum-told .given .1)) (omega arith) (omega (arith, s .pre .2))
 
 pub check-matched-spec : {M : Type 1} → statement M
 check-matched-spec =

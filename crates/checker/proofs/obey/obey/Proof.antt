@@ -72,7 +72,7 @@ returns : tie.Need-returns Inv-loop μ-loop
 returns c =
     let t = c .before .before .before .before .before in
     let l = t .before .before .before .before in
-    (sym (left-refused _ _ _ _ _ _ (l .before .loop .inv .1) _ (next l) _ (sees (t .step .ensures .0) (c .before .done .given .1))), some-not)
+    (sym (left-refused _ _ _ _ _ _ (l .before .loop .inv .1) _ (next l) _ _ (sees (t .step .ensures .0) (c .before .done .given .1)) (omega arith)), some-not)
 
 enum-told : tie.Need-enum-told Inv-loop μ-loop
 enum-told c = search needs

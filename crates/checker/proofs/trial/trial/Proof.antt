@@ -81,7 +81,7 @@ returns-4 : tie.Need-returns-4
 returns-4 c =
     let o = obeyed (c .before .before .before .before .before) in
     let a = c .before .before .before .before .before .before .before .before .before .before .before .before .before .before .before .before .before .before .args in
-    (trial-answered _ _ _ (sees (o .0) (c .before .enum-told2 .given .1)) _ (c .before .before .before .before .before .before .before .smaller .ensures) _ (le-leb (length (a .plan .now) / 2) (a .budget) (omega arith)), o .1)
+    (trial-answered _ _ _ (sees (o .0) (c .before .enum-told2 .given .1)) (omega (arith, c .before .before .before .before .before .before .before .smaller .ensures)) (le-leb (length (a .plan .now) / 2) (a .budget) (omega arith)), o .1)
 
 same-length-5 : tie.Need-same-length-5
 same-length-5 c = search needs
@@ -90,7 +90,7 @@ returns-5 : tie.Need-returns-5
 returns-5 c =
     let o = obeyed (c .before .before .before .before .before) in
     let a = c .before .before .before .before .before .before .before .before .before .before .before .before .before .before .before .before .before .before .args in
-    (trial-answered _ _ _ (sees (o .0) (c .before .enum-told2 .given .1)) _ (c .before .before .before .before .before .before .before .smaller .ensures) _ (lt-leb (length (a .plan .now) / 2) (a .budget) (omega arith)), o .1)
+    (trial-answered _ _ _ (sees (o .0) (c .before .enum-told2 .given .1)) (omega (arith, c .before .before .before .before .before .before .before .smaller .ensures)) (lt-leb (length (a .plan .now) / 2) (a .budget) (omega arith)), o .1)
 
 pub trial-spec : {M : Type 1} → statement M
 trial-spec =

@@ -3,8 +3,8 @@
 use native.Mathlib.Omega.{arith}
 use native.Mathlib.Numerals.{add-one}
 use Prim.Native.Nat.{ℕ, _+_, _-_, _≤_, _<_}
-use mathlib.Core.Path.{_≡_, ap, _∙_}
-use lib.ListN.{length, getD, length-set, length-replicate, getD-replicate}
+use mathlib.Core.Path.{_≡_, refl, ap, _∙_}
+use lib.ListN.{length, getD, length-set, getD-replicate}
 use lib.Dec.{eqb}
 use Rattle.model.specs.Yard.{up, one, sum}
 use Rattle.model.proofs.Basics.{one-le, eqb-sym}
@@ -22,7 +22,7 @@ abbrev μ-loop : tie.MeasureT-loop
 
 loop-holds : tie.Need-loop-holds Inv-loop μ-loop
 unfolding sum
-loop-holds c = (omega arith, length-replicate {A = ℕ} 256 1, λ u l. getD-replicate 256 u 1 0 l)
+loop-holds c = (omega arith, refl, λ u l. getD-replicate 256 u _ 0 l ∙ omega arith)
 
 shared-slice-read-p : tie.Need-shared-slice-read-p Inv-loop μ-loop
 shared-slice-read-p c = omega arith

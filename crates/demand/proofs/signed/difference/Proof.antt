@@ -5,7 +5,7 @@ use native.Mathlib.Omega.{arith}
 use mathlib.Core.Path.{_∙_}
 use mir.Syntax.{w16}
 use mir.ValLaws.{toZ-ofZ}
-use Rattle.demand.proofs.Numbers.{bytes-fit, bytes-minus}
+use Rattle.demand.proofs.Numbers.{bytes-fit, held-minus}
 use Rattle.demand.proofs.signed.difference.Statement.{statement}
 use Rattle.demand.proofs.signed.difference.Tie as tie
 
@@ -19,7 +19,7 @@ sub-result : tie.Need-sub-result
 sub-result c = search (bytes-fit, arith)
 
 returns : tie.Need-returns
-returns c = toZ-ofZ w16 _ (sub-result c) ∙ search (bytes-minus, arith)
+returns c = toZ-ofZ w16 _ (sub-result c) ∙ held-minus (c .args .target) (c .args .pebble) (cast-result c) (cast-result-2 c) (omega arith) (omega arith)
 
 pub difference-spec : {M : Type 1} → statement M
 difference-spec = tie.close (tie.spec cast-result cast-result-2 sub-result returns)

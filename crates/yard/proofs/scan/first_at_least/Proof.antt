@@ -17,6 +17,10 @@ Inv-loop list limit i₀ i = (i ≤ length list) × ((v : ℕ) → v < i → leb
 abbrev μ-loop : tie.MeasureT-loop
 μ-loop list limit i₀ i = length list - i
 
+-- the entry at the index
+abbrev entry : tie.At-loop Inv-loop μ-loop → ℕ
+entry c = getD (c .before .args .list .now) (c .loop .i) 0
+
 loop-holds : tie.Need-loop-holds Inv-loop μ-loop
 loop-holds c = (omega arith, λ v l. absurd (omega arith))
 
@@ -27,7 +31,9 @@ cast-if1 : tie.Need-cast-if1 Inv-loop μ-loop
 cast-if1 c = omega (arith, c .shared-slice-known .given (c .before .before .loop .i))
 
 returns : tie.Need-returns Inv-loop μ-loop
-returns c = found _ _ _ _ (omega arith) (c .before .before .before .loop .inv .1) (le-leb _ _ (c .if1 .taken))
+returns c =
+    let l = c .before .before .before in
+    found _ _ _ _ (omega arith) (l .loop .inv .1) (le-leb (l .before .args .limit) (entry l) (omega arith))
 
 add-i : tie.Need-add-i Inv-loop μ-loop
 add-i c = omega arith
@@ -36,7 +42,9 @@ loop-less : tie.Need-loop-less Inv-loop μ-loop
 loop-less c = omega arith
 
 loop-again : tie.Need-loop-again Inv-loop μ-loop
-loop-again c = (omega arith, none-next _ _ (c .before .before .before .loop .inv .1) (lt-leb _ _ (c .if1 .left)))
+loop-again c =
+    let l = c .before .before .before in
+    (omega arith, none-next _ _ (l .loop .inv .1) (lt-leb (l .before .args .limit) (entry l) (omega arith)))
 
 returns-2 : tie.Need-returns-2 Inv-loop μ-loop
 returns-2 c =

@@ -1,5 +1,6 @@
 -- `yard::test::test_shape` meets its contract: the searches answer the lowest root, the next one behind it, and the lowest node on or below a
 -- circle, or else the number of nodes.
+use native.Mathlib.Omega.{arith}
 use borrow.Author.Needs.{needs}
 use Rattle.model.proofs.Tests.{no-root, second-root, on-circle, shape-pass}
 use Rattle.yard.proofs.test.test_shape.Statement.{statement}
@@ -20,7 +21,7 @@ first-own-requires-2 c κs = search needs
 returns-2 : tie.Need-returns-2
 returns-2 c =
     let r = c .before .before .before in
-    second-root (r .before .before .args .parents .now) _ (r .first-own .ensures) (c .before .before .if1 .left) _ (c .before .first-own2 .ensures) (c .if2 .taken)
+    second-root (r .before .before .args .parents .now) _ (r .first-own .ensures) (c .before .before .if1 .left) _ (c .before .first-own2 .ensures) (c .if2 .taken) (omega arith)
 
 first-circle-requires : tie.Need-first-circle-requires
 first-circle-requires c κs = search needs
