@@ -1,12 +1,47 @@
 // Finding the lowest entry of a list that passes a test.
 ghost use mathlib.Core.Path.{_≡_};
 ghost use mathlib.Core.Bool.{_&&_};
+ghost use Prim.Native.Nat.{ℕ, _<_, _≤_};
 ghost use lib.ListN.{length, getD};
 ghost use lib.Dec.{leb, eqb};
 ghost use Rattle.model.specs.Yard.{below, headOr};
 
-// The lowest index whose entry is at least `limit`, or the list's length.
+// The larger of two numbers.
+fn larger(a: u8, b: u8) -> u8
+    ensures { λ r. ⌜ (a ≤ r) × (b ≤ r) ⌝ }
+{
+    if a < b {
+        return b;
+    }
+    a
+}
+
+// A number that no entry is above: the greatest of them.
+fn greatest(list: &[u8]) -> u8
+    ensures { λ r. ⌜ ((v : ℕ) → v < length (now (list .entry)) → getD (now (list .entry)) v 0 ≤ r) ⌝ }
+{
+    let mut most = 0;
+    let mut i = 0;
+    while i < list.len() {
+        most = larger(most, list[i]);
+        i += 1;
+    }
+    most
+}
+
+// The lowest index whose entry is at least `limit`, or the list's length. Mostly there is none, which the greatest entry tells: to find that, many
+// entries can be looked at at once.
 pub fn first_at_least(list: &[u8], limit: usize) -> usize
+    ensures { λ r. ⌜ r ≡ headOr (length (now (list .entry))) (below (length (now (list .entry))) (λ v. leb limit (getD (now (list .entry)) v 0))) ⌝ }
+{
+    if (greatest(list) as usize) < limit {
+        return list.len();
+    }
+    look_for(list, limit)
+}
+
+// The same, entry by entry.
+fn look_for(list: &[u8], limit: usize) -> usize
     ensures { λ r. ⌜ r ≡ headOr (length (now (list .entry))) (below (length (now (list .entry))) (λ v. leb limit (getD (now (list .entry)) v 0))) ⌝ }
 {
     let mut i = 0;

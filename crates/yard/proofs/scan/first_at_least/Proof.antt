@@ -1,67 +1,30 @@
--- `yard::scan::first_at_least` meets its contract: every entry before the index is below the limit, so the first one met is the lowest, and past the
--- end there is none.
-use Prim.Native.Nat.{ℕ, _-_, _<_, _≤_}
-use mathlib.Core.Path.{_≡_, _∙_}
-use mathlib.Core.Bool.{false}
+-- `yard::scan::first_at_least` meets its contract: if the greatest entry is below the limit, each is.
 use native.Mathlib.Omega.{arith}
-use lib.ListN.{length, getD}
-use lib.Dec.{leb}
-use borrow.Author.Tests.{le-leb, lt-leb}
-use Rattle.model.proofs.Found.{found, missed, none-next}
+use lib.ListN.{getD}
+use borrow.Author.Needs.{needs}
+use borrow.Author.Tests.{lt-leb}
+use Rattle.model.proofs.Found.{missed}
 use Rattle.yard.proofs.scan.first_at_least.Statement.{statement}
 use Rattle.yard.proofs.scan.first_at_least.Tie as tie
 
-abbrev Inv-loop : tie.InvT-loop
-Inv-loop list limit i₀ i = (i ≤ length list) × ((v : ℕ) → v < i → leb limit (getD list v 0) ≡ false)
+greatest-requires : tie.Need-greatest-requires
+greatest-requires c κs = search needs
 
-abbrev μ-loop : tie.MeasureT-loop
-μ-loop list limit i₀ i = length list - i
+cast-if1 : tie.Need-cast-if1
+cast-if1 c = search needs
 
--- the entry at the index
-abbrev entry : tie.At-loop Inv-loop μ-loop → ℕ
-entry c = getD (c .before .args .list .now) (c .loop .i) 0
-
-loop-holds : tie.Need-loop-holds Inv-loop μ-loop
-loop-holds c = (omega arith, λ v l. absurd (omega arith))
-
-shared-slice-read-if1 : tie.Need-shared-slice-read-if1 Inv-loop μ-loop
-shared-slice-read-if1 c = omega arith
-
-cast-if1 : tie.Need-cast-if1 Inv-loop μ-loop
-cast-if1 c = omega (arith, c .shared-slice-known .given (c .before .before .loop .i))
-
-returns : tie.Need-returns Inv-loop μ-loop
+returns : tie.Need-returns
 returns c =
-    let l = c .before .before .before in
-    found _ _ _ _ (omega arith) (l .loop .inv .1) (le-leb (l .before .args .limit) (entry l) (omega arith))
+    let g = c .before in
+    let a = g .before .before .args in
+    missed _ _ _ (λ v l. lt-leb (a .limit) (getD (a .list .now) v 0) (omega (arith, g .greatest .ensures v l, c .if1 .taken)))
 
-add-i : tie.Need-add-i Inv-loop μ-loop
-add-i c = omega arith
+look-for-requires : tie.Need-look-for-requires
+look-for-requires c κs = search needs
 
-loop-less : tie.Need-loop-less Inv-loop μ-loop
-loop-less c = omega arith
-
-loop-again : tie.Need-loop-again Inv-loop μ-loop
-loop-again c =
-    let l = c .before .before .before in
-    (omega arith, none-next _ _ (l .loop .inv .1) (lt-leb (l .before .args .limit) (entry l) (omega arith)))
-
-returns-2 : tie.Need-returns-2 Inv-loop μ-loop
-returns-2 c =
-    let e : c .before .loop .i ≡ length (c .before .before .args .list .now) = omega arith in
-    e ∙ missed _ _ _ (λ v l. c .before .loop .inv .1 v (omega arith))
+returns-2 : tie.Need-returns-2
+returns-2 c = search needs
 
 pub first-at-least-spec : {M : Type 1} → statement M
 first-at-least-spec =
-    tie.close
-    (tie.spec
-    Inv-loop
-    μ-loop
-    loop-holds
-    shared-slice-read-if1
-    cast-if1
-    returns
-    add-i
-    loop-less
-    loop-again
-    returns-2)
+    tie.close (tie.spec greatest-requires cast-if1 returns look-for-requires returns-2)
