@@ -1,5 +1,7 @@
--- Filling and drawing on the planner's tables and state: the push over the edge of v, at once or behind what makes way for it at a child.
-use mathlib.Core.Path.{_≡_, refl, ap, _∙_}
+-- Filling and drawing on the planner's tables and state: down the chain of nodes that must make way, and from its end up again, a push over the
+-- edge of each.
+use mathlib.Core.Path.{_≡_, refl, sym, ap, subst, _∙_}
+use mathlib.Core.Logic.{_≢_}
 use mathlib.Core.Bool.{Bool, true, false, not}
 use mathlib.Core.List.{List, [], _∷_, _++_}
 use Prim.Native.Nat.{ℕ, _+_, _-_, _*_, _≤_, _<_}
@@ -9,19 +11,20 @@ use lib.IntN.{ℤ, pos, natAbs}
 use mir.Syntax.{w16}
 use mir.Val.{ofZ}
 use borrow.Author.Tests.{le-leb, lt-leb, lt-ltb, le-ltb}
-use Rattle.model.specs.Yard.{Yard, size, one, pebble, imbalance, shortest}
-use Rattle.model.specs.Push.{push, after, run}
+use Rattle.model.specs.Yard.{Yard, size, up, one, pebble}
+use Rattle.model.specs.Judge.{Tree}
+use Rattle.model.specs.Push.{Move, push, after, run}
 use Rattle.model.specs.Plan.{choice}
-use Rattle.model.proofs.Sums.{sum-term}
 use Rattle.model.proofs.Trees.{Child}
 use Rattle.model.proofs.Judged.{facts, wood}
 use Rattle.model.proofs.Demands.{weight, weight-child}
 use Rattle.model.proofs.Step.{crossing, need}
-use Rattle.model.proofs.Shortest.{good-tree}
-use Rattle.model.proofs.Signed.{nextℤ, demand-range, shortest-small}
-use Rattle.model.proofs.Serve.{Due, Shift, direct, behind, blocked, due-step, due-behind, able-behind, free-able, blocked-child, serves-shift}
-use Rattle.planner.specs.Kept.{Tables, Kept, Ready, movedState, movedPlan, Asked, Served}
+use Rattle.model.proofs.Shortest.{Good, good-nil, good-tree}
+use Rattle.model.proofs.Signed.{nextℤ, demand-range}
+use Rattle.model.proofs.Serve.{Due, Shift, Serves, direct, behind, blocked, due-step, due-behind, able-behind, free-able, blocked-child, serves-shift}
+use Rattle.planner.specs.Kept.{Tables, Kept, Ready, movedState, movedPlan, Asked, Chain, at-top, down, Begins, AskedMoves, Made, Served}
 use Rattle.planner.proofs.Moving.{made-nil, made-move}
+use Rattle.planner.proofs.Made.{within}
 
 -- the table's parent
 crossing-table : {ps t : List ℕ} → Tables ps t → (b : Bool) (v : ℕ) → v < length ps → crossing t b v ≡ crossing ps b v
@@ -47,73 +50,107 @@ pub blocked-node : (b : Bool) (y : Yard) (v : ℕ) → pebble y v ≡ one b → 
 blocked-node true y v e = le-leb 1 (pebble y v) (omega arith)
 blocked-node false y v e = ap not (le-ltb 0 (pebble y v) (omega arith))
 
-module _ (b : Bool) (y : Yard) (t : List ℕ) (s : List ℤ) (plan : List ℕ) (v h : ℕ) (a : Asked b y t s plan v h) where
-  node : v < size y
-  node = a .due .lt
+-- where v is blocked, the child that is chosen makes way
+module _ {b : Bool} {y : Yard} {t : List ℕ} {s : List ℤ} {v h : ℕ} (a : Asked b y t s v h) (e : blocked y b v ≡ true) where
+  kid : Child (y .parents) v (choice (need y b) y v) × Due y b (choice (need y b) y v)
+  kid = blocked-child y (a .ready .tree) b v (a .due) e
 
-  needed : (b : Bool) → 0 < need y b v → 0 < imbalance y v
-  needed true n = omega arith
-  needed false n = omega arith
+  lower : weight (y .parents) (choice (need y b) y v) < weight (y .parents) v
+  lower = weight-child (wood y (a .ready .tree)) v (choice (need y b) y v) (a .due .lt) (kid .0)
 
-  -- room for a move, and a demand in range
-  pub asked-room : 2 ≤ length plan
-  unfolding shortest
-  asked-room = omega (arith, a .room, needed b (a .due .needs), sum-term (size y) v (imbalance y) node)
+  pub high-enough : 1 ≤ h
+  high-enough = omega (arith, a .high, lower)
 
-  pub asked-range : natAbs (getD s v (pos 0)) ≤ 256
-  asked-range = rw (a .ready .kept .demands v node) (demand-range y (a .ready .tree) v)
+  pub child-asked : Asked b y t s (choice (need y b) y v) (h - 1)
+  child-asked = record { ready = a .ready; due = kid .1; high = omega (arith, a .high, lower) }
 
-  pub serve-direct : blocked y b v ≡ false → Served b y v (movedState t b v s) plan (movedPlan t b v 0 plan) 1
-  unfolding due-step after
-  serve-direct e = record {
-    moves = crossing (y .parents) b v ∷ [];
-    serves = direct e;
-    made = rw (crossing-table (a .ready .tables) b v node) (
-        made-move y [] (crossing (y .parents) b v) s plan plan 0 (made-nil y s plan (a .ready .kept))
-        (due-step y (a .ready .tree) b v (a .due) (free-able y (a .ready .tree) b v e)) (omega (arith, asked-room)) (nextℤ b (getD s v (pos 0))) refl
-        );
-  }
+module _ {b : Bool} {y : Yard} where
+  -- the chain, a node longer at its upper end
+  above : {v w : ℕ} → blocked y b v ≡ true → Chain b y (choice (need y b) y v) w → Chain b y v w
+  above e at-top = down at-top e
+  above e (down c f) = down (above e c) f
 
-  module _ (e : blocked y b v ≡ true) where
-    kid : Child (y .parents) v (choice (need y b) y v) × Due y b (choice (need y b) y v)
-    kid = blocked-child y (a .ready .tree) b v (a .due) e
+  pub begins-here : {v : ℕ} → blocked y b v ≡ false → Begins b y v v
+  begins-here e = record { chain = at-top; free = e }
 
-    lower : weight (y .parents) (choice (need y b) y v) < weight (y .parents) v
-    lower = weight-child (wood y (a .ready .tree)) v (choice (need y b) y v) node (kid .0)
+  pub begins-below : {v w : ℕ} → blocked y b v ≡ true → Begins b y (choice (need y b) y v) w → Begins b y v w
+  begins-below e r = record { chain = above e (r .chain); free = r .free }
 
-    -- what makes way
-    pub high-enough : 1 ≤ h
-    high-enough = omega (arith, a .high, lower)
+  -- a pebble is due over the edge of each of its nodes
+  chain-due : {top v : ℕ} → Tree y → Due y b top → Chain b y top v → Due y b v
+  chain-due t u at-top = u
+  chain-due t u (down {u = w} c e) = blocked-child y t b w (chain-due t u c) e .1
 
-    pub child-asked : Asked b y t s plan (choice (need y b) y v) (h - 1)
-    child-asked = record { ready = a .ready; due = kid .1; room = a .room; high = omega (arith, a .high, lower) }
+  -- and its nodes are each the child chosen of the one above, which is blocked
+  climb : {top v : ℕ} → Tree y → Due y b top → Chain b y top v → v ≢ top
+      → Chain b y top (up (y .parents) v) × (blocked y b (up (y .parents) v) ≡ true) × (v ≡ choice (need y b) y (up (y .parents) v))
+  climb t u at-top d = absurd (d refl)
+  climb t u (down {u = w} c e) d = rw (blocked-child y t b w (chain-due t u c) e .0 .up) (c, e, refl)
 
-    module _ (s₁ : List ℤ) (plan₁ : List ℕ) (k : ℕ) (r : Served b y (choice (need y b) y v) s₁ plan plan₁ k) where
-      shift : Shift y b (choice (need y b) y v) (r .moves)
-      shift = serves-shift y (a .ready .tree) (r .serves) (kid .1)
+-- the moves that make way for the one over the edge of v
+pub data Way (b : Bool) (y : Yard) (v : ℕ) : List Move → Type 0 where
+  free : blocked y b v ≡ false → Way b y v []
+  cleared : {ms : List Move} → blocked y b v ≡ true → Serves y b (choice (need y b) y v) ms → Way b y v ms
 
-      all : Shift y b v (r .moves ++ (crossing (y .parents) b v ∷ []))
-      all = serves-shift y (a .ready .tree) (behind e (r .serves)) (a .due)
+way-serves : {b : Bool} {y : Yard} {v : ℕ} {ms : List Move} → Way b y v ms → Serves y b v (ms ++ (crossing (y .parents) b v ∷ []))
+way-serves (free e) = direct e
+way-serves (cleared e s) = behind e s
 
-      pub behind-room : 2 * k + 2 ≤ length plan
-      behind-room = omega (arith, a .room, all .good .spends, length-append (r .moves) (crossing (y .parents) b v ∷ []), r .made .counted)
+-- on the way up: the moves so far make way for the one over the edge of v
+pub record Climbing (b : Bool) (y : Yard) (s : List ℤ) (before plan : List ℕ) (k v top : ℕ) : Type 0 where
+  pub moves : List Move
+  pub chain : Chain b y top v
+  pub way : Way b y v moves
+  pub made : Made y moves s before plan k
 
-      pub behind-count : k + 1 ≤ 65_536
-      behind-count = omega (arith, all .good .spends, length-append (r .moves) (crossing (y .parents) b v ∷ []), r .made .counted, shortest-small y (a .ready .tree))
+module _ {b : Bool} {y : Yard} {t : List ℕ} {s₀ : List ℤ} {before : List ℕ} {low top : ℕ} (a : AskedMoves b y t s₀ before low top) where
+  pub climb-first : Climbing b y s₀ before before 0 low top
+  climb-first = record { moves = []; chain = a .begins .chain; way = free (a .begins .free); made = made-nil y s₀ before (a .ready .kept) }
 
-      pub behind-range : natAbs (getD s₁ v (pos 0)) ≤ 256
-      behind-range = rw (r .made .kept .demands v node) (demand-range (run y (r .moves)) (good-tree y (a .ready .tree) (r .moves) (shift .good)) v)
+  module _ {s : List ℤ} {plan : List ℕ} {k v : ℕ} (c : Climbing b y s before plan k v top) where
+    due : Due y b v
+    due = chain-due (a .ready .tree) (a .due) (c .chain)
 
-      pub serve-behind : Served b y v (movedState t b v s₁) plan (movedPlan t b v k plan₁) (k + 1)
-      unfolding due-step
-      serve-behind = record {
-        moves = r .moves ++ (crossing (y .parents) b v ∷ []);
-        serves = behind e (r .serves);
-        made = rw (crossing-table (a .ready .tables) b v node) (
-            made-move y (r .moves) (crossing (y .parents) b v) s₁ plan plan₁ k (r .made)
-            (due-step (run y (r .moves)) (good-tree y (a .ready .tree) (r .moves) (shift .good)) b v
-            (due-behind y (a .ready .tree) b v (choice (need y b) y v) (r .moves) (a .due) (kid .0) shift)
-            (able-behind y (a .ready .tree) b v (choice (need y b) y v) (r .moves) (a .due) (kid .0) shift))
-            (omega (arith, behind-room, r .made .counted)) (nextℤ b (getD s₁ v (pos 0))) refl
-            );
-      }
+    pub climb-node : v < size y
+    climb-node = due .lt
+
+    -- what made way for v
+    shift : {ms : List Move} → blocked y b v ≡ true → Serves y b (choice (need y b) y v) ms → Shift y b (choice (need y b) y v) ms
+    shift e r = serves-shift y (a .ready .tree) r (blocked-child y (a .ready .tree) b v due e .1)
+
+    way-good : {ms : List Move} → Way b y v ms → Good y ms
+    way-good (free e) = good-nil y
+    way-good (cleared e r) = shift e r .good
+
+    -- room for the move, and a demand in range
+    pub climb-room : (length plan ≡ length before) × (2 * k + 2 ≤ length before)
+    climb-room = omega (arith, within (way-good (c .way)) (a .room) (c .made), a .room, serves-shift y (a .ready .tree) (way-serves (c .way)) due .good .spends, length-append (c .moves) (crossing (y .parents) b v ∷ []), c .made .counted)
+
+    pub climb-range : natAbs (getD s v (pos 0)) ≤ 256
+    climb-range = rw (c .made .kept .demands v climb-node) (demand-range (run y (c .moves)) (good-tree y (a .ready .tree) (c .moves) (way-good (c .way))) v)
+
+    one-more : {ms : List Move} → Way b y v ms → Made y ms s before plan k → 2 * length ms + 2 ≤ length before
+        → Made y (ms ++ (crossing (y .parents) b v ∷ [])) (movedState (y .parents) b v s) before (movedPlan (y .parents) b v k plan) (k + 1)
+    unfolding due-step after
+    one-more (free e) d l = made-move y [] (crossing (y .parents) b v) s before plan k d (due-step y (a .ready .tree) b v due (free-able y (a .ready .tree) b v e)) l (nextℤ b (getD s v (pos 0))) refl
+    one-more (cleared {ms = ms} e r) d l =
+        let f = blocked-child y (a .ready .tree) b v due e .0 in
+        let p = shift e r in
+        made-move y ms (crossing (y .parents) b v) s before plan k d
+        (due-step (run y ms) (good-tree y (a .ready .tree) ms (p .good)) b v
+        (due-behind y (a .ready .tree) b v (choice (need y b) y v) ms due f p)
+        (able-behind y (a .ready .tree) b v (choice (need y b) y v) ms due f p)) l (nextℤ b (getD s v (pos 0))) refl
+
+    climb-made : Made y (c .moves ++ (crossing (y .parents) b v ∷ [])) (movedState t b v s) before (movedPlan t b v k plan) (k + 1)
+    climb-made = rw (crossing-table (a .ready .tables) b v climb-node) (one-more (c .way) (c .made) (omega (arith, climb-room, c .made .counted)))
+
+    -- the last one, or up to the next
+    pub climb-last : v ≡ top → Served b y top (movedState t b v s) before (movedPlan t b v k plan) (k + 1)
+    climb-last e = record { moves = _; serves = subst (λ (w : ℕ). Serves y b w (c .moves ++ (crossing (y .parents) b v ∷ []))) e (way-serves (c .way)); made = climb-made }
+
+    pub climb-next : v ≢ top → Climbing b y (movedState t b v s) before (movedPlan t b v k plan) (k + 1) (getD t v 0) top
+    climb-next d =
+        let u = climb (a .ready .tree) (a .due) (c .chain) d in
+        let r = subst (λ (w : ℕ). Serves y b w (c .moves ++ (crossing (y .parents) b v ∷ []))) (u .2) (way-serves (c .way)) in
+        subst (λ (w : ℕ). Climbing b y (movedState t b v s) before (movedPlan t b v k plan) (k + 1) w top) (sym (a .ready .tables .parent v climb-node))
+        (record { moves = _; chain = u .0; way = cleared (u .1) r; made = climb-made })

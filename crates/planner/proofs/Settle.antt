@@ -23,7 +23,7 @@ use Rattle.model.proofs.Shortest.{Good, keeps}
 use Rattle.model.proofs.Choice.{all-needy, none-needy}
 use Rattle.model.proofs.Serve.{Due, Serves, serves-shift}
 use Rattle.model.proofs.Balance.{Settles, settled, turned, turn-due, first-needy}
-use Rattle.planner.specs.Kept.{Ready, Made, Asked, AskedEven}
+use Rattle.planner.specs.Kept.{Ready, Made, Asked, Begins, AskedMoves, AskedEven}
 use Rattle.planner.proofs.Serving.{mark-is}
 use Rattle.planner.proofs.Made.{rest, ready-after, room-left}
 
@@ -84,13 +84,15 @@ module _ {y : Yard} {t : List ℕ} {s : List ℤ} {plan : List ℕ} {u h : ℕ} 
     due : Due y b c
     due = due-chosen c (chosen-needs .0) (some-need c (chosen-needs .1))
 
-    pub turn-asked : Asked b y t s plan c h
+    pub turn-asked : Asked b y t s c h
     turn-asked = record {
       ready = a .ready;
       due = due;
-      room = a .room;
       high = omega (arith, a .high, weight-child (wood y (a .ready .tree)) u c (a .node) (chosen-needs .0));
     }
+
+    pub turn-moves : {low : ℕ} → Begins b y c low → AskedMoves b y t s plan low c
+    turn-moves r = record { ready = a .ready; due = due; begins = r; room = a .room }
 
     module _ {ms : List Move} (v : Serves y b c ms) where
       pub turn-good : Good y ms × (0 < length ms)

@@ -2,7 +2,7 @@
 -- asks that there is one, and says what it did for each.
 use mathlib.Core.Path.{_≡_}
 use mathlib.Core.Logic.{_≢_}
-use mathlib.Core.Bool.{Bool, _&&_}
+use mathlib.Core.Bool.{Bool, true, false, _&&_}
 use mathlib.Core.List.{List, [], _∷_}
 use Prim.Native.Nat.{ℕ, _+_, _*_, _≤_, _<_}
 use lib.ListN.{length, getD, set}
@@ -11,12 +11,13 @@ use lib.IntN.{ℤ, pos}
 use Rattle.model.specs.Yard.{Yard, size, up, pebble, below, headOr, isChild, children, demand, shortest}
 use Rattle.model.specs.Judge.{Tree}
 use Rattle.model.specs.Push.{Move, run}
+use Rattle.model.specs.Plan.{choice}
 use Rattle.model.specs.Calls.{bytes, overwrite}
 use Rattle.model.proofs.Trees.{Child}
 use Rattle.model.proofs.Demands.{weight}
-use Rattle.model.proofs.Step.{crossing}
+use Rattle.model.proofs.Step.{crossing, need}
 use Rattle.model.proofs.Signed.{nextℤ}
-use Rattle.model.proofs.Serve.{Due, Serves}
+use Rattle.model.proofs.Serve.{Due, Serves, blocked}
 use Rattle.model.proofs.Balance.{Even, Settles, Balances}
 
 -- three tables of 256 entries in a row: a node's parent; its lowest child, or itself; the next child of its parent, or itself
@@ -45,13 +46,28 @@ pub record Ready (y : Yard) (t : List ℕ) (s : List ℤ) : Type 0 where
   pub tables : Tables (y .parents) t
   pub kept : Kept y s
 
--- what filling v (true) or drawing from it (false) asks: that a pebble is due over its edge, room in the list, and a height that bounds the nodes
--- inside v
-pub record Asked (b : Bool) (y : Yard) (t : List ℕ) (s : List ℤ) (plan : List ℕ) (v height : ℕ) : Type 0 where
+-- what filling v (true) or drawing from it (false) asks: that a pebble is due over its edge, and a height that bounds the nodes inside v
+pub record Asked (b : Bool) (y : Yard) (t : List ℕ) (s : List ℤ) (v height : ℕ) : Type 0 where
   pub ready : Ready y t s
   pub due : Due y b v
-  pub room : 2 * shortest y ≤ length plan
   pub high : weight (y .parents) v ≤ height
+
+-- the nodes that must make way before a pebble can go over the edge of top: from each that is blocked on to the child that is chosen
+pub data Chain (b : Bool) (y : Yard) (top : ℕ) : ℕ → Type 0 where
+  at-top : Chain b y top top
+  down : {u : ℕ} → Chain b y top u → blocked y b u ≡ true → Chain b y top (choice (need y b) y u)
+
+-- where the moves begin: at the end of that chain
+pub record Begins (b : Bool) (y : Yard) (top low : ℕ) : Type 0 where
+  pub chain : Chain b y top low
+  pub free : blocked y b low ≡ false
+
+-- what the moves ask, from there up to top: room in the list too
+pub record AskedMoves (b : Bool) (y : Yard) (t : List ℕ) (s : List ℤ) (plan : List ℕ) (low top : ℕ) : Type 0 where
+  pub ready : Ready y t s
+  pub due : Due y b top
+  pub begins : Begins b y top low
+  pub room : 2 * shortest y ≤ length plan
 
 -- moves that were made, written at the front of the list, and counted
 pub record Made (y : Yard) (ms : List Move) (s : List ℤ) (before after : List ℕ) (count : ℕ) : Type 0 where
@@ -59,7 +75,7 @@ pub record Made (y : Yard) (ms : List Move) (s : List ℤ) (before after : List 
   pub written : after ≡ overwrite (bytes ms) before
   pub counted : count ≡ length ms
 
--- what it gives: the moves of Algorithm 2 or 3
+-- what they give: the moves of Algorithm 2 or 3
 pub record Served (b : Bool) (y : Yard) (v : ℕ) (s : List ℤ) (before after : List ℕ) (count : ℕ) : Type 0 where
   pub moves : List Move
   pub serves : Serves y b v moves

@@ -1,26 +1,20 @@
 // Algorithm 1: balancing the subtrees of a node.
 ghost use Rattle.model.specs.Yard.{Yard};
-ghost use Rattle.planner.specs.Kept.{Asked, Served, AskedEven, Settled, Balanced, AskedBelow, BalancedBelow};
+ghost use Rattle.planner.specs.Kept.{Asked, Begins, AskedEven, Settled, Balanced, AskedBelow, BalancedBelow};
 use crate::choose::choose;
 use crate::serve::extract_pebble;
 use crate::serve::inject_pebble;
+use crate::serve::move_pebbles;
 
-// A turn of the loop: fills the child c, or draws from it.
-fn turn(
-    t: &[u8; 768],
-    s: &mut [i16; 512],
-    plan: &mut [u8],
-    c: usize,
-    away: bool,
-    height: usize,
-) -> usize
-    requires { ⌜ ((y : Yard) × Asked away y (now t) (now s) (now plan) c height) ⌝ }
-    ensures { λ r. ⌜ ((y : Yard) → Asked away y (now (t .entry)) (now (s .entry)) (now (plan .entry)) c height → Served away y c (now (s .exit)) (now (plan .entry)) (now (plan .exit)) r) ⌝ }
+// Where a turn of the loop begins, which fills the child c or draws from it.
+fn turn_start(t: &[u8; 768], s: &[i16; 512], c: usize, away: bool, height: usize) -> usize
+    requires { ⌜ ((y : Yard) × Asked away y (now t) (now s) c height) ⌝ }
+    ensures { λ r. ⌜ ((y : Yard) → Asked away y (now (t .entry)) (now (s .entry)) c height → Begins away y c r) ⌝ }
 {
     if away {
-        return inject_pebble(t, s, plan, c, height);
+        return inject_pebble(t, s, c, height);
     }
-    extract_pebble(t, s, plan, c, height)
+    extract_pebble(t, s, c, height)
 }
 
 // The loop at u: if u holds a pebble a child is filled from it, else one is drawn from a child, until no child has a demand of the sign wanted;
@@ -36,7 +30,8 @@ fn settle(t: &[u8; 768], s: &mut [i16; 512], plan: &mut [u8], u: usize, height: 
         if c == u {
             return k;
         }
-        let m = turn(t, s, &mut plan[2 * k..], c, away, height);
+        let low = turn_start(t, s, c, away, height);
+        let m = move_pebbles(t, s, &mut plan[2 * k..], low, c, away);
         k += m;
     }
 }

@@ -5,10 +5,8 @@ ghost use Prim.Native.Nat.{_+_, _*_, _<_, _≤_};
 ghost use lib.ListN.{length, getD, set};
 ghost use lib.IntN.{pos, natAbs};
 ghost use Rattle.model.specs.Yard.{Yard};
-ghost use Rattle.model.specs.Plan.{choice};
-ghost use Rattle.model.proofs.Step.{need};
 ghost use Rattle.model.proofs.Serve.{blocked};
-ghost use Rattle.planner.specs.Kept.{movedState, movedPlan, Asked, Served};
+ghost use Rattle.planner.specs.Kept.{movedState, movedPlan, Asked, Begins, AskedMoves, Served};
 use crate::choose::choose;
 use crate::choose::wide;
 
@@ -40,52 +38,59 @@ fn move_pebble(t: &[u8; 768], s: &mut [i16; 512], plan: &mut [u8], k: usize, v: 
     record_move(s, plan, k, v, p);
 }
 
-// Algorithm 2: fills v from its parent. A full v is cleared first.
-pub fn inject_pebble(
-    t: &[u8; 768],
-    s: &mut [i16; 512],
-    plan: &mut [u8],
-    v: usize,
-    height: usize,
-) -> usize
-    requires { ⌜ ((y : Yard) × Asked true y (now t) (now s) (now plan) v height) ⌝ }
-    ensures { λ r. ⌜ ((y : Yard) → Asked true y (now (t .entry)) (now (s .entry)) (now (plan .entry)) v height → Served true y v (now (s .exit)) (now (plan .entry)) (now (plan .exit)) r) ⌝ }
+// Algorithm 2: where filling v from its parent begins. A full v is cleared first.
+pub fn inject_pebble(t: &[u8; 768], s: &[i16; 512], v: usize, height: usize) -> usize
+    requires { ⌜ ((y : Yard) × Asked true y (now t) (now s) v height) ⌝ }
+    ensures { λ r. ⌜ ((y : Yard) → Asked true y (now (t .entry)) (now (s .entry)) v height → Begins true y v r) ⌝ }
 {
     if s[256 + v] == 0 {
-        move_pebble(t, s, plan, 0, v, true);
-        return 1;
+        return v;
     }
-    let k = clear_node(t, s, plan, v, height);
-    move_pebble(t, s, plan, k, v, true);
-    k + 1
+    clear_node(t, s, v, height)
 }
 
 // To clear v, which is full, fill the child that is chosen.
-fn clear_node(t: &[u8; 768], s: &mut [i16; 512], plan: &mut [u8], v: usize, height: usize) -> usize
-    requires { ⌜ ((y : Yard) × Asked true y (now t) (now s) (now plan) v height × (blocked y true v ≡ true)) ⌝ }
-    ensures { λ r. ⌜ ((y : Yard) → Asked true y (now (t .entry)) (now (s .entry)) (now (plan .entry)) v height → blocked y true v ≡ true → Served true y (choice (need y true) y v) (now (s .exit)) (now (plan .entry)) (now (plan .exit)) r) ⌝ }
+fn clear_node(t: &[u8; 768], s: &[i16; 512], v: usize, height: usize) -> usize
+    requires { ⌜ ((y : Yard) × Asked true y (now t) (now s) v height × (blocked y true v ≡ true)) ⌝ }
+    ensures { λ r. ⌜ ((y : Yard) → Asked true y (now (t .entry)) (now (s .entry)) v height → blocked y true v ≡ true → Begins true y v r) ⌝ }
 {
     let c = choose(t, s, v, true);
-    inject_pebble(t, s, plan, c, height - 1)
+    inject_pebble(t, s, c, height - 1)
 }
 
-// Algorithm 3: draws from v into its parent. Into an empty v one is drawn first.
-pub fn extract_pebble(
+// Algorithm 3: where drawing from v into its parent begins. Into an empty v one is drawn first.
+pub fn extract_pebble(t: &[u8; 768], s: &[i16; 512], v: usize, height: usize) -> usize
+    requires { ⌜ ((y : Yard) × Asked false y (now t) (now s) v height) ⌝ }
+    ensures { λ r. ⌜ ((y : Yard) → Asked false y (now (t .entry)) (now (s .entry)) v height → Begins false y v r) ⌝ }
+{
+    if s[256 + v] != 0 {
+        return v;
+    }
+    let c = choose(t, s, v, false);
+    extract_pebble(t, s, c, height - 1)
+}
+
+// The moves of filling `top`, or of drawing from it, which begin at `low`: from there up to `top` a pebble goes over the edge of each node and
+// makes way for the next. They go to the front of the list; answers how many.
+pub fn move_pebbles(
     t: &[u8; 768],
     s: &mut [i16; 512],
     plan: &mut [u8],
-    v: usize,
-    height: usize,
+    low: usize,
+    top: usize,
+    away: bool,
 ) -> usize
-    requires { ⌜ ((y : Yard) × Asked false y (now t) (now s) (now plan) v height) ⌝ }
-    ensures { λ r. ⌜ ((y : Yard) → Asked false y (now (t .entry)) (now (s .entry)) (now (plan .entry)) v height → Served false y v (now (s .exit)) (now (plan .entry)) (now (plan .exit)) r) ⌝ }
+    requires { ⌜ ((y : Yard) × AskedMoves away y (now t) (now s) (now plan) low top) ⌝ }
+    ensures { λ r. ⌜ ((y : Yard) → AskedMoves away y (now (t .entry)) (now (s .entry)) (now (plan .entry)) low top → Served away y top (now (s .exit)) (now (plan .entry)) (now (plan .exit)) r) ⌝ }
 {
-    if s[256 + v] != 0 {
-        move_pebble(t, s, plan, 0, v, false);
-        return 1;
+    let mut k = 0;
+    let mut v = low;
+    loop {
+        move_pebble(t, s, plan, k, v, away);
+        k += 1;
+        if v == top {
+            return k;
+        }
+        v = wide(t[v]);
     }
-    let c = choose(t, s, v, false);
-    let k = extract_pebble(t, s, plan, c, height - 1);
-    move_pebble(t, s, plan, k, v, false);
-    k + 1
 }

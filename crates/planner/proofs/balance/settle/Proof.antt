@@ -10,7 +10,7 @@ use Rattle.model.proofs.Balance.{Settles}
 use Rattle.planner.specs.Kept.{AskedEven}
 use Rattle.planner.proofs.Looking.{node-small}
 use Rattle.planner.proofs.Made.{rest, back, within, Begun, begin, go-on, ended}
-use Rattle.planner.proofs.Settle.{marked-held, even-after, none-chosen, turn-asked, turn-good, turn-settles}
+use Rattle.planner.proofs.Settle.{marked-held, even-after, none-chosen, turn-asked, turn-moves, turn-good, turn-settles}
 use Rattle.planner.proofs.balance.settle.Statement.{statement}
 use Rattle.planner.proofs.balance.settle.Tie as tie
 
@@ -65,51 +65,60 @@ returns c y a =
       made = b .made;
     }
 
-mul-turn : tie.Need-mul-turn Inv-loop μ-loop
-mul-turn c = let l = c .before .before .before .before .before in omega (arith, used l, l .before .before .good)
+turn-start-requires : tie.Need-turn-start-requires Inv-loop μ-loop
+turn-start-requires c κs =
+    let p = c .before .before .before .before .before .before .before .pre in
+    let z = here (c .before .before .before .before .before) (p .0) (p .1) in
+    (_, turn-asked z (marked-held (z .ready) (z .node)) (c .before .before .choose .ensures _ (z .ready) (z .node)) (c .before .if1 .left))
 
-sub-turn : tie.Need-sub-turn Inv-loop μ-loop
-sub-turn c = omega (arith, used (c .before .before .before .before .before))
+mul-move-pebbles : tie.Need-mul-move-pebbles Inv-loop μ-loop
+mul-move-pebbles c = let l = c .before .before .before .before .before .before .before in omega (arith, used l, l .before .before .good)
 
-part-turn-start : tie.Need-part-turn-start Inv-loop μ-loop
-part-turn-start c = omega (arith, used (c .before .before .before .before .before))
+sub-move-pebbles : tie.Need-sub-move-pebbles Inv-loop μ-loop
+sub-move-pebbles c = omega (arith, used (c .before .before .before .before .before .before .before))
 
-part-turn-end : tie.Need-part-turn-end Inv-loop μ-loop
-part-turn-end c = omega arith
+part-move-pebbles-start : tie.Need-part-move-pebbles-start Inv-loop μ-loop
+part-move-pebbles-start c = omega (arith, used (c .before .before .before .before .before .before .before))
 
-turn-requires : tie.Need-turn-requires Inv-loop μ-loop
-turn-requires c κs =
-    let p = c .before .before .before .before .before .before .before .before .pre in
-    let z = here (c .before .before .before .before .before .before) (p .0) (p .1) in
-    (_, turn-asked z (marked-held (z .ready) (z .node)) (c .before .before .before .choose .ensures _ (z .ready) (z .node)) (c .before .before .if1 .left))
+part-move-pebbles-end : tie.Need-part-move-pebbles-end Inv-loop μ-loop
+part-move-pebbles-end c = omega arith
+
+move-pebbles-requires : tie.Need-move-pebbles-requires Inv-loop μ-loop
+move-pebbles-requires c κs =
+    let p = c .before .before .before .before .before .before .before .before .before .before .pre in
+    let z = here (c .before .before .before .before .before .before .before .before) (p .0) (p .1) in
+    let e = marked-held (z .ready) (z .node) in
+    let q = c .before .before .before .before .before .choose .ensures _ (z .ready) (z .node) in
+    let d = c .before .before .before .before .if1 .left in
+    (_, turn-moves z e q d (c .before .before .turn-start .ensures _ (turn-asked z e q d)))
 
 -- one turn more, of one move at least
-stepped : (c : tie.After-turn Inv-loop μ-loop) (y : Yard)
-    → let l = c .before .before .before .before .before .before .before in
+stepped : (c : tie.After-move-pebbles Inv-loop μ-loop) (y : Yard)
+    → let l = c .before .before .before .before .before .before .before .before .before in
     let s = l .before .before .args in
     AskedEven y (s .t .now) (s .s .now) (s .plan .now) (s .u) (s .height)
-    → Begun y (c .turn .last .1 .0) (s .plan .now) (back (l .loop .plan) (l .loop .k) (c .turn .last .1 .1 .0)) (l .loop .k + c .turn .result) (Settles y (s .u)) (λ z. Settles z (s .u))
-    × (0 < c .turn .result)
+    → Begun y (c .move-pebbles .last .1 .0) (s .plan .now) (back (l .loop .plan) (l .loop .k) (c .move-pebbles .last .1 .1 .0)) (l .loop .k + c .move-pebbles .result) (Settles y (s .u)) (λ z. Settles z (s .u))
+    × (0 < c .move-pebbles .result)
 stepped c y a =
-    let l = c .before .before .before .before .before .before .before in
+    let l = c .before .before .before .before .before .before .before .before .before in
     let b = l .loop .inv y a in
     let z = here l y a in
     let e = marked-held (z .ready) (z .node) in
-    let q = c .before .before .before .before .choose .ensures _ (z .ready) (z .node) in
-    let d = c .before .before .before .if1 .left in
-    let v = c .turn .ensures _ (turn-asked z e q d) in
+    let q = c .before .before .before .before .before .before .choose .ensures _ (z .ready) (z .node) in
+    let d = c .before .before .before .before .before .if1 .left in
+    let v = c .move-pebbles .ensures _ (turn-moves z e q d (c .before .before .before .turn-start .ensures _ (turn-asked z e q d))) in
     let g = turn-good z e q d (v .serves) in
     (go-on b (v .moves) (g .0) (v .made) (turn-settles z e q d (v .serves)), omega (arith, g .1, v .made .counted))
 
 add-k : tie.Need-add-k Inv-loop μ-loop
 add-k c =
-    let s = c .before .before .before .before .before .before .before .before .before .before .before in
+    let s = c .before .before .before .before .before .before .before .before .before .before .before .before .before in
     let b = stepped (c .before .before) (s .pre .0) (s .pre .1) .0 in
     omega (arith, within (b .good) (s .pre .1 .room) (b .made), s .good)
 
 loop-less : tie.Need-loop-less Inv-loop μ-loop
 loop-less c =
-    let p = c .before .before .before .before .before .before .before .before .before .before .before .pre in
+    let p = c .before .before .before .before .before .before .before .before .before .before .before .before .before .pre in
     let b = stepped (c .before .before) (p .0) (p .1) in
     omega (arith, b .1, within (b .0 .good) (p .1 .room) (b .0 .made))
 
@@ -129,11 +138,12 @@ settle-spec =
     choose-requires
     same-length
     returns
-    mul-turn
-    sub-turn
-    part-turn-start
-    part-turn-end
-    turn-requires
+    turn-start-requires
+    mul-move-pebbles
+    sub-move-pebbles
+    part-move-pebbles-start
+    part-move-pebbles-end
+    move-pebbles-requires
     add-k
     loop-less
     loop-again)

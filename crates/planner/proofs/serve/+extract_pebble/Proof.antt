@@ -1,226 +1,79 @@
--- `planner::serve::extract_pebble` meets its contract: a v that holds a pebble gives it at once, an empty one behind what is drawn into it from the
--- child that is chosen (the laws are in Serving), which is lower.
-use mathlib.Core.Path.{sym, _∙_}
-use mathlib.Core.Bool.{false}
-use native.Mathlib.Omega.{arith}
-use borrow.Author.Needs.{needs}
-use Rattle.planner.proofs.Looking.{node-small}
-use Rattle.planner.proofs.Serving.{mark-is, mark-one, free-node, blocked-node, asked-room, asked-range, serve-direct, high-enough, child-asked, behind-room, behind-count, behind-range, serve-behind}
+-- `planner::serve::extract_pebble` meets its contract: drawing from a held v begins at v, from an empty one where drawing from the child that is chosen
+-- does (the laws are in Serving), at a lower height.
+use mathlib.Core.Path.{_≡_, sym, _∙_}
+use mathlib.Core.Bool.{true, false}
 use Prim.Native.Nat.{ℕ, _<_}
+use native.Mathlib.Omega.{arith}
 use borrow.Fn.Kinds.{In}
 use borrow.Fn.PlainCycle.{Measures, is, falls, and}
+use Rattle.model.specs.Yard.{Yard}
+use Rattle.model.proofs.Serve.{blocked}
+use Rattle.planner.specs.Kept.{Asked}
+use Rattle.planner.proofs.Looking.{node-small}
+use Rattle.planner.proofs.Serving.{mark-is, mark-one, free-node, blocked-node, high-enough, child-asked, begins-here, begins-below}
 use Rattle.planner.proofs.serve.extract_pebble.Reads as extract-pebble
 use Rattle.planner.proofs.serve.extract_pebble.Kinds as extract-pebble-kinds
-use Rattle.planner.proofs.serve.+extract_pebble.Lts-extract_pebble as extract-pebble-lts
-use Rattle.planner.proofs.choose.choose.Reads as choose-reads
-use Rattle.planner.proofs.serve.move_pebble.Reads as move-pebble-reads
+use Rattle.planner.proofs.serve.+extract_pebble.Lts-extract_pebble as lts
+use Rattle.planner.proofs.choose.choose.Reads as choose
 use Rattle.planner.proofs.serve.+extract_pebble.{statement}
 use Rattle.planner.proofs.serve.+extract_pebble.Tie.{close}
 
-abbrev μ-extract-pebble : Measures 3 extract-pebble-kinds.ps ℕ
-μ-extract-pebble κs a = a .1 .1 .1 .1 .0
+abbrev μ-extract-pebble : Measures 2 extract-pebble-kinds.ps ℕ
+μ-extract-pebble κs a = a .1 .1 .1 .0
 
-abbrev extract-pebble-at : ℕ → In 3 extract-pebble-kinds.ps
-extract-pebble-at t =
-    and
-    3
-    extract-pebble-kinds.ps
-    (is 3 extract-pebble-kinds.ps μ-extract-pebble t)
-    extract-pebble.Pre
+abbrev extract-pebble-at : ℕ → In 2 extract-pebble-kinds.ps
+extract-pebble-at n = and 2 extract-pebble-kinds.ps (is 2 extract-pebble-kinds.ps μ-extract-pebble n) extract-pebble.Pre
 
-abbrev extract-pebble-below : ℕ → In 3 extract-pebble-kinds.ps
-extract-pebble-below t =
-    and
-    3
-    extract-pebble-kinds.ps
-    (falls 3 extract-pebble-kinds.ps _<_ μ-extract-pebble t)
-    extract-pebble.Pre
+abbrev extract-pebble-below : ℕ → In 2 extract-pebble-kinds.ps
+extract-pebble-below n = and 2 extract-pebble-kinds.ps (falls 2 extract-pebble-kinds.ps _<_ μ-extract-pebble n) extract-pebble.Pre
 
-extract-pebble-add-if1 : (t : ℕ) → extract-pebble-lts.Need-add-if1 (
-  move-pebble-reads.Asked,
-  move-pebble-reads.Learnt,
-  choose-reads.Asked,
-  choose-reads.Learnt,
-  extract-pebble-below t,
-  extract-pebble.Post,
-) (extract-pebble-at t) extract-pebble.Post
-extract-pebble-add-if1 t c = let p = c .before .pre .1 in omega (arith, node-small (p .1 .ready) (p .1 .due .lt))
+module _ (n : ℕ) where
+  add-if1 : lts.Need-add-if1 (choose.Asked, choose.Learnt, extract-pebble-below n, extract-pebble.Post) (extract-pebble-at n) extract-pebble.Post
+  add-if1 c = let p = c .pre .1 in omega (arith, node-small (p .1 .ready) (p .1 .due .lt))
 
-extract-pebble-mul-if1 : (t : ℕ) → extract-pebble-lts.Need-mul-if1 (
-  move-pebble-reads.Asked,
-  move-pebble-reads.Learnt,
-  choose-reads.Asked,
-  choose-reads.Learnt,
-  extract-pebble-below t,
-  extract-pebble.Post,
-) (extract-pebble-at t) extract-pebble.Post
-extract-pebble-mul-if1 t c = let p = c .before .pre .1 in omega (arith, node-small (p .1 .ready) (p .1 .due .lt))
+  mul-if1 : lts.Need-mul-if1 (choose.Asked, choose.Learnt, extract-pebble-below n, extract-pebble.Post) (extract-pebble-at n) extract-pebble.Post
+  mul-if1 c = let p = c .pre .1 in omega (arith, node-small (p .1 .ready) (p .1 .due .lt))
 
-extract-pebble-element-copy-out-if1 : (t : ℕ) → extract-pebble-lts.Need-element-copy-out-if1 (
-  move-pebble-reads.Asked,
-  move-pebble-reads.Learnt,
-  choose-reads.Asked,
-  choose-reads.Learnt,
-  extract-pebble-below t,
-  extract-pebble.Post,
-) (extract-pebble-at t) extract-pebble.Post
-extract-pebble-element-copy-out-if1 t c = let p = c .before .pre .1 in omega (arith, node-small (p .1 .ready) (p .1 .due .lt))
+  element-copy-out-if1 : lts.Need-element-copy-out-if1 (choose.Asked, choose.Learnt, extract-pebble-below n, extract-pebble.Post) (extract-pebble-at n) extract-pebble.Post
+  element-copy-out-if1 c = let p = c .pre .1 in omega (arith, node-small (p .1 .ready) (p .1 .due .lt))
 
-extract-pebble-move-pebble-requires : (t : ℕ) → extract-pebble-lts.Need-move-pebble-requires (
-  move-pebble-reads.Asked,
-  move-pebble-reads.Learnt,
-  choose-reads.Asked,
-  choose-reads.Learnt,
-  extract-pebble-below t,
-  extract-pebble.Post,
-) (extract-pebble-at t) extract-pebble.Post
-extract-pebble-move-pebble-requires t c κs =
-    let p = c .before .before .before .before .before .pre .1 in
-    (node-small (p .1 .ready) (p .1 .due .lt), omega (arith, asked-room false _ _ _ _ _ _ (p .1)), asked-range false _ _ _ _ _ _ (p .1))
+  returns : lts.Need-returns (choose.Asked, choose.Learnt, extract-pebble-below n, extract-pebble.Post) (extract-pebble-at n) extract-pebble.Post
+  returns c y a = begins-here (free-node false y _ (mark-one (a .ready) (a .due .lt) (c .if1 .taken)))
 
-extract-pebble-same-length : (t : ℕ) → extract-pebble-lts.Need-same-length (
-  move-pebble-reads.Asked,
-  move-pebble-reads.Learnt,
-  choose-reads.Asked,
-  choose-reads.Learnt,
-  extract-pebble-below t,
-  extract-pebble.Post,
-) (extract-pebble-at t) extract-pebble.Post
-extract-pebble-same-length t c = search needs
+  -- else v is blocked
+  empty : (c : lts.After-choose (choose.Asked, choose.Learnt, extract-pebble-below n, extract-pebble.Post) (extract-pebble-at n) extract-pebble.Post) (y : Yard)
+      → let s = c .before .before .before .args in
+      Asked false y (s .t .now) (s .s .now) (s .v) (s .height) → blocked y false (s .v) ≡ true
+  empty c y a = blocked-node false y _ (sym (mark-is (a .ready .kept) (a .due .lt)) ∙ c .before .if1 .left)
 
-extract-pebble-returns : (t : ℕ) → extract-pebble-lts.Need-returns (
-  move-pebble-reads.Asked,
-  move-pebble-reads.Learnt,
-  choose-reads.Asked,
-  choose-reads.Learnt,
-  extract-pebble-below t,
-  extract-pebble.Post,
-) (extract-pebble-at t) extract-pebble.Post
-extract-pebble-returns t c y a =
-    let m = c .before .before in
-    let f = m .before .before .before in
-    rw (m .move-pebble .ensures .0, m .move-pebble .ensures .1)
-    (serve-direct false y _ _ _ _ _ a (free-node false y _ (mark-one (a .ready) (a .due .lt) (f .if1 .taken))))
+  choose-requires : lts.Need-choose-requires (choose.Asked, choose.Learnt, extract-pebble-below n, extract-pebble.Post) (extract-pebble-at n) extract-pebble.Post
+  choose-requires c κs = let p = c .before .before .pre .1 in (p .0, p .1 .ready, p .1 .due .lt)
 
-extract-pebble-choose-requires : (t : ℕ) → extract-pebble-lts.Need-choose-requires (
-  move-pebble-reads.Asked,
-  move-pebble-reads.Learnt,
-  choose-reads.Asked,
-  choose-reads.Learnt,
-  extract-pebble-below t,
-  extract-pebble.Post,
-) (extract-pebble-at t) extract-pebble.Post
-extract-pebble-choose-requires t c κs = let p = c .before .before .before .before .pre .1 in (p .0, p .1 .ready, p .1 .due .lt)
+  sub-extract-pebble : lts.Need-sub-extract-pebble (choose.Asked, choose.Learnt, extract-pebble-below n, extract-pebble.Post) (extract-pebble-at n) extract-pebble.Post
+  sub-extract-pebble c = let p = c .before .before .before .pre .1 in high-enough (p .1) (empty c (p .0) (p .1))
 
-extract-pebble-sub-extract-pebble : (t : ℕ) → extract-pebble-lts.Need-sub-extract-pebble (
-  move-pebble-reads.Asked,
-  move-pebble-reads.Learnt,
-  choose-reads.Asked,
-  choose-reads.Learnt,
-  extract-pebble-below t,
-  extract-pebble.Post,
-) (extract-pebble-at t) extract-pebble.Post
-extract-pebble-sub-extract-pebble t c =
-    let f = c .before .before .before .before in
-    let p = f .before .before .before .pre .1 in
-    high-enough false _ _ _ _ _ _ (p .1) (blocked-node false (p .0) _ (sym (mark-is (p .1 .ready .kept) (p .1 .due .lt)) ∙ f .if1 .left))
+  extract-pebble-requires : lts.Need-extract-pebble-requires (choose.Asked, choose.Learnt, extract-pebble-below n, extract-pebble.Post) (extract-pebble-at n) extract-pebble.Post
+  extract-pebble-requires c κs =
+      let p = c .before .before .before .pre in
+      let e = empty c (p .1 .0) (p .1 .1) in
+      (omega (arith, p .0, high-enough (p .1 .1) e), (p .1 .0, rw (c .choose .ensures (p .1 .0) (p .1 .1 .ready) (p .1 .1 .due .lt)) (child-asked (p .1 .1) e)))
 
-extract-pebble-extract-pebble-requires : (t : ℕ) → extract-pebble-lts.Need-extract-pebble-requires (
-  move-pebble-reads.Asked,
-  move-pebble-reads.Learnt,
-  choose-reads.Asked,
-  choose-reads.Learnt,
-  extract-pebble-below t,
-  extract-pebble.Post,
-) (extract-pebble-at t) extract-pebble.Post
-extract-pebble-extract-pebble-requires t c κs =
-    let f = c .before .before .before .before in
-    let s = f .before .before .before in
-    let p = s .pre .1 in
-    let e = blocked-node false (p .0) _ (sym (mark-is (p .1 .ready .kept) (p .1 .due .lt)) ∙ f .if1 .left) in
-    (omega (arith, s .pre .0, high-enough false _ _ _ _ _ _ (p .1) e), (p .0, rw (c .before .before .choose .ensures (p .0) (p .1 .ready) (p .1 .due .lt)) (child-asked false _ _ _ _ _ _ (p .1) e)))
-
-extract-pebble-move-pebble-requires-2 : (t : ℕ) → extract-pebble-lts.Need-move-pebble-requires-2 (
-  move-pebble-reads.Asked,
-  move-pebble-reads.Learnt,
-  choose-reads.Asked,
-  choose-reads.Learnt,
-  extract-pebble-below t,
-  extract-pebble.Post,
-) (extract-pebble-at t) extract-pebble.Post
-extract-pebble-move-pebble-requires-2 t c κs =
-    let k = c .before .before .before .before in
-    let f = k .before .before .before .before .before in
-    let p = f .before .before .before .pre .1 in
-    let e = blocked-node false (p .0) _ (sym (mark-is (p .1 .ready .kept) (p .1 .due .lt)) ∙ f .if1 .left) in
-    let q = k .before .before .before .choose .ensures (p .0) (p .1 .ready) (p .1 .due .lt) in
-    let r = rw q at (k .extract-pebble .ensures (p .0) (rw q (child-asked false _ _ _ _ _ _ (p .1) e))) in
-    (node-small (p .1 .ready) (p .1 .due .lt), omega (arith, k .extract-pebble .kept .1 .1 .0, behind-room false _ _ _ _ _ _ (p .1) e _ _ _ r), behind-range false _ _ _ _ _ _ (p .1) e _ _ _ r)
-
-extract-pebble-add-result : (t : ℕ) → extract-pebble-lts.Need-add-result (
-  move-pebble-reads.Asked,
-  move-pebble-reads.Learnt,
-  choose-reads.Asked,
-  choose-reads.Learnt,
-  extract-pebble-below t,
-  extract-pebble.Post,
-) (extract-pebble-at t) extract-pebble.Post
-extract-pebble-add-result t c =
-    let k = c .before .before .before .before .before .before .before in
-    let f = k .before .before .before .before .before in
-    let p = f .before .before .before .pre .1 in
-    let e = blocked-node false (p .0) _ (sym (mark-is (p .1 .ready .kept) (p .1 .due .lt)) ∙ f .if1 .left) in
-    let q = k .before .before .before .choose .ensures (p .0) (p .1 .ready) (p .1 .due .lt) in
-    let r = rw q at (k .extract-pebble .ensures (p .0) (rw q (child-asked false _ _ _ _ _ _ (p .1) e))) in
-    omega (arith, behind-count false _ _ _ _ _ _ (p .1) e _ _ _ r)
-
-extract-pebble-same-length-2 : (t : ℕ) → extract-pebble-lts.Need-same-length-2 (
-  move-pebble-reads.Asked,
-  move-pebble-reads.Learnt,
-  choose-reads.Asked,
-  choose-reads.Learnt,
-  extract-pebble-below t,
-  extract-pebble.Post,
-) (extract-pebble-at t) extract-pebble.Post
-extract-pebble-same-length-2 t c = search needs
-
-extract-pebble-returns-2 : (t : ℕ) → extract-pebble-lts.Need-returns-2 (
-  move-pebble-reads.Asked,
-  move-pebble-reads.Learnt,
-  choose-reads.Asked,
-  choose-reads.Learnt,
-  extract-pebble-below t,
-  extract-pebble.Post,
-) (extract-pebble-at t) extract-pebble.Post
-extract-pebble-returns-2 t c y a =
-    let m = c .before .before in
-    let k = m .before .before .before .before .before in
-    let f = k .before .before .before .before .before in
-    let e = blocked-node false y _ (sym (mark-is (a .ready .kept) (a .due .lt)) ∙ f .if1 .left) in
-    let q = k .before .before .before .choose .ensures y (a .ready) (a .due .lt) in
-    rw (m .move-pebble2 .ensures .0, m .move-pebble2 .ensures .1) (serve-behind false y _ _ _ _ _ a e _ _ _ (rw q at (k .extract-pebble .ensures y (rw q (child-asked false y _ _ _ _ _ a e)))))
+  returns-2 : lts.Need-returns-2 (choose.Asked, choose.Learnt, extract-pebble-below n, extract-pebble.Post) (extract-pebble-at n) extract-pebble.Post
+  returns-2 c y a =
+      let e = empty (c .before) y a in
+      let q = c .before .choose .ensures y (a .ready) (a .due .lt) in
+      begins-below e (rw q at (c .extract-pebble .ensures y (rw q (child-asked a e))))
 
 pub +extract-pebble-spec : {M : Type 1} → statement M
-+extract-pebble-spec = close μ-extract-pebble λ t. extract-pebble-lts.spec (
-  move-pebble-reads.Asked,
-  move-pebble-reads.Learnt,
-  choose-reads.Asked,
-  choose-reads.Learnt,
-  extract-pebble-below t,
-  extract-pebble.Post,
-)
-    (extract-pebble-at t)
-    extract-pebble.Post
-    (extract-pebble-add-if1 t)
-    (extract-pebble-mul-if1 t)
-    (extract-pebble-element-copy-out-if1 t)
-    (extract-pebble-move-pebble-requires t)
-    (extract-pebble-same-length t)
-    (extract-pebble-returns t)
-    (extract-pebble-choose-requires t)
-    (extract-pebble-sub-extract-pebble t)
-    (extract-pebble-extract-pebble-requires t)
-    (extract-pebble-move-pebble-requires-2 t)
-    (extract-pebble-add-result t)
-    (extract-pebble-same-length-2 t)
-    (extract-pebble-returns-2 t)
++extract-pebble-spec =
+    close
+    μ-extract-pebble
+    λ n. lts.spec (choose.Asked, choose.Learnt, extract-pebble-below n, extract-pebble.Post) (extract-pebble-at n) extract-pebble.Post
+    (add-if1 n)
+    (mul-if1 n)
+    (element-copy-out-if1 n)
+    (returns n)
+    (choose-requires n)
+    (sub-extract-pebble n)
+    (extract-pebble-requires n)
+    (returns-2 n)
