@@ -4,56 +4,65 @@ use mathlib.Core.List.{List, [], _∷_, _++_, append-nil}
 use Prim.Native.Nat.{ℕ, _+_, _-_, _<_}
 use native.Mathlib.Omega.{arith}
 use lib.IntN.{ℤ}
-use Rattle.model.specs.Yard.{Yard}
+use Rattle.model.specs.Yard.{Yard, children}
 use Rattle.model.specs.Push.{Move, run}
 use Rattle.model.proofs.Trees.{Child}
 use Rattle.model.proofs.Judged.{wood}
 use Rattle.model.proofs.Demands.{weight, weight-child}
-use Rattle.model.proofs.Shortest.{Good, keeps}
-use Rattle.model.proofs.Balance as model
-use Rattle.model.proofs.Balance.{Balances, none, next, settles-good, balances-good}
-use Rattle.planner.specs.Kept.{Made, AskedEven, Settled, Balanced, AskedBelow, BalancedBelow}
-use Rattle.planner.proofs.Made.{rest, back, made-append, ready-after, room-left}
+use Rattle.model.proofs.Runs.{after-append}
+use Rattle.model.proofs.Shortest.{good-tree, keeps}
+use Rattle.model.proofs.Balance.{Even, Balances, none, next, settles-good, balances-good}
+use Rattle.planner.specs.Kept.{AskedEven, Settled, Balanced}
+use Rattle.planner.proofs.Made.{rest, back, Begun, go-on, ended, ready-after, room-left}
 
 -- one child, and then those behind it
-pub one-more : {y : Yard} {c : ℕ} {cs : List ℕ} {ms ns : List Move} → Balances y (c ∷ []) ms → Balances (run y ms) cs ns → Balances y (c ∷ cs) (ms ++ ns)
+one-more : {y : Yard} {c : ℕ} {cs : List ℕ} {ms ns : List Move} → Balances y (c ∷ []) ms → Balances (run y ms) cs ns → Balances y (c ∷ cs) (ms ++ ns)
 one-more (next {ms = ms} {ns = ns} s b none) r = rw (append-nil (ms ++ ns)) (next s b (rw (append-nil (ms ++ ns)) at r))
 
--- what the children ask, once the loop at u has ended
-module _ {y : Yard} {t : List ℕ} {s₀ s : List ℤ} {before plan : List ℕ} {k u h : ℕ} (a : AskedEven y t s₀ before u h) (v : Settled y u s before plan k) where
-  ends : model.Settled y u (v .moves)
-  ends = settles-good (v .settles) (a .ready .tree) (a .node) (a .even)
+-- the loop at u has ended, and the children in a list are left
+pub record Left (y : Yard) (u : ℕ) (s : List ℤ) (before plan : List ℕ) (k : ℕ) (cs : List ℕ) : Type 0 where
+  pub begun : Begun y s before plan k (Balances y (u ∷ [])) (λ z. Balances z cs)
+  pub even : (c : ℕ) → Child (y .parents) u c → Even (run y (begun .moves)) c
 
-  pub settled-good : Good y (v .moves)
-  settled-good = ends .good
+pub left-none : {y : Yard} {u : ℕ} {s : List ℤ} {before plan : List ℕ} {k : ℕ} → Left y u s before plan k [] → Balanced y u s before plan k
+left-none l = record { moves = l .begun .moves; balances = ended (l .begun) none; made = l .begun .made }
 
-  pub below-settled : AskedBelow (run y (v .moves)) t s (rest plan k) u h
-  below-settled = record {
-    ready = ready-after (a .ready) settled-good (v .made);
-    node = a .node;
-    even = ends .kids;
-    room = room-left settled-good (a .room) (v .made);
-    high = a .high;
-  }
+-- all of them are left, of a yard that was asked to be balanced at u
+pub record Started (y : Yard) (before t : List ℕ) (s : List ℤ) (plan : List ℕ) (k u h : ℕ) : Type 0 where
+  pub first : List ℤ
+  pub asked : AskedEven y t first before u h
+  pub left : Left y u s before plan k (children y u)
 
--- and what each of them asks, after some moves
-module _ {y : Yard} {t : List ℕ} {s₀ : List ℤ} {before : List ℕ} {u h : ℕ} (a : AskedBelow y t s₀ before u h) {c : ℕ} (f : Child (y .parents) u c) where
-  pub child-lower : weight (y .parents) c < h
-  child-lower = omega (arith, a .high, weight-child (wood y (a .ready .tree)) u c (a .node) f)
+module _ {y : Yard} {t : List ℕ} {s₀ : List ℤ} {before : List ℕ} {u h : ℕ} (a : AskedEven y t s₀ before u h) where
+  left-all : {s : List ℤ} {plan : List ℕ} {k : ℕ} → Settled y u s before plan k → Left y u s before plan k (children y u)
+  left-all v =
+      let e = settles-good (v .settles) (a .ready .tree) (a .node) (a .even) in
+      record { begun = record { moves = v .moves; good = e .good; made = v .made; onward = λ ns b. rw append-nil at (next (v .settles) b none) }; even = e .kids }
 
-  pub even-child : {ms : List Move} {s : List ℤ} {plan : List ℕ} {k : ℕ} → Good y ms → Made y ms s before plan k → AskedEven (run y ms) t s (rest plan k) c (h - 1)
-  even-child {ms} g d = record {
-    ready = ready-after (a .ready) g d;
-    node = f .lt;
-    even = omega (arith, a .even c f, keeps y (a .ready .tree) ms g c (f .lt));
-    room = room-left g (a .room) d;
-    high = omega (arith, child-lower);
-  }
+  pub started : {s : List ℤ} {plan : List ℕ} {k : ℕ} → Settled y u s before plan k → Started y before t s plan k u h
+  started v = record { first = _; asked = a; left = left-all v }
 
--- the loop at u, and then its children
-pub balanced : {y : Yard} {s s′ : List ℤ} {before plan part : List ℕ} {k m u : ℕ} → (v : Settled y u s before plan k) → BalancedBelow (run y (v .moves)) u s′ (rest plan k) part m
-    → Balanced y u s′ before (back plan k part) (k + m)
-balanced v w = record { moves = v .moves ++ w .moves; balances = rw append-nil at (next (v .settles) (w .balances) none); made = made-append (v .made) (w .made) }
+  module _ {c : ℕ} (f : Child (y .parents) u c) where
+    pub child-lower : weight (y .parents) c < h
+    child-lower = omega (arith, a .high, weight-child (wood y (a .ready .tree)) u c (a .node) f)
 
-pub balanced-good : {y : Yard} {t : List ℕ} {s : List ℤ} {plan : List ℕ} {u h : ℕ} {ms : List Move} → AskedEven y t s plan u h → Balances y (u ∷ []) ms → Good y ms
-balanced-good a b = balances-good b (a .ready .tree) ((a .node, a .even), tt) .0
+    module _ {s : List ℤ} {plan : List ℕ} {k : ℕ} {cs : List ℕ} (l : Left y u s before plan k (c ∷ cs)) where
+      -- what the next child asks, and what is left after it
+      pub child-asked : AskedEven (run y (l .begun .moves)) t s (rest plan k) c (h - 1)
+      child-asked = record {
+        ready = ready-after (a .ready) (l .begun .good) (l .begun .made);
+        node = f .lt;
+        even = l .even c f;
+        room = room-left (l .begun .good) (a .room) (l .begun .made);
+        high = omega (arith, child-lower);
+      }
+
+      pub left-next : {s′ : List ℤ} {part : List ℕ} {m : ℕ} → Balanced (run y (l .begun .moves)) c s′ (rest plan k) part m → Left y u s′ before (back plan k part) (k + m) cs
+      unfolding go-on
+      left-next v =
+          let z = child-asked in
+          let g = balances-good (v .balances) (z .ready .tree) ((z .node, z .even), tt) .0 in
+          record {
+            begun = go-on (l .begun) (v .moves) g (v .made) (λ ps r. one-more (v .balances) r);
+            even = λ d e. rw (after-append (l .begun .moves) (v .moves) y) (omega (arith, l .even d e, keeps (run y (l .begun .moves)) (z .ready .tree) (v .moves) g d (e .lt)));
+          }

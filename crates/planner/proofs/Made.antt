@@ -64,7 +64,7 @@ pub begin : {y : Yard} {s : List ℤ} {plan : List ℕ} {Left : Yard → List Mo
 unfolding after
 begin {y} {s} {plan} h = record { moves = []; good = good-nil y; made = made-nil y s plan h; onward = λ ns l. l }
 
-pub go-on : {y : Yard} {s s′ : List ℤ} {before plan part : List ℕ} {k m : ℕ} {Whole : List Move → Type 0} {Left Left′ : Yard → List Move → Type 0}
+unfoldable pub go-on : {y : Yard} {s s′ : List ℤ} {before plan part : List ℕ} {k m : ℕ} {Whole : List Move → Type 0} {Left Left′ : Yard → List Move → Type 0}
     → (b : Begun y s before plan k Whole Left) (ns : List Move) → Good (run y (b .moves)) ns → Made (run y (b .moves)) ns s′ (rest plan k) part m
     → ((ps : List Move) → Left′ (run (run y (b .moves)) ns) ps → Left (run y (b .moves)) (ns ++ ps)) → Begun y s′ before (back plan k part) (k + m) Whole Left′
 go-on {y} b ns g d f = record {

@@ -8,12 +8,11 @@ use Prim.Native.Nat.{ℕ, _+_, _*_, _≤_, _<_}
 use lib.ListN.{length, getD, set}
 use lib.Dec.{leb}
 use lib.IntN.{ℤ, pos}
-use Rattle.model.specs.Yard.{Yard, size, up, pebble, below, headOr, isChild, children, demand, shortest}
+use Rattle.model.specs.Yard.{Yard, size, up, pebble, below, headOr, isChild, demand, shortest}
 use Rattle.model.specs.Judge.{Tree}
 use Rattle.model.specs.Push.{Move, run}
 use Rattle.model.specs.Plan.{choice}
 use Rattle.model.specs.Calls.{bytes, overwrite}
-use Rattle.model.proofs.Trees.{Child}
 use Rattle.model.proofs.Demands.{weight}
 use Rattle.model.proofs.Step.{crossing, need}
 use Rattle.model.proofs.Signed.{nextℤ}
@@ -98,17 +97,4 @@ pub record Settled (y : Yard) (u : ℕ) (s : List ℤ) (before after : List ℕ)
 pub record Balanced (y : Yard) (u : ℕ) (s : List ℤ) (before after : List ℕ) (count : ℕ) : Type 0 where
   pub moves : List Move
   pub balances : Balances y (u ∷ []) moves
-  pub made : Made y moves s before after count
-
--- what balancing the children of u asks, once its loop has ended, and what it gives
-pub record AskedBelow (y : Yard) (t : List ℕ) (s : List ℤ) (plan : List ℕ) (u height : ℕ) : Type 0 where
-  pub ready : Ready y t s
-  pub node : u < size y
-  pub even : (c : ℕ) → Child (y .parents) u c → Even y c
-  pub room : 2 * shortest y ≤ length plan
-  pub high : weight (y .parents) u ≤ height
-
-pub record BalancedBelow (y : Yard) (u : ℕ) (s : List ℤ) (before after : List ℕ) (count : ℕ) : Type 0 where
-  pub moves : List Move
-  pub balances : Balances y (children y u) moves
   pub made : Made y moves s before after count

@@ -1,6 +1,6 @@
 // Algorithm 1: balancing the subtrees of a node.
 ghost use Rattle.model.specs.Yard.{Yard};
-ghost use Rattle.planner.specs.Kept.{Asked, Begins, AskedEven, Settled, Balanced, AskedBelow, BalancedBelow};
+ghost use Rattle.planner.specs.Kept.{Asked, Begins, AskedEven, Settled, Balanced};
 use crate::choose::choose;
 use crate::serve::extract_pebble;
 use crate::serve::inject_pebble;
@@ -36,7 +36,8 @@ fn settle(t: &[u8; 768], s: &mut [i16; 512], plan: &mut [u8], u: usize, height: 
     }
 }
 
-// Balances u: the loop, and after it has ended the children in rising number. The moves go to the front of the list; answers how many.
+// Balances u: the loop, and after it has ended the children in rising number, each behind the moves before. The moves go to the front of the list;
+// answers how many.
 pub fn balance_subtrees(
     t: &[u8; 768],
     s: &mut [i16; 512],
@@ -47,27 +48,11 @@ pub fn balance_subtrees(
     requires { ⌜ ((y : Yard) × AskedEven y (now t) (now s) (now plan) u height) ⌝ }
     ensures { λ r. ⌜ ((y : Yard) → AskedEven y (now (t .entry)) (now (s .entry)) (now (plan .entry)) u height → Balanced y u (now (s .exit)) (now (plan .entry)) (now (plan .exit)) r) ⌝ }
 {
-    let k = settle(t, s, plan, u, height);
-    let m = balance_children(t, s, &mut plan[2 * k..], u, height);
-    k + m
-}
-
-// Balances the children of u, in rising number, each behind the one before.
-fn balance_children(
-    t: &[u8; 768],
-    s: &mut [i16; 512],
-    plan: &mut [u8],
-    u: usize,
-    height: usize,
-) -> usize
-    requires { ⌜ ((y : Yard) × AskedBelow y (now t) (now s) (now plan) u height) ⌝ }
-    ensures { λ r. ⌜ ((y : Yard) → AskedBelow y (now (t .entry)) (now (s .entry)) (now (plan .entry)) u height → BalancedBelow y u (now (s .exit)) (now (plan .entry)) (now (plan .exit)) r) ⌝ }
-{
+    let mut k = settle(t, s, plan, u, height);
     let first = t[256 + u] as usize;
     if first == u {
-        return 0;
+        return k;
     }
-    let mut k = 0;
     let mut c = first;
     loop {
         let m = balance_subtrees(t, s, &mut plan[2 * k..], c, height - 1);
