@@ -61,8 +61,8 @@ module _ {b : Bool} {y : Yard} {t : List ℕ} {s : List ℤ} {v h : ℕ} (a : As
   pub high-enough : 1 ≤ h
   high-enough = omega (arith, a .high, lower)
 
-  pub child-asked : Asked b y t s (choice (need y b) y v) (h - 1)
-  child-asked = record { ready = a .ready; due = kid .1; high = omega (arith, a .high, lower) }
+  pub child-asked : {c : ℕ} → c ≡ choice (need y b) y v → Asked b y t s c (h - 1)
+  child-asked q = rw q (record { ready = a .ready; due = kid .1; high = omega (arith, a .high, lower) })
 
 module _ {b : Bool} {y : Yard} where
   -- the chain, a node longer at its upper end
@@ -73,8 +73,8 @@ module _ {b : Bool} {y : Yard} where
   pub begins-here : {v : ℕ} → blocked y b v ≡ false → Begins b y v v
   begins-here e = record { chain = at-top; free = e }
 
-  pub begins-below : {v w : ℕ} → blocked y b v ≡ true → Begins b y (choice (need y b) y v) w → Begins b y v w
-  begins-below e r = record { chain = above e (r .chain); free = r .free }
+  pub begins-below : {v c w : ℕ} → blocked y b v ≡ true → c ≡ choice (need y b) y v → Begins b y c w → Begins b y v w
+  begins-below e q r = record { chain = above e (rw q at (r .chain)); free = r .free }
 
   -- a pebble is due over the edge of each of its nodes
   chain-due : {top v : ℕ} → Tree y → Due y b top → Chain b y top v → Due y b v

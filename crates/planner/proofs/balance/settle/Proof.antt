@@ -61,7 +61,7 @@ returns c y a =
     let z = here l y a in
     record {
       moves = b .moves;
-      settles = ended b (none-chosen z (marked-held (z .ready) (z .node)) (c .before .choose .ensures _ (z .ready) (z .node)) (c .if1 .taken));
+      settles = ended b (none-chosen z (marked-held (z .ready) (z .node)) (c .before .choose .ensures _ (z .ready) (z .node)) (omega (arith, c .if1 .taken)));
       made = b .made;
     }
 

@@ -47,7 +47,7 @@ wanted-requires c κs = search needs
 returns-2 : tie.Need-returns-2 Inv-loop μ-loop
 returns-2 c y r l =
     let h = c .before .before .before .loop .inv y r l in
-    look-found y _ _ _ _ r l _ h (sym (c .before .wanted .ensures ∙ ap (sign (c .before .before .before .before .before .before .args .away)) (demand-back r (h .child .lt))) ∙ c .if2 .taken)
+    omega (arith, look-found y _ _ _ _ r l _ h (sym (c .before .wanted .ensures ∙ ap (sign (c .before .before .before .before .before .before .args .away)) (demand-back r (h .child .lt))) ∙ c .if2 .taken))
 
 add-next : tie.Need-add-next Inv-loop μ-loop
 add-next c =

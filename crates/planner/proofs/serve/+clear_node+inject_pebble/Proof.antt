@@ -1,7 +1,6 @@
 -- `planner::serve::clear_node` and `inject_pebble` meet their contracts: filling a free v begins at v, filling a full one where its clearing does, at
 -- the child that is chosen or below (the laws are in Serving). Of the calls, clearing falls below filling at the same height, and filling a child is
 -- at a lower one.
-use mathlib.Core.Path.{sym, _∙_}
 use mathlib.Core.Bool.{true}
 use Prim.Native.Nat.{ℕ, _+_, _*_, _<_}
 use native.Mathlib.Omega.{arith}
@@ -48,12 +47,12 @@ module _ (n : ℕ) where
   inject-pebble-requires : clear-node-lts.Need-inject-pebble-requires (choose.Asked, choose.Learnt, inject-pebble-below n, inject-pebble.Post) (clear-node-at n) clear-node.Post
   inject-pebble-requires c κs =
       let p = c .before .pre in
-      (omega (arith, p .0, high-enough (p .1 .1) (p .1 .2)), (p .1 .0, rw (c .choose .ensures (p .1 .0) (p .1 .1 .ready) (p .1 .1 .due .lt)) (child-asked (p .1 .1) (p .1 .2))))
+      (omega (arith, p .0, high-enough (p .1 .1) (p .1 .2)), (p .1 .0, child-asked (p .1 .1) (p .1 .2) (omega (arith, c .choose .ensures (p .1 .0) (p .1 .1 .ready) (p .1 .1 .due .lt)))))
 
   clear-node-returns : clear-node-lts.Need-returns (choose.Asked, choose.Learnt, inject-pebble-below n, inject-pebble.Post) (clear-node-at n) clear-node.Post
   clear-node-returns c y a e =
       let q = c .before .choose .ensures y (a .ready) (a .due .lt) in
-      begins-below e (rw q at (c .inject-pebble .ensures y (rw q (child-asked a e))))
+      begins-below e q (c .inject-pebble .ensures y (child-asked a e q))
 
 -- filling
 module _ (n : ℕ) where
@@ -67,7 +66,7 @@ module _ (n : ℕ) where
   element-copy-out-if1 c = let p = c .pre .1 in omega (arith, node-small (p .1 .ready) (p .1 .due .lt))
 
   inject-pebble-returns : inject-pebble-lts.Need-returns (clear-node-below n, clear-node.Post) (inject-pebble-at n) inject-pebble.Post
-  inject-pebble-returns c y a = begins-here (free-node true y _ (sym (mark-is (a .ready .kept) (a .due .lt)) ∙ c .if1 .taken))
+  inject-pebble-returns c y a = begins-here (free-node true y _ (omega (arith, mark-is (a .ready .kept) (a .due .lt), c .if1 .taken)))
 
   clear-node-requires : inject-pebble-lts.Need-clear-node-requires (clear-node-below n, clear-node.Post) (inject-pebble-at n) inject-pebble.Post
   clear-node-requires c κs =

@@ -56,13 +56,13 @@ module _ (n : ℕ) where
   extract-pebble-requires c κs =
       let p = c .before .before .before .pre in
       let e = empty c (p .1 .0) (p .1 .1) in
-      (omega (arith, p .0, high-enough (p .1 .1) e), (p .1 .0, rw (c .choose .ensures (p .1 .0) (p .1 .1 .ready) (p .1 .1 .due .lt)) (child-asked (p .1 .1) e)))
+      (omega (arith, p .0, high-enough (p .1 .1) e), (p .1 .0, child-asked (p .1 .1) e (omega (arith, c .choose .ensures (p .1 .0) (p .1 .1 .ready) (p .1 .1 .due .lt)))))
 
   returns-2 : lts.Need-returns-2 (choose.Asked, choose.Learnt, extract-pebble-below n, extract-pebble.Post) (extract-pebble-at n) extract-pebble.Post
   returns-2 c y a =
       let e = empty (c .before) y a in
       let q = c .before .choose .ensures y (a .ready) (a .due .lt) in
-      begins-below e (rw q at (c .extract-pebble .ensures y (rw q (child-asked a e))))
+      begins-below e q (c .extract-pebble .ensures y (child-asked a e q))
 
 pub +extract-pebble-spec : {M : Type 1} → statement M
 +extract-pebble-spec =

@@ -43,7 +43,7 @@ same-length c =
 returns : tie.Need-returns Inv-loop μ-loop
 returns c y a =
     let m = c .before .before .before in
-    rw (m .move-pebble .ensures .0, m .move-pebble .ensures .1) (climb-last a (m .before .before .before .loop .inv y a) (c .if1 .taken))
+    rw (m .move-pebble .ensures .0, m .move-pebble .ensures .1) (climb-last a (m .before .before .before .loop .inv y a) (omega (arith, c .if1 .taken)))
 
 element-copy-out-wide : tie.Need-element-copy-out-wide Inv-loop μ-loop
 element-copy-out-wide c =

@@ -1,4 +1,5 @@
 -- `planner::serve::record_move` meets its contract: four stores, each in range.
+use mathlib.Core.Path.{refl}
 use native.Mathlib.Omega.{arith}
 use lib.ListN.{length-set}
 use borrow.Author.Needs.{needs}
@@ -48,7 +49,7 @@ same-length : tie.Need-same-length
 same-length c = search needs
 
 returns : tie.Need-returns
-returns c = search needs
+returns c = (refl, refl)
 
 pub record-move-spec : {M : Type 1} → statement M
 record-move-spec =
