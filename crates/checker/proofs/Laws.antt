@@ -13,7 +13,8 @@ use borrow.Author.Tests.{not-true, not-false}
 use Rattle.model.specs.Yard.{Yard, yardOf, shortest, Matched}
 use Rattle.model.specs.Judge.{Fault, fault, firstOf, unless, judge, Tree}
 use Rattle.model.specs.Push.{Move, push, moveFault, shifted, after, run}
-use Rattle.model.specs.Calls.{answered, refused, lent, movesOf, bytesFault, movesFault, endFault, Verdict, checkFault, checkAnswer, within, trialFault, trialAnswer, trialPebbles}
+use Rattle.model.specs.Calls.{answered, refused, lent, movesOf, bytesFault, movesFault, endFault, Verdict, checkTests, checkFault, checkAnswer, within, trialFault, trialAnswer, trialPebbles}
+use Rattle.model.proofs.Basics.{none-all}
 use Rattle.model.proofs.Calls.{movesOf-half, totals-none}
 use Rattle.model.proofs.Step.{step, moved-tree}
 use Rattle.model.proofs.Moves.{moveFault-legal, after-legal, movesFault-legal}
@@ -103,7 +104,7 @@ module _ (y : Yard) (ms : List Move) (ps ts : List ℕ) where
             h .2 ∙ rw d (after-legal (yardOf ps qs ts) m (drop (suc i) ms) l),
           )
 
--- the checker on a tree with as many pebbles as targets: refusal 9, then the moves and the end; a plan that it accepts is not too short
+-- the checker on a tree with as many pebbles as targets: refusal 9, then the moves and the end
 module _ (y : Yard) (t : Tree y) (m : Matched y) (bs : List ℕ) where
   pub check-bytes : (f : Fault) → bytesFault bs ≡ some f → checkFault y bs ≡ some f
   unfolding checkFault
@@ -113,13 +114,19 @@ module _ (y : Yard) (t : Tree y) (m : Matched y) (bs : List ℕ) where
   unfolding checkFault
   check-moves e = rw (t, totals-none y .1 m, e)
 
-  pub check-long : checkFault y bs ≡ none → shortest y ≤ length bs / 2
-  check-long e =
-      let v : Verdict = record { moves = length (movesOf bs); excess = length (movesOf bs) - shortest y } in
-      omega (arith, moves-half bs, demand-2 y t m .excess bs v (rw e))
+-- a plan that the checker accepts is of such a tree, and not too short
+module _ (y : Yard) (bs : List ℕ) (e : checkFault y bs ≡ none) where
+  pub check-fit : Tree y × Matched y
+  unfolding checkFault
+  check-fit = let a = none-all (checkTests y bs) e in (a .0, totals-none y .0 (a .1 .0))
 
-  pub check-answered : {moves excess : ℕ} → checkFault y bs ≡ none → moves ≡ length bs / 2 → excess ≡ moves - shortest y → answered (record { moves = moves; excess = excess }) ≡ checkAnswer y bs
-  check-answered f e k = rw (f, k, e, moves-half bs)
+  pub check-long : shortest y ≤ length bs / 2
+  check-long =
+      let v : Verdict = record { moves = length (movesOf bs); excess = length (movesOf bs) - shortest y } in
+      omega (arith, moves-half bs, demand-2 y (check-fit .0) (check-fit .1) .excess bs v (rw e))
+
+  pub check-answered : (x : ℕ) → x ≡ length bs / 2 - shortest y → answered (record { moves = length bs / 2; excess = x }) ≡ checkAnswer y bs
+  check-answered x l = rw (e, l, moves-half bs)
 
 -- the trial: refusals 1 to 6, then 9, then the moves taken, which are those within the budget
 taken-is : (bs : List ℕ) (budget taken : ℕ) → taken ≡ min (length bs / 2) budget → taken ≡ length (within bs budget)

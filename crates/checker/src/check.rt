@@ -1,12 +1,12 @@
-// The checker, given the shortest length.
+// The checker.
 ghost use mathlib.Core.Path.{_≡_};
 ghost use mathlib.Core.List.{[], _∷_};
 ghost use lib.ListN.{length, getD};
 ghost use lib.Dec.{ltb};
-ghost use Rattle.model.specs.Yard.{yardOf, below, headOr, shortest, Matched};
+ghost use Rattle.model.specs.Yard.{yardOf, below, headOr, Matched};
 ghost use Rattle.model.specs.Judge.{firstOf, Tree};
 ghost use Rattle.model.specs.Push.{run};
-ghost use Rattle.model.specs.Calls.{movesOf, movesFault, endFault, checkAnswer};
+ghost use Rattle.model.specs.Calls.{movesOf, movesFault, endFault, checkFault, checkAnswer};
 ghost use Rattle.model.specs.Paper.{paperDone, paperChecked};
 use crate::obey::obey_copy;
 use crate::obey::whole_plan;
@@ -56,38 +56,38 @@ fn obey_to_end(parents: &[u8], pebbles: &[u8], targets: &[u8], plan: &[u8]) -> D
     Done::Accepted
 }
 
-// The checker on a tree with as many pebbles as targets, whose shortest length is known: refusals 9, 10 to 13 move by move, 14; else the number
-// of moves and the excess, moves minus shortest length.
-fn check_matched(
-    parents: &[u8],
-    pebbles: &[u8],
-    targets: &[u8],
-    plan: &[u8],
-    length: usize,
-) -> Checked
-    requires { ⌜ Tree (yardOf (now parents) (now pebbles) (now targets)) × Matched (yardOf (now parents) (now pebbles) (now targets)) × (length ≡ shortest (yardOf (now parents) (now pebbles) (now targets))) ⌝ }
-    ensures { λ r. ⌜ paperChecked r ≡ checkAnswer (yardOf (now (parents .entry)) (now (pebbles .entry)) (now (targets .entry))) (now (plan .entry)) ⌝ }
+// Judges a plan for a tree with as many pebbles as targets: refusals 9, 10 to 13 move by move, 14.
+fn test_matched_plan(parents: &[u8], pebbles: &[u8], targets: &[u8], plan: &[u8]) -> Done
+    requires { ⌜ Tree (yardOf (now parents) (now pebbles) (now targets)) × Matched (yardOf (now parents) (now pebbles) (now targets)) ⌝ }
+    ensures { λ r. ⌜ paperDone r ≡ checkFault (yardOf (now (parents .entry)) (now (pebbles .entry)) (now (targets .entry))) (now (plan .entry)) ⌝ }
 {
     if !whole_plan(plan) {
-        return Checked::Refused(Refusal::PlanLength);
+        return Done::Refused(Refusal::PlanLength);
     }
-    let done = obey_to_end(parents, pebbles, targets, plan);
-    if let Done::Refused(r) = done {
-        return Checked::Refused(r);
-    }
-    let moves = plan.len() / 2;
-    Checked::Accepted(moves, moves - length)
+    obey_to_end(parents, pebbles, targets, plan)
 }
 
-// The checker: refusals 1 to 6, 7, 9, 10 to 13 for each move in turn with its number as place, then 14 with the lowest empty target; else the number
-// of moves and the excess (spare). A plan need not be shortest.
+// The checker without its figures: refusals 1 to 6, 7, 9, 10 to 13 for each move in turn with its number as place, then 14 with the lowest empty
+// target. A plan need not be shortest.
+pub fn test_plan(parents: &[u8], pebbles: &[u8], targets: &[u8], plan: &[u8]) -> Done
+    ensures { λ r. ⌜ paperDone r ≡ checkFault (yardOf (now (parents .entry)) (now (pebbles .entry)) (now (targets .entry))) (now (plan .entry)) ⌝ }
+{
+    let tested = test_matched(parents, pebbles, targets);
+    if let Done::Refused(fault) = tested {
+        return Done::Refused(fault);
+    }
+    test_matched_plan(parents, pebbles, targets, plan)
+}
+
+// The checker: refused as above, else the number of moves and the excess (spare), moves minus shortest length.
 pub fn check(parents: &[u8], pebbles: &[u8], targets: &[u8], plan: &[u8]) -> Checked
     ensures { λ r. ⌜ paperChecked r ≡ checkAnswer (yardOf (now (parents .entry)) (now (pebbles .entry)) (now (targets .entry))) (now (plan .entry)) ⌝ }
 {
-    let tested = test_matched(parents, pebbles, targets);
+    let tested = test_plan(parents, pebbles, targets, plan);
     if let Done::Refused(r) = tested {
         return Checked::Refused(r);
     }
     let length = shortest_length(parents, pebbles, targets);
-    check_matched(parents, pebbles, targets, plan, length)
+    let moves = plan.len() / 2;
+    Checked::Accepted(moves, moves - length)
 }

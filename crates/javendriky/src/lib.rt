@@ -12,6 +12,7 @@ ghost use Rattle.planner.specs.Promise.{Promised};
 ghost use Rattle.model.specs.Sheets.{reader, readAnswer, filled, writeAnswer, writeList};
 ghost use Rattle.model.proofs.Places.{Row, Small};
 use checker::check::check;
+use checker::check::test_plan;
 use checker::trial::trial;
 use demand::call::demands;
 use demand::call::displaced;
@@ -103,10 +104,7 @@ pub extern "C" fn javendriky_check(
 ) -> u32
     ensures { λ r. ⌜ r ≡ zeroInC (checkFault (yardOf (now (parents .entry)) (now (pebbles .entry)) (now (targets .entry))) (now (plan .entry))) ⌝ }
 {
-    match check(parents, pebbles, targets, plan) {
-        Checked::Accepted(_, _) => 0,
-        Checked::Refused(r) => refused(r),
-    }
+    done(test_plan(parents, pebbles, targets, plan))
 }
 
 // The trial: obeys a plan until the budget or the plan ends, writes the new marks, and answers the moves taken, plus 500,000 where the budget ended

@@ -188,8 +188,8 @@ module _ (y : Yard) where
           late false = omega arith
 
     -- the checker's answer, with nothing in it but whether it accepts
-    pub checked : {a : Answer Verdict} → a ≡ checkAnswer y bs → inC (mapAnswer (λ _. 0) a) ≡ zeroInC (checkFault y bs)
-    checked e = rw (e, map-answer)
+    pub check-small : Small (answer (checkFault y bs) 0)
+    check-small = small 0 check-low (λ _. omega arith)
 
     pub excess-small : {a : Answer Verdict} → a ≡ checkAnswer y bs → Small (mapAnswer (λ v. v .excess) a)
     unfolding checkFault

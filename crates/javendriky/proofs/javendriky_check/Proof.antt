@@ -1,28 +1,19 @@
--- `javendriky_check` answers 0 where `check` accepts, and is refused as `check` is.
+-- `javendriky_check` answers what `test_plan` does, which is small.
 use borrow.Author.Needs.{needs}
-use mathlib.Core.Path.{_∙_}
-use Rattle.model.proofs.Places.{checked, excess-small}
+use mathlib.Core.Path.{ap, _∙_}
+use Rattle.model.specs.Calls.{zeroInC}
+use Rattle.model.proofs.Places.{check-small}
 use Rattle.javendriky.proofs.javendriky_check.Statement.{statement}
 use Rattle.javendriky.proofs.javendriky_check.Tie as tie
 
-check-requires : tie.Need-check-requires
-check-requires c κs = search needs
+test-plan-requires : tie.Need-test-plan-requires
+test-plan-requires c κs = search needs
 
-enum-told : tie.Need-enum-told
-enum-told c = search needs
-
-enum-known-r : tie.Need-enum-known-r
-enum-known-r c = search needs
-
-refused-requires : tie.Need-refused-requires
-refused-requires c κs = excess-small _ _ (rw (c .before .r .given .1) at (c .before .before .before .check .ensures))
+done-requires : tie.Need-done-requires
+done-requires c κs = rw (c .test-plan .ensures) (check-small _ _)
 
 returns : tie.Need-returns
-returns c = checked _ _ (rw (c .enum-told .given .1) at (c .before .before .check .ensures))
-
-returns-2 : tie.Need-returns-2
-returns-2 c = c .refused .ensures ∙ checked _ _ (rw (c .before .before .r .given .1) at (c .before .before .before .before .check .ensures))
+returns c = c .done .ensures ∙ ap zeroInC (c .before .test-plan .ensures)
 
 pub javendriky-check-spec : {M : Type 1} → statement M
-javendriky-check-spec =
-    tie.close (tie.spec check-requires enum-told enum-known-r refused-requires returns returns-2)
+javendriky-check-spec = tie.close (tie.spec test-plan-requires done-requires returns)

@@ -1,46 +1,43 @@
--- `checker::check::check` meets its contract: refused as a yard with no plan is, or judged with its shortest length.
+-- `checker::check::check` meets its contract: a plan that is not refused solves the yard, so it has at least the shortest length and the excess does not
+-- go below 0.
+use native.Mathlib.Omega.{arith}
 use borrow.Author.Needs.{needs}
-use Rattle.model.proofs.Calls.{figure-matched, check-figure}
 use Rattle.yard.proofs.Laws.{sees}
+use Rattle.checker.proofs.Laws.{check-fit, check-long, check-answered}
 use Rattle.checker.proofs.check.check.Statement.{statement}
 use Rattle.checker.proofs.check.check.Tie as tie
 
-test-matched-requires : tie.Need-test-matched-requires
-test-matched-requires c κs = search needs
+test-plan-requires : tie.Need-test-plan-requires
+test-plan-requires c κs = search needs
 
 enum-known-tested : tie.Need-enum-known-tested
 enum-known-tested c = search needs
 
 returns : tie.Need-returns
-returns c =
-    let t = c .before .before .before in
-    rw (check-figure _ _ (sees (t .test-matched .ensures) (c .before .tested .given .1)) _)
+returns c = rw (sees (c .before .before .before .test-plan .ensures) (c .before .tested .given .1))
 
 enum-told : tie.Need-enum-told
 enum-told c = search needs
 
 shortest-length-requires : tie.Need-shortest-length-requires
-shortest-length-requires c κs =
-    let t = c .before .before in
-    figure-matched _ (sees (t .test-matched .ensures) (c .enum-told .given .1)) .0
+shortest-length-requires c κs = check-fit _ _ (sees (c .before .before .test-plan .ensures) (c .enum-told .given .1)) .0
 
-check-matched-requires : tie.Need-check-matched-requires
-check-matched-requires c κs =
-    let t = c .before .before .before in
-    let m = figure-matched _ (sees (t .test-matched .ensures) (c .before .enum-told .given .1)) in
-    (m .0, m .1, c .shortest-length .ensures)
+sub-t9 : tie.Need-sub-t9
+sub-t9 c =
+    let e = sees (c .before .before .before .test-plan .ensures) (c .before .enum-told .given .1) in
+    omega (arith, c .shortest-length .ensures, check-long _ _ e)
 
 returns-2 : tie.Need-returns-2
-returns-2 c = search needs
+returns-2 c = check-answered _ _ (sees (c .before .before .before .test-plan .ensures) (c .before .enum-told .given .1)) _ (omega (arith, c .shortest-length .ensures))
 
 pub check-spec : {M : Type 1} → statement M
 check-spec =
     tie.close
     (tie.spec
-    test-matched-requires
+    test-plan-requires
     enum-known-tested
     returns
     enum-told
     shortest-length-requires
-    check-matched-requires
+    sub-t9
     returns-2)
