@@ -10,7 +10,7 @@ use Rattle.model.proofs.Trees.{Child}
 use Rattle.model.proofs.Judged.{wood}
 use Rattle.model.proofs.Demands.{weight, weight-child}
 use Rattle.model.proofs.Runs.{after-append}
-use Rattle.model.proofs.Shortest.{good-tree, keeps}
+use Rattle.model.proofs.Shortest.{keeps}
 use Rattle.model.proofs.Balance.{Even, Balances, none, next, settles-good, balances-good}
 use Rattle.planner.specs.Kept.{AskedEven, Settled, Balanced}
 use Rattle.planner.proofs.Made.{rest, back, Begun, go-on, ended, ready-after, room-left}

@@ -1,9 +1,9 @@
 -- Looking for the child that is served: a scan of u's children, rising, for the first whose demand is of the sign wanted.
-use mathlib.Core.Path.{_≡_, refl, sym, ap, _∙_}
+use mathlib.Core.Path.{_≡_, refl, sym, ap, _∙_, subst}
 use mathlib.Core.Logic.{_≢_}
 use mathlib.Core.Bool.{Bool, true, false, cond, _&&_, and-eq-true-iff}
 use mathlib.Core.List.{List}
-use Prim.Native.Nat.{ℕ, suc, _+_, _<_}
+use Prim.Native.Nat.{ℕ, suc, _+_, _≤_, _<_}
 use native.Mathlib.Omega.{arith}
 use native.Mathlib.Decide.{ℕ-discrete, decLt}
 use lib.ListN.{getD}
@@ -13,16 +13,19 @@ use lib.Signed.{ltZ}
 use mir.Syntax.{w16}
 use mir.Val.{SFits, toZ, ofZ}
 use mir.ValLaws.{toZ-ofZ}
-use borrow.Author.Tests.{lt-ltb, le-ltb, le-leb, leb-true}
+use borrow.Author.Tests.{lt-ltb, le-ltb, ltb-false, le-leb, leb-true}
 use Rattle.model.specs.Yard.{Yard, size, up, isChild, demand}
+use Rattle.model.specs.Judge.{Tree}
+use Rattle.model.specs.Push.{Move, run}
 use Rattle.model.specs.Plan.{needy, choice}
 use Rattle.model.proofs.Basics.{below-none}
 use Rattle.model.proofs.Found.{found, missed, lowest-is, lowest-lt}
-use Rattle.model.proofs.Trees.{Child, is-child, child-is}
+use Rattle.model.proofs.Trees.{is-child, child-is}
 use Rattle.model.proofs.Judged.{facts, wood}
 use Rattle.model.proofs.Signed.{above0, below0, demand-parts, demand-range}
 use Rattle.model.proofs.Step.{need}
-use Rattle.planner.specs.Kept.{Ready}
+use Rattle.model.proofs.Shortest.{Good, keeps}
+use Rattle.planner.specs.Kept.{Ready, wants, Looking, Start, no-child, at-child}
 use Rattle.demand.proofs.Numbers.{small-fits}
 use Rattle.planner.proofs.Siblings.{first-none, next-is, next-none}
 
@@ -44,61 +47,92 @@ sign-need y true v = above-sign (demand y v) ∙ ap (ltb 0) (demand-parts y v .0
 sign-need y false v = below-sign (demand y v) ∙ ap (ltb 0) (demand-parts y v .1)
 
 module _ (y : Yard) (u : ℕ) (b : Bool) where
-  -- a child of u that needs something
-  abbrev wants : ℕ → Bool
-  wants v = (isChild (y .parents) u v) && (ltb 0 (need y b v))
-
-  -- no child of u below c needs anything
-  pub record Looking (c : ℕ) : Type 0 where
-    pub child : Child (y .parents) u c
-    pub none : (v : ℕ) → v < c → wants v ≡ false
-
-  not-child : (v : ℕ) → isChild (y .parents) u v ≡ false → wants v ≡ false
+  not-child : (v : ℕ) → isChild (y .parents) u v ≡ false → wants b y u v ≡ false
   not-child v e = rw e
 
   module _ (t : List ℕ) (s : List ℤ) (r : Ready y t s) (l : u < size y) where
     -- u has no child, or there is none behind c
     pub look-none : getD t (256 + u) 0 ≡ u → u ≡ choice (need y b) y u
     unfolding choice needy
-    look-none e = missed (size y) u wants (λ v k. not-child v (below-none (size y) (isChild (y .parents) u) (first-none (r .tables) l e) v k))
+    look-none e = missed (size y) u (wants b y u) (λ v k. not-child v (below-none (size y) (isChild (y .parents) u) (first-none (r .tables) l e) v k))
 
-    pub look-first : getD t (256 + u) 0 ≢ u → Looking (getD t (256 + u) 0)
+    pub look-first : getD t (256 + u) 0 ≢ u → Looking b y u (getD t (256 + u) 0)
     look-first d =
         let k = lowest-is (size y) u _ (isChild (y .parents) u) (r .tables .first u l) d in
         record { child = is-child (y .parents) u _ (k .0) (k .1); none = λ v m. not-child v (k .2 v m) }
 
-    module _ (c : ℕ) (h : Looking c) where
+    -- looking begins at the lowest child, or ends there
+    pub start-first : {c : ℕ} → c ≡ getD t (256 + u) 0 → Start b y t u c
+    start-first {c} f = go (ℕ-discrete c u)
+      where
+        go : Dec (c ≡ u) → Start b y t u c
+        go (yes e) = subst (Start b y t u) (sym e) (no-child (sym f ∙ e))
+        go (no d) = rw f (at-child (look-first (λ e. d (f ∙ e))))
+
+    pub start-none : {c : ℕ} → Start b y t u c → c ≡ u → u ≡ choice (need y b) y u
+    start-none (no-child e) f = look-none e
+    start-none (at-child h) f = absurd (h .child .other f)
+
+    module _ (c : ℕ) (h : Looking b y u c) where
       -- the demand at hand decides
-      pub look-sign : sign b (getD s c (pos 0)) ≡ wants c
+      pub look-sign : sign b (getD s c (pos 0)) ≡ wants b y u c
       look-sign = ap (sign b) (r .kept .demands c (h .child .lt)) ∙ sign-need y b c ∙ rw (child-is (y .parents) u c (h .child))
 
       pub look-found : sign b (getD s c (pos 0)) ≡ true → c ≡ choice (need y b) y u
       unfolding choice needy
-      look-found e = found (size y) u c wants (h .child .lt) (h .none) (sym look-sign ∙ e)
+      look-found e = found (size y) u c (wants b y u) (h .child .lt) (h .none) (sym look-sign ∙ e)
 
       behind : ℕ → Bool
       behind v = (leb (c + 1) v) && (isChild (y .parents) u v)
 
       -- what is no child of u above c, and not c, does not want
-      pass : sign b (getD s c (pos 0)) ≡ false → (v : ℕ) → behind v ≡ false → wants v ≡ false
+      pass : sign b (getD s c (pos 0)) ≡ false → (v : ℕ) → behind v ≡ false → wants b y u v ≡ false
       unfolding behind
       pass e v q = go (ℕ-discrete v c) (decLt v c)
         where
-          go : Dec (v ≡ c) → Dec (v < c) → wants v ≡ false
+          go : Dec (v ≡ c) → Dec (v < c) → wants b y u v ≡ false
           go (yes f) _ = rw f (sym look-sign ∙ e)
           go (no f) (yes m) = h .none v m
           go (no f) (no m) = not-child v (rw (le-leb (c + 1) v (omega arith)) at q)
 
       pub look-last : sign b (getD s c (pos 0)) ≡ false → getD t (512 + c) 0 ≡ c → u ≡ choice (need y b) y u
       unfolding choice needy behind
-      look-last e f = missed (size y) u wants (λ v k. pass e v (below-none (size y) behind (next-none (r .tables) (h .child) f) v k))
+      look-last e f = missed (size y) u (wants b y u) (λ v k. pass e v (below-none (size y) behind (next-none (r .tables) (h .child) f) v k))
 
-      pub look-next : sign b (getD s c (pos 0)) ≡ false → getD t (512 + c) 0 ≢ c → Looking (getD t (512 + c) 0) × (c < getD t (512 + c) 0)
+      pub look-next : sign b (getD s c (pos 0)) ≡ false → getD t (512 + c) 0 ≢ c → Looking b y u (getD t (512 + c) 0) × (c < getD t (512 + c) 0)
       unfolding behind
       look-next e d =
           let k = lowest-is (size y) c _ behind (next-is (r .tables) (h .child)) d in
           let q = and-eq-true-iff (leb (c + 1) (getD t (512 + c) 0)) (isChild (y .parents) u (getD t (512 + c) 0)) .0 (k .1) in
           (record { child = is-child (y .parents) u _ (k .0) (q .1); none = λ v m. pass e v (k .2 v m) }, omega (arith, leb-true (c + 1) _ (q .0)))
+
+-- a start that is a child, and one that was chosen
+pub start-child : {b : Bool} {y : Yard} {t : List ℕ} {u c : ℕ} → Start b y t u c → c ≢ u → Looking b y u c
+start-child (no-child e) d = absurd (d refl)
+start-child (at-child h) d = h
+
+pub chosen : (b : Bool) (y : Yard) (u : ℕ) {c : ℕ} → c ≡ choice (need y b) y u → c ≢ u → Looking b y u c
+unfolding choice needy
+chosen b y u {c} e d =
+    let k = lowest-is (size y) u c (wants b y u) e d in
+    record { child = is-child (y .parents) u c (k .0) (and-eq-true-iff (isChild (y .parents) u c) (ltb 0 (need y b c)) .0 (k .1) .0); none = k .2 }
+
+-- no demand grows by good moves, so a start stays one
+module _ {y : Yard} {ms : List Move} (w : Tree y) (g : Good y ms) (u : ℕ) where
+  need-after : (b : Bool) (v : ℕ) → v < size y → need (run y ms) b v ≤ need y b v
+  need-after true v l = keeps y w ms g v l .0
+  need-after false v l = keeps y w ms g v l .1
+
+  wants-after : (b : Bool) (v : ℕ) → v < size y → wants b y u v ≡ false → wants b (run y ms) u v ≡ false
+  wants-after b v l = go (isChild (y .parents) u v)
+    where
+      go : (t : Bool) → (t && (ltb 0 (need y b v))) ≡ false → (t && (ltb 0 (need (run y ms) b v))) ≡ false
+      go true e = le-ltb 0 (need (run y ms) b v) (omega (arith, need-after b v l, ltb-false 0 (need y b v) e))
+      go false e = refl
+
+  pub start-after : {b : Bool} {t : List ℕ} {c : ℕ} → Start b y t u c → Start b (run y ms) t u c
+  start-after (no-child e) = no-child e
+  start-after {b} (at-child h) = at-child (record { child = h .child; none = λ v m. wants-after b v (omega (arith, h .child .lt)) (h .none v m) })
 
 -- a node is below 256, and so is what the tables say of one
 module _ {y : Yard} {t : List ℕ} {s : List ℤ} {v : ℕ} (r : Ready y t s) (l : v < size y) where

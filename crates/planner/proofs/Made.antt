@@ -60,7 +60,7 @@ pub record Begun (y : Yard) (s : List ℤ) (before plan : List ℕ) (k : ℕ) (W
   pub made : Made y moves s before plan k
   pub onward : (ns : List Move) → Left (run y moves) ns → Whole (moves ++ ns)
 
-pub begin : {y : Yard} {s : List ℤ} {plan : List ℕ} {Left : Yard → List Move → Type 0} → Kept y s → Begun y s plan plan 0 (Left y) Left
+unfoldable pub begin : {y : Yard} {s : List ℤ} {plan : List ℕ} {Left : Yard → List Move → Type 0} → Kept y s → Begun y s plan plan 0 (Left y) Left
 unfolding after
 begin {y} {s} {plan} h = record { moves = []; good = good-nil y; made = made-nil y s plan h; onward = λ ns l. l }
 

@@ -2,7 +2,7 @@
 -- of the chosen one.
 use mathlib.Core.Path.{_≡_, refl, sym}
 use mathlib.Core.Logic.{_≢_}
-use mathlib.Core.Bool.{Bool, true, false, not}
+use mathlib.Core.Bool.{Bool, true, false, not, cond}
 use mathlib.Core.List.{List, [], _∷_, _++_}
 use Prim.Native.Nat.{ℕ, zero, suc, _+_, _≤_, _<_}
 use native.Mathlib.Omega.{arith}
@@ -12,20 +12,24 @@ use lib.IntN.{ℤ, pos}
 use mir.Syntax.{w16}
 use mir.Val.{ofZ}
 use Rattle.model.specs.Yard.{Yard, size, pebble, held, headOr, imbalance}
-use Rattle.model.specs.Push.{Move, run}
+use Rattle.model.specs.Judge.{Tree}
+use Rattle.model.specs.Push.{Move, after, run}
 use Rattle.model.specs.Plan.{needy, choice}
 use Rattle.model.proofs.Basics.{All}
 use Rattle.model.proofs.Trees.{Child}
 use Rattle.model.proofs.Judged.{facts, wood}
 use Rattle.model.proofs.Demands.{weight-child}
 use Rattle.model.proofs.Step.{need}
+use Rattle.model.proofs.Runs.{after-append}
 use Rattle.model.proofs.Shortest.{Good, keeps}
 use Rattle.model.proofs.Choice.{all-needy, none-needy}
 use Rattle.model.proofs.Serve.{Due, Serves, serves-shift}
 use Rattle.model.proofs.Balance.{Settles, settled, turned, turn-due, first-needy}
-use Rattle.planner.specs.Kept.{Ready, Made, Asked, Begins, AskedMoves, AskedEven}
+use Rattle.planner.specs.Kept.{Ready, Start, at-child, Made, Asked, Begins, AskedMoves, AskedEven, Settled}
 use Rattle.planner.proofs.Serving.{mark-is}
-use Rattle.planner.proofs.Made.{rest, ready-after, room-left}
+use Rattle.planner.proofs.Looking.{look-none, start-first, chosen, start-after}
+use Rattle.planner.proofs.Moving.{made-nil}
+use Rattle.planner.proofs.Made.{rest, back, ready-after, room-left, Begun, begin, go-on}
 
 -- whether u holds a pebble, as the code reads it
 abbrev pub marked : List ℤ → ℕ → Bool
@@ -104,3 +108,45 @@ module _ {y : Yard} {t : List ℕ} {s : List ℤ} {plan : List ℕ} {u h : ℕ} 
           go : (l : List ℕ) → needy (imbalance y) y u ≡ l → Settles y u (ms ++ ns)
           go [] p = absurd (omega (arith, some-need c (chosen-needs .1), none-needy (imbalance y) y u p c (chosen-needs .0)))
           go (w ∷ l) p = turned p (rw (q, e) at v) r
+
+-- at a node with no child there is nothing to do
+pub leaf-settled : {y : Yard} {t : List ℕ} {s : List ℤ} {plan : List ℕ} {u h : ℕ} → AskedEven y t s plan u h → getD t (256 + u) 0 ≡ u → Settled y u s plan plan 0
+leaf-settled {y} {t} {s} {plan} {u} a e = record {
+  moves = [];
+  settles = none-chosen a {b = held y u} refl {c = u} (look-none y u (held y u) t s (a .ready) (a .node) e) refl;
+  made = made-nil y s plan (a .ready .kept);
+}
+
+-- where looking begins in the loop, for a child that lacks pebbles and for one that has too many
+pub record Starts (y : Yard) (t : List ℕ) (u lacks spares : ℕ) : Type 0 where
+  pub lack : Start true y t u lacks
+  pub spare : Start false y t u spares
+
+pub start-for : {y : Yard} {t : List ℕ} {u lacks spares c : ℕ} (b : Bool) → Starts y t u lacks spares → c ≡ cond b lacks spares → Start b y t u c
+start-for true h e = rw e (h .lack)
+start-for false h e = rw e (h .spare)
+
+-- after a turn it begins at the child that was chosen, for its sign
+pub starts-next : {y : Yard} {ms : List Move} {t : List ℕ} {u c lacks spares lacks′ spares′ : ℕ} (b : Bool) → Starts y t u lacks spares → Tree y → Good y ms
+    → c ≡ choice (need y b) y u → c ≢ u → lacks′ ≡ cond b c lacks → spares′ ≡ cond b spares c → Starts (run y ms) t u lacks′ spares′
+starts-next {y} {ms} {u = u} true h w g q d e f = rw (e, f) record { lack = start-after w g u (at-child (chosen true y u q d)); spare = start-after w g u (h .spare) }
+starts-next {y} {ms} {u = u} false h w g q d e f = rw (e, f) record { lack = start-after w g u (h .lack); spare = start-after w g u (at-child (chosen false y u q d)) }
+
+-- some turns were made
+pub record Turned (y : Yard) (t : List ℕ) (u : ℕ) (s : List ℤ) (before plan : List ℕ) (k lacks spares : ℕ) : Type 0 where
+  pub begun : Begun y s before plan k (Settles y u) (λ z. Settles z u)
+  pub starts : Starts (run y (begun .moves)) t u lacks spares
+
+pub turn-none : {y : Yard} {t : List ℕ} {s : List ℤ} {plan : List ℕ} {u c h : ℕ} → AskedEven y t s plan u h → c ≡ getD t (256 + u) 0 → Turned y t u s plan plan 0 c c
+unfolding begin after
+turn-none {y} {t} {s} {u = u} a e = record {
+  begun = begin {Left = λ z. Settles z u} (a .ready .kept);
+  starts = record { lack = start-first y u true t s (a .ready) (a .node) e; spare = start-first y u false t s (a .ready) (a .node) e };
+}
+
+pub turn-more : {y : Yard} {t : List ℕ} {u : ℕ} {s s′ : List ℤ} {before plan part : List ℕ} {k m lacks spares lacks′ spares′ : ℕ}
+    (w : Turned y t u s before plan k lacks spares) (ns : List Move) → Good (run y (w .begun .moves)) ns → Made (run y (w .begun .moves)) ns s′ (rest plan k) part m
+    → ((ps : List Move) → Settles (run (run y (w .begun .moves)) ns) u ps → Settles (run y (w .begun .moves)) u (ns ++ ps))
+    → Starts (run (run y (w .begun .moves)) ns) t u lacks′ spares′ → Turned y t u s′ before (back plan k part) (k + m) lacks′ spares′
+unfolding go-on
+turn-more {y} w ns g d f h = record { begun = go-on (w .begun) ns g d f; starts = rw (after-append (w .begun .moves) ns y) h }

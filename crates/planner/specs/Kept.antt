@@ -6,13 +6,14 @@ use mathlib.Core.Bool.{Bool, true, false, _&&_}
 use mathlib.Core.List.{List, [], _∷_}
 use Prim.Native.Nat.{ℕ, _+_, _*_, _≤_, _<_}
 use lib.ListN.{length, getD, set}
-use lib.Dec.{leb}
+use lib.Dec.{leb, ltb}
 use lib.IntN.{ℤ, pos}
 use Rattle.model.specs.Yard.{Yard, size, up, pebble, below, headOr, isChild, demand, shortest}
 use Rattle.model.specs.Judge.{Tree}
 use Rattle.model.specs.Push.{Move, run}
 use Rattle.model.specs.Plan.{choice}
 use Rattle.model.specs.Calls.{bytes, overwrite}
+use Rattle.model.proofs.Trees.{Child}
 use Rattle.model.proofs.Demands.{weight}
 use Rattle.model.proofs.Step.{crossing, need}
 use Rattle.model.proofs.Signed.{nextℤ}
@@ -44,6 +45,18 @@ pub record Ready (y : Yard) (t : List ℕ) (s : List ℤ) : Type 0 where
   pub tree : Tree y
   pub tables : Tables (y .parents) t
   pub kept : Kept y s
+
+-- a child of u that lacks pebbles (true) or has too many (false); a child c of u before which there is none; and where to begin looking for one
+abbrev pub wants : Bool → Yard → ℕ → ℕ → Bool
+wants b y u v = (isChild (y .parents) u v) && (ltb 0 (need y b v))
+
+pub record Looking (b : Bool) (y : Yard) (u c : ℕ) : Type 0 where
+  pub child : Child (y .parents) u c
+  pub none : (v : ℕ) → v < c → wants b y u v ≡ false
+
+pub data Start (b : Bool) (y : Yard) (t : List ℕ) (u : ℕ) : ℕ → Type 0 where
+  no-child : getD t (256 + u) 0 ≡ u → Start b y t u u
+  at-child : {c : ℕ} → Looking b y u c → Start b y t u c
 
 -- what filling v (true) or drawing from it (false) asks: that a pebble is due over its edge, and a height that bounds the nodes inside v
 pub record Asked (b : Bool) (y : Yard) (t : List ℕ) (s : List ℤ) (v height : ℕ) : Type 0 where

@@ -1,7 +1,10 @@
 // Algorithm 1: balancing the subtrees of a node.
+ghost use mathlib.Core.Path.{_≡_};
+ghost use mathlib.Core.Bool.{cond};
 ghost use Rattle.model.specs.Yard.{Yard};
 ghost use Rattle.planner.specs.Kept.{Asked, Begins, AskedEven, Settled, Balanced};
-use crate::choose::choose;
+use crate::choose::choose_from;
+use crate::choose::wide;
 use crate::serve::extract_pebble;
 use crate::serve::inject_pebble;
 use crate::serve::move_pebbles;
@@ -17,19 +20,34 @@ fn turn_start(t: &[u8; 768], s: &[i16; 512], c: usize, away: bool, height: usize
     extract_pebble(t, s, c, height)
 }
 
+// One of two numbers.
+fn either(first: bool, a: usize, b: usize) -> usize
+    ensures { λ r. ⌜ r ≡ cond first a b ⌝ }
+{
+    if first {
+        return a;
+    }
+    b
+}
+
 // The loop at u: if u holds a pebble a child is filled from it, else one is drawn from a child, until no child has a demand of the sign wanted;
-// then none has any, as u's own demand is 0.
+// then none has any, as u's own demand is 0. No demand grows, so a child passed over once for a sign is not looked at again.
 fn settle(t: &[u8; 768], s: &mut [i16; 512], plan: &mut [u8], u: usize, height: usize) -> usize
     requires { ⌜ ((y : Yard) × AskedEven y (now t) (now s) (now plan) u height) ⌝ }
     ensures { λ r. ⌜ ((y : Yard) → AskedEven y (now (t .entry)) (now (s .entry)) (now (plan .entry)) u height → Settled y u (now (s .exit)) (now (plan .entry)) (now (plan .exit)) r) ⌝ }
 {
+    let first = wide(t[256 + u]);
     let mut k = 0;
+    let mut lacks = first;
+    let mut spares = first;
     loop {
         let away = s[256 + u] != 0;
-        let c = choose(t, s, u, away);
+        let c = choose_from(t, s, u, either(away, lacks, spares), away);
         if c == u {
             return k;
         }
+        lacks = either(away, c, lacks);
+        spares = either(away, spares, c);
         let low = turn_start(t, s, c, away, height);
         let m = move_pebbles(t, s, &mut plan[2 * k..], low, c, away);
         k += m;
@@ -48,11 +66,11 @@ pub fn balance_subtrees(
     requires { ⌜ ((y : Yard) × AskedEven y (now t) (now s) (now plan) u height) ⌝ }
     ensures { λ r. ⌜ ((y : Yard) → AskedEven y (now (t .entry)) (now (s .entry)) (now (plan .entry)) u height → Balanced y u (now (s .exit)) (now (plan .entry)) (now (plan .exit)) r) ⌝ }
 {
-    let mut k = settle(t, s, plan, u, height);
     let first = t[256 + u] as usize;
     if first == u {
-        return k;
+        return 0;
     }
+    let mut k = settle(t, s, plan, u, height);
     let mut c = first;
     loop {
         let m = balance_subtrees(t, s, &mut plan[2 * k..], c, height - 1);

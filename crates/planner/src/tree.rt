@@ -1,5 +1,4 @@
 // The tables of a tree: parents, lowest children, next siblings.
-ghost use mathlib.Core.Path.{_≡_};
 ghost use Prim.Native.Nat.{ℕ, _<_, _≤_};
 ghost use lib.ListN.{length};
 ghost use Rattle.model.specs.Yard.{up};

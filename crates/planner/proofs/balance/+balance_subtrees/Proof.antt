@@ -14,6 +14,7 @@ use Rattle.planner.specs.Kept.{AskedEven}
 use Rattle.planner.proofs.Looking.{node-small, first-lt, next-lt}
 use Rattle.planner.proofs.Made.{rest, back, within}
 use Rattle.planner.proofs.Siblings.{above, first-none, first-some, next-none, next-some}
+use Rattle.planner.proofs.Settle.{leaf-settled}
 use Rattle.planner.proofs.Children.{Left, left-none, Started, started, child-lower, child-asked, left-next}
 use Rattle.planner.proofs.balance.balance_subtrees.Reads as tree
 use Rattle.planner.proofs.balance.balance_subtrees.Kinds as kinds
@@ -32,51 +33,45 @@ abbrev tree-below : ℕ → In 3 kinds.ps
 tree-below n = and 3 kinds.ps (falls 3 kinds.ps _<_ μ-tree n) tree.Pre
 
 abbrev Inv-loop : lts.InvT-loop
-Inv-loop t s₀ plan₀ u height k₀ first c₀ s plan k c =
+Inv-loop t s₀ plan₀ u height first k₀ c₀ s plan k c =
     (y : Yard) (before : List ℕ) → Started y before t s₀ plan₀ k₀ u height → Child (y .parents) u c × Left y u s before plan k (c ∷ above (y .parents) u c)
 
 abbrev μ-loop : lts.MeasureT-loop
-μ-loop t s₀ plan₀ u height k₀ first c₀ s plan k c = 256 - c
+μ-loop t s₀ plan₀ u height first k₀ c₀ s plan k c = 256 - c
 
 module _ (n : ℕ) where
-  settle-requires : lts.Need-settle-requires (settle.Asked, settle.Learnt, tree-below n, tree.Post) (tree-at n) tree.Post Inv-loop μ-loop
-  settle-requires c κs = c .before .before .before .pre .1
-
   add-first : lts.Need-add-first (settle.Asked, settle.Learnt, tree-below n, tree.Post) (tree-at n) tree.Post Inv-loop μ-loop
-  add-first c = let a = c .before .before .before .before .before .before .pre .1 .1 in omega (arith, node-small (a .ready) (a .node))
+  add-first c = let a = c .before .pre .1 .1 in omega (arith, node-small (a .ready) (a .node))
 
   element-copy-out-first : lts.Need-element-copy-out-first (settle.Asked, settle.Learnt, tree-below n, tree.Post) (tree-at n) tree.Post Inv-loop μ-loop
-  element-copy-out-first c = let a = c .before .before .before .before .before .before .pre .1 .1 in omega (arith, node-small (a .ready) (a .node))
+  element-copy-out-first c = let a = c .before .pre .1 .1 in omega (arith, node-small (a .ready) (a .node))
 
   cast-first : lts.Need-cast-first (settle.Asked, settle.Learnt, tree-below n, tree.Post) (tree-at n) tree.Post Inv-loop μ-loop
-  cast-first c = let a = c .before .before .before .before .before .before .before .pre .1 .1 in omega (arith, node-small (a .ready) (first-lt (a .ready) (a .node)))
+  cast-first c = let a = c .before .before .pre .1 .1 in omega (arith, node-small (a .ready) (first-lt (a .ready) (a .node)))
+
+  returns : lts.Need-returns (settle.Asked, settle.Learnt, tree-below n, tree.Post) (tree-at n) tree.Post Inv-loop μ-loop
+  returns c y a = left-none (rw (first-none (a .ready .tables) (a .node) (c .if1 .taken)) at (started a (leaf-settled a (c .if1 .taken)) .left))
+
+  settle-requires : lts.Need-settle-requires (settle.Asked, settle.Learnt, tree-below n, tree.Post) (tree-at n) tree.Post Inv-loop μ-loop
+  settle-requires c κs = c .before .before .before .before .before .pre .1
 
   -- the loop at u has ended
   start : (c : lts.After-settle (settle.Asked, settle.Learnt, tree-below n, tree.Post) (tree-at n) tree.Post Inv-loop μ-loop) (y : Yard)
-      → let s = c .before .before .before .before .args in
+      → let s = c .before .before .before .before .before .before .args in
       AskedEven y (s .t .now) (s .s .now) (s .plan .now) (s .u) (s .height)
       → Started y (s .plan .now) (s .t .now) (c .settle .last .1 .0) (c .settle .last .1 .1 .0) (c .settle .result) (s .u) (s .height)
   start c y a = started a (c .settle .ensures y a)
 
-  same-length : lts.Need-same-length (settle.Asked, settle.Learnt, tree-below n, tree.Post) (tree-at n) tree.Post Inv-loop μ-loop
-  same-length c =
-      let p = c .before .before .before .before .before .before .before .before .pre .1 in
-      let b = start (c .before .before .before .before) (p .0) (p .1) .left .begun in
-      within (b .good) (p .1 .room) (b .made) .0
-
-  returns : lts.Need-returns (settle.Asked, settle.Learnt, tree-below n, tree.Post) (tree-at n) tree.Post Inv-loop μ-loop
-  returns c y a = left-none (rw (first-none (a .ready .tables) (a .node) (c .if1 .taken)) at (start (c .before .before .before .before) y a .left))
-
   loop-holds : lts.Need-loop-holds (settle.Asked, settle.Learnt, tree-below n, tree.Post) (tree-at n) tree.Post Inv-loop μ-loop
   loop-holds c y before a =
-      let f = first-some (a .asked .ready .tables) (a .asked .node) (c .if1 .left) in
+      let f = first-some (a .asked .ready .tables) (a .asked .node) (c .before .before .before .before .before .if1 .left) in
       (f .0, rw (f .1) at (a .left))
 
   -- at the loop's head: the child at hand, what it asks, and what was used of the list
   abbrev From : lts.At-loop (settle.Asked, settle.Learnt, tree-below n, tree.Post) (tree-at n) tree.Post Inv-loop μ-loop → Yard → List ℕ → Type 0
   From c y before =
       let s = c .before .before .before .before .before .before .before .before .before .args in
-      let e = c .before .before .before .before .before .settle in
+      let e = c .before .before .before .settle in
       Started y before (s .t .now) (e .last .1 .0) (e .last .1 .1 .0) (e .result) (s .u) (s .height)
 
   here : (c : lts.At-loop (settle.Asked, settle.Learnt, tree-below n, tree.Post) (tree-at n) tree.Post Inv-loop μ-loop) (y : Yard) (before : List ℕ) (a : From c y before)
@@ -85,7 +80,7 @@ module _ (n : ℕ) where
   here c y before a = let l = c .loop .inv y before a in child-asked (a .asked) (l .0) (l .1)
 
   first : (c : lts.At-loop (settle.Asked, settle.Learnt, tree-below n, tree.Post) (tree-at n) tree.Post Inv-loop μ-loop) → From c (c .before .before .before .before .before .before .before .before .before .pre .1 .0) (c .before .before .before .before .before .before .before .before .before .args .plan .now)
-  first c = start (c .before .before .before .before .before) _ (c .before .before .before .before .before .before .before .before .before .pre .1 .1)
+  first c = start (c .before .before .before) _ (c .before .before .before .before .before .before .before .before .before .pre .1 .1)
 
   child : (c : lts.At-loop (settle.Asked, settle.Learnt, tree-below n, tree.Post) (tree-at n) tree.Post Inv-loop μ-loop) → Child (c .before .before .before .before .before .before .before .before .before .pre .1 .0 .parents) (c .before .before .before .before .before .before .before .before .before .args .u) (c .loop .c)
   child c = c .loop .inv _ _ (first c) .0
@@ -154,12 +149,12 @@ module _ (n : ℕ) where
       let f = child (c .before .before .before .before .before .before) in
       omega (arith, node-small (a .ready) (next-lt (a .ready) (f .lt) (λ e. f .other (sym e ∙ f .up))))
 
-  same-length-2 : lts.Need-same-length-2 (settle.Asked, settle.Learnt, tree-below n, tree.Post) (tree-at n) tree.Post Inv-loop μ-loop
-  same-length-2 c = filled (c .before .before .before .before) .0
+  same-length : lts.Need-same-length (settle.Asked, settle.Learnt, tree-below n, tree.Post) (tree-at n) tree.Post Inv-loop μ-loop
+  same-length c = filled (c .before .before .before .before) .0
 
   returns-2 : lts.Need-returns-2 (settle.Asked, settle.Learnt, tree-below n, tree.Post) (tree-at n) tree.Post Inv-loop μ-loop
   returns-2 c y a =
-      let z = start (c .before .before .before .before .before .before .before .before .before .before .before .before) y a in
+      let z = start (c .before .before .before .before .before .before .before .before .before .before) y a in
       left-none (rw (next-none (a .ready .tables) (c .before .before .before .before .before .before .before .loop .inv y _ z .0) (c .if2 .taken)) at (stepped (c .before .before .before .before) y _ z))
 
   loop-less : lts.Need-loop-less (settle.Asked, settle.Learnt, tree-below n, tree.Post) (tree-at n) tree.Post Inv-loop μ-loop
@@ -178,12 +173,11 @@ pub +balance-subtrees-spec : {M : Type 1} → statement M
     close
     μ-tree
     λ n. lts.spec (settle.Asked, settle.Learnt, tree-below n, tree.Post) (tree-at n) tree.Post Inv-loop μ-loop
-    (settle-requires n)
     (add-first n)
     (element-copy-out-first n)
     (cast-first n)
-    (same-length n)
     (returns n)
+    (settle-requires n)
     (loop-holds n)
     (mul-tree n)
     (sub-tree n)
@@ -195,7 +189,7 @@ pub +balance-subtrees-spec : {M : Type 1} → statement M
     (add-next n)
     (element-copy-out-next n)
     (cast-next n)
-    (same-length-2 n)
+    (same-length n)
     (returns-2 n)
     (loop-less n)
     (loop-again n)

@@ -1,126 +1,163 @@
 -- `planner::balance::settle` meets its contract: after some turns the moves so far, each of which lowers the shortest length, leave a yard from which
 -- the loop goes on as from the first (the laws are in Made and Settle).
 use native.Mathlib.Omega.{arith}
+use borrow.Author.Needs.{needs}
 use Prim.Native.Nat.{_+_, _-_, _*_, _≤_, _<_}
 use mathlib.Core.Path.{_≡_}
 use lib.ListN.{length}
 use Rattle.model.specs.Yard.{Yard}
 use Rattle.model.specs.Push.{run}
-use Rattle.model.proofs.Balance.{Settles}
 use Rattle.planner.specs.Kept.{AskedEven}
 use Rattle.planner.proofs.Looking.{node-small}
-use Rattle.planner.proofs.Made.{rest, back, within, Begun, begin, go-on, ended}
-use Rattle.planner.proofs.Settle.{marked-held, even-after, none-chosen, turn-asked, turn-moves, turn-good, turn-settles}
+use Rattle.planner.proofs.Made.{rest, back, within, ended}
+use Rattle.planner.proofs.Settle.{marked, marked-held, even-after, none-chosen, turn-asked, turn-moves, turn-good, turn-settles, start-for, starts-next, Turned, turn-none, turn-more}
 use Rattle.planner.proofs.balance.settle.Statement.{statement}
 use Rattle.planner.proofs.balance.settle.Tie as tie
 
 abbrev Inv-loop : tie.InvT-loop
-Inv-loop t s₀ plan₀ u height k₀ s plan k = (y : Yard) → AskedEven y t s₀ plan₀ u height → Begun y s plan₀ plan k (Settles y u) (λ z. Settles z u)
+Inv-loop t s₀ plan₀ u height first k₀ lacks₀ spares₀ s plan k lacks spares = (y : Yard) → AskedEven y t s₀ plan₀ u height → Turned y t u s plan₀ plan k lacks spares
 
 abbrev μ-loop : tie.MeasureT-loop
-μ-loop t s₀ plan₀ u height k₀ s plan k = length plan₀ - 2 * k
+μ-loop t s₀ plan₀ u height first k₀ lacks₀ spares₀ s plan k lacks spares = length plan₀ - 2 * k
+
+add-wide : tie.Need-add-wide Inv-loop μ-loop
+add-wide c = let a = c .before .pre .1 in omega (arith, node-small (a .ready) (a .node))
+
+element-copy-out-wide : tie.Need-element-copy-out-wide Inv-loop μ-loop
+element-copy-out-wide c = let a = c .before .pre .1 in omega (arith, node-small (a .ready) (a .node))
+
+wide-requires : tie.Need-wide-requires Inv-loop μ-loop
+wide-requires c κs = search needs
 
 loop-holds : tie.Need-loop-holds Inv-loop μ-loop
-loop-holds c y a = begin {Left = λ z. Settles z _} (a .ready .kept)
+loop-holds c y a = turn-none a (c .wide .ensures .0)
+
+-- the call that a loop's head belongs to
+abbrev call : tie.At-loop Inv-loop μ-loop → tie.Start Inv-loop μ-loop
+call c = c .before .before .before .before
 
 add-away : tie.Need-add-away Inv-loop μ-loop
-add-away c = let a = c .before .before .pre .1 in omega (arith, node-small (a .ready) (a .node))
+add-away c = let a = call c .pre .1 in omega (arith, node-small (a .ready) (a .node))
 
 mul-away : tie.Need-mul-away Inv-loop μ-loop
-mul-away c = let a = c .before .before .pre .1 in omega (arith, node-small (a .ready) (a .node))
+mul-away c = let a = call c .pre .1 in omega (arith, node-small (a .ready) (a .node))
 
 element-copy-out-away : tie.Need-element-copy-out-away Inv-loop μ-loop
-element-copy-out-away c = let a = c .before .before .pre .1 in omega (arith, node-small (a .ready) (a .node))
+element-copy-out-away c = let a = call c .pre .1 in omega (arith, node-small (a .ready) (a .node))
 
 -- what the loop asks, for a yard at its head, and what it has used of the list
 here : (c : tie.At-loop Inv-loop μ-loop) (y : Yard)
-    → let s = c .before .before .args in
+    → let s = call c .args in
     (a : AskedEven y (s .t .now) (s .s .now) (s .plan .now) (s .u) (s .height))
-    → AskedEven (run y (c .loop .inv y a .moves)) (s .t .now) (c .loop .s) (rest (c .loop .plan) (c .loop .k)) (s .u) (s .height)
-here c y a = let b = c .loop .inv y a in even-after a (b .good) (b .made)
+    → AskedEven (run y (c .loop .inv y a .begun .moves)) (s .t .now) (c .loop .s) (rest (c .loop .plan) (c .loop .k)) (s .u) (s .height)
+here c y a = let b = c .loop .inv y a .begun in even-after a (b .good) (b .made)
 
-used : (c : tie.At-loop Inv-loop μ-loop) → (length (c .loop .plan) ≡ length (c .before .before .args .plan .now)) × (2 * c .loop .k ≤ length (c .before .before .args .plan .now))
+used : (c : tie.At-loop Inv-loop μ-loop) → (length (c .loop .plan) ≡ length (call c .args .plan .now)) × (2 * c .loop .k ≤ length (call c .args .plan .now))
 used c =
-    let p = c .before .before .pre in
-    let b = c .loop .inv (p .0) (p .1) in
+    let p = call c .pre in
+    let b = c .loop .inv (p .0) (p .1) .begun in
     within (b .good) (p .1 .room) (b .made)
 
-choose-requires : tie.Need-choose-requires Inv-loop μ-loop
-choose-requires c κs =
-    let p = c .before .before .before .before .pre in
-    let z = here (c .before .before) (p .0) (p .1) in
-    (_, z .ready, z .node)
+either-requires : tie.Need-either-requires Inv-loop μ-loop
+either-requires c κs = search needs
+
+choose-from-requires : tie.Need-choose-from-requires Inv-loop μ-loop
+choose-from-requires c κs =
+    let l = c .before .before .before in
+    let p = call l .pre in
+    let z = here l (p .0) (p .1) in
+    (_, z .ready, z .node, start-for _ (l .loop .inv (p .0) (p .1) .starts) (c .either .ensures))
 
 same-length : tie.Need-same-length Inv-loop μ-loop
-same-length c = used (c .before .before .before .before) .0
+same-length c = used (c .before .before .before .before .before) .0
 
 returns : tie.Need-returns Inv-loop μ-loop
 returns c y a =
-    let l = c .before .before .before .before in
-    let b = l .loop .inv y a in
+    let e = c .before .before in
+    let l = e .before .before .before in
+    let w = l .loop .inv y a in
     let z = here l y a in
     record {
-      moves = b .moves;
-      settles = ended b (none-chosen z (marked-held (z .ready) (z .node)) (c .before .choose .ensures _ (z .ready) (z .node)) (omega (arith, c .if1 .taken)));
-      made = b .made;
+      moves = w .begun .moves;
+      settles = ended (w .begun) (none-chosen z (marked-held (z .ready) (z .node)) (c .before .choose-from .ensures _ (z .ready) (z .node) (start-for _ (w .starts) (e .either .ensures))) (omega (arith, c .if1 .taken)));
+      made = w .begun .made;
     }
+
+either-requires-2 : tie.Need-either-requires-2 Inv-loop μ-loop
+either-requires-2 c κs = search needs
+
+either-requires-3 : tie.Need-either-requires-3 Inv-loop μ-loop
+either-requires-3 c κs = search needs
 
 turn-start-requires : tie.Need-turn-start-requires Inv-loop μ-loop
 turn-start-requires c κs =
-    let p = c .before .before .before .before .before .before .before .pre in
-    let z = here (c .before .before .before .before .before) (p .0) (p .1) in
-    (_, turn-asked z (marked-held (z .ready) (z .node)) (c .before .before .choose .ensures _ (z .ready) (z .node)) (c .before .if1 .left))
+    let d = c .before .before .before in
+    let e = d .before .before in
+    let l = e .before .before .before in
+    let p = call l .pre in
+    let z = here l (p .0) (p .1) in
+    (_, turn-asked z (marked-held (z .ready) (z .node)) (d .before .choose-from .ensures _ (z .ready) (z .node) (start-for _ (l .loop .inv (p .0) (p .1) .starts) (e .either .ensures))) (d .if1 .left))
 
 mul-move-pebbles : tie.Need-mul-move-pebbles Inv-loop μ-loop
-mul-move-pebbles c = let l = c .before .before .before .before .before .before .before in omega (arith, used l, l .before .before .good)
+mul-move-pebbles c = let l = c .before .before .before .before .before .before .before .before .before .before in omega (arith, used l, call l .good)
 
 sub-move-pebbles : tie.Need-sub-move-pebbles Inv-loop μ-loop
-sub-move-pebbles c = omega (arith, used (c .before .before .before .before .before .before .before))
+sub-move-pebbles c = omega (arith, used (c .before .before .before .before .before .before .before .before .before .before))
 
 part-move-pebbles-start : tie.Need-part-move-pebbles-start Inv-loop μ-loop
-part-move-pebbles-start c = omega (arith, used (c .before .before .before .before .before .before .before))
+part-move-pebbles-start c = omega (arith, used (c .before .before .before .before .before .before .before .before .before .before))
 
 part-move-pebbles-end : tie.Need-part-move-pebbles-end Inv-loop μ-loop
 part-move-pebbles-end c = omega arith
 
 move-pebbles-requires : tie.Need-move-pebbles-requires Inv-loop μ-loop
 move-pebbles-requires c κs =
-    let p = c .before .before .before .before .before .before .before .before .before .before .pre in
-    let z = here (c .before .before .before .before .before .before .before .before) (p .0) (p .1) in
+    let t = c .before .before in
+    let d = t .before .before .before .before in
+    let i = d .before .before in
+    let l = i .before .before .before in
+    let p = call l .pre in
+    let z = here l (p .0) (p .1) in
     let e = marked-held (z .ready) (z .node) in
-    let q = c .before .before .before .before .before .choose .ensures _ (z .ready) (z .node) in
-    let d = c .before .before .before .before .if1 .left in
-    (_, turn-moves z e q d (c .before .before .turn-start .ensures _ (turn-asked z e q d)))
+    let q = d .before .choose-from .ensures _ (z .ready) (z .node) (start-for _ (l .loop .inv (p .0) (p .1) .starts) (i .either .ensures)) in
+    (_, turn-moves z e q (d .if1 .left) (t .turn-start .ensures _ (turn-asked z e q (d .if1 .left))))
 
 -- one turn more, of one move at least
 stepped : (c : tie.After-move-pebbles Inv-loop μ-loop) (y : Yard)
-    → let l = c .before .before .before .before .before .before .before .before .before in
-    let s = l .before .before .args in
+    → let t = c .before .before .before in
+    let l = t .before .before .before .before .before .before .before .before .before in
+    let s = call l .args in
     AskedEven y (s .t .now) (s .s .now) (s .plan .now) (s .u) (s .height)
-    → Begun y (c .move-pebbles .last .1 .0) (s .plan .now) (back (l .loop .plan) (l .loop .k) (c .move-pebbles .last .1 .1 .0)) (l .loop .k + c .move-pebbles .result) (Settles y (s .u)) (λ z. Settles z (s .u))
+    → Turned y (s .t .now) (s .u) (c .move-pebbles .last .1 .0) (s .plan .now) (back (l .loop .plan) (l .loop .k) (c .move-pebbles .last .1 .1 .0)) (l .loop .k + c .move-pebbles .result) (t .before .before .before .either2 .result) (t .before .before .either3 .result)
     × (0 < c .move-pebbles .result)
 stepped c y a =
-    let l = c .before .before .before .before .before .before .before .before .before in
-    let b = l .loop .inv y a in
+    let t = c .before .before .before in
+    let d = t .before .before .before .before in
+    let i = d .before .before in
+    let l = i .before .before .before in
+    let w = l .loop .inv y a in
     let z = here l y a in
     let e = marked-held (z .ready) (z .node) in
-    let q = c .before .before .before .before .before .before .choose .ensures _ (z .ready) (z .node) in
-    let d = c .before .before .before .before .before .if1 .left in
-    let v = c .move-pebbles .ensures _ (turn-moves z e q d (c .before .before .before .turn-start .ensures _ (turn-asked z e q d))) in
-    let g = turn-good z e q d (v .serves) in
-    (go-on b (v .moves) (g .0) (v .made) (turn-settles z e q d (v .serves)), omega (arith, g .1, v .made .counted))
+    let q = d .before .choose-from .ensures _ (z .ready) (z .node) (start-for _ (w .starts) (i .either .ensures)) in
+    let v = c .move-pebbles .ensures _ (turn-moves z e q (d .if1 .left) (t .turn-start .ensures _ (turn-asked z e q (d .if1 .left)))) in
+    let g = turn-good z e q (d .if1 .left) (v .serves) in (
+      turn-more w (v .moves) (g .0) (v .made) (turn-settles z e q (d .if1 .left) (v .serves)) (starts-next (marked (l .loop .s) (call l .args .u)) (w .starts) (z .ready .tree) (g .0) q (d .if1 .left) (t .before .before .before .either2 .ensures) (t .before .before .either3 .ensures)),
+      omega (arith, g .1, v .made .counted),
+    )
 
 add-k : tie.Need-add-k Inv-loop μ-loop
 add-k c =
-    let s = c .before .before .before .before .before .before .before .before .before .before .before .before .before in
-    let b = stepped (c .before .before) (s .pre .0) (s .pre .1) .0 in
-    omega (arith, within (b .good) (s .pre .1 .room) (b .made), s .good)
+    let m = c .before .before in
+    let p = call (m .before .before .before .before .before .before .before .before .before .before .before .before) in
+    let b = stepped m (p .pre .0) (p .pre .1) .0 .begun in
+    omega (arith, within (b .good) (p .pre .1 .room) (b .made), p .good)
 
 loop-less : tie.Need-loop-less Inv-loop μ-loop
 loop-less c =
-    let p = c .before .before .before .before .before .before .before .before .before .before .before .before .before .pre in
-    let b = stepped (c .before .before) (p .0) (p .1) in
-    omega (arith, b .1, within (b .0 .good) (p .1 .room) (b .0 .made))
+    let m = c .before .before in
+    let p = call (m .before .before .before .before .before .before .before .before .before .before .before .before) .pre in
+    let b = stepped m (p .0) (p .1) in
+    omega (arith, b .1, within (b .0 .begun .good) (p .1 .room) (b .0 .begun .made))
 
 loop-again : tie.Need-loop-again Inv-loop μ-loop
 loop-again c y a = stepped (c .before .before) y a .0
@@ -131,13 +168,19 @@ settle-spec =
     (tie.spec
     Inv-loop
     μ-loop
+    add-wide
+    element-copy-out-wide
+    wide-requires
     loop-holds
     add-away
     mul-away
     element-copy-out-away
-    choose-requires
+    either-requires
+    choose-from-requires
     same-length
     returns
+    either-requires-2
+    either-requires-3
     turn-start-requires
     mul-move-pebbles
     sub-move-pebbles

@@ -1,7 +1,7 @@
 -- `planner::serve::move_pebbles` meets its contract: the moves made on the way up the chain make way for the next one (the laws are in Serving).
-use mathlib.Core.Path.{sym, _∙_}
+use mathlib.Core.Path.{_∙_}
 use native.Mathlib.Omega.{arith}
-use Prim.Native.Nat.{_+_, _-_, _*_, _<_}
+use Prim.Native.Nat.{_-_, _*_}
 use lib.ListN.{length}
 use borrow.Author.Needs.{needs}
 use Rattle.model.specs.Yard.{Yard}
