@@ -7,7 +7,7 @@ ghost use Rattle.model.specs.Yard.{up, below, climbs, headOr};
 ghost use Rattle.yard.specs.Climb.{Marked};
 
 // The lowest node that does not climb to `root`, or the number of nodes if each does. Nodes that are known to reach the root end a climb, so
-// that all climbs together take at most two steps a node, and one that meets a circle at most n more.
+// that all climbs together take at most two steps a node, and one that meets a circle at most n more. Mostly the parent is known already.
 pub fn first_circle(parents: &[u8], root: usize) -> usize
     requires { ⌜ (length (now parents) ≤ 256) × (root < length (now parents)) × ((v : ℕ) → v < length (now parents) → up (now parents) v < length (now parents)) ⌝ }
     ensures { λ r. ⌜ r ≡ headOr (length (now (parents .entry))) (below (length (now (parents .entry))) (λ v. not (climbs (length (now (parents .entry))) (now (parents .entry)) v root))) ⌝ }
@@ -18,6 +18,11 @@ pub fn first_circle(parents: &[u8], root: usize) -> usize
     let mut found = n;
     let mut v = 0;
     'nodes: while v < n {
+        if known[parents[v] as usize] != 0 {
+            known[v] = 1;
+            v += 1;
+            continue 'nodes;
+        }
         let mut u = v;
         let mut steps = 0;
         while known[u] == 0 {

@@ -1,11 +1,11 @@
--- Each known node reaches the root, and so does each node before v; a climb from v that meets no known node in n steps never meets the
+-- Each known node reaches the root, and so does each node before v and one whose parent is known; a climb from v that meets no known node in n steps never meets the
 -- root, so v is the lowest such node, and one that ends at a known node shows that all its nodes reach the root.
 use borrow.Author.Needs.{needs}
 use borrow.Author.Count.{below-more}
 use native.Mathlib.Omega.{arith}
 use native.Mathlib.Numerals.{add-one}
 use Prim.Native.Nat.{ℕ, _≤_, _<_, _-_, _+_}
-use mathlib.Core.Path.{_≡_, refl, sym, ap, _∙_}
+use mathlib.Core.Path.{_≡_, refl, sym, ap, _∙_, subst}
 use mathlib.Core.Bool.{true, not}
 use mathlib.Core.List.{List}
 use mathlib.Core.Logic.{⊎-elim}
@@ -37,22 +37,29 @@ Inv-nodes parents root n known₀ found₀ v₀ known found v =
 abbrev μ-nodes : tie.MeasureT-nodes
 μ-nodes parents root n known₀ found₀ v₀ known found v = n - v
 
+-- the outer loop's head before an inner loop's, and the call that it belongs to
+abbrev outer : tie.At-loop Inv-loop μ-loop Inv-nodes μ-nodes → tie.At-nodes Inv-loop μ-loop Inv-nodes μ-nodes
+outer c = c .before .before .before .before
+
+abbrev call : tie.At-nodes Inv-loop μ-loop Inv-nodes μ-nodes → tie.Start Inv-loop μ-loop Inv-nodes μ-nodes
+call c = c .before .before
+
 -- node k of the climb under way
 abbrev node : tie.At-loop Inv-loop μ-loop Inv-nodes μ-nodes → ℕ → ℕ
-node c k = above k (c .before .before .before .before .args .parents .now) (c .before .before .nodes .v)
+node c k = above k (call (outer c) .args .parents .now) (outer c .nodes .v)
 
 -- its first steps + 1 nodes are not the root, if the last of them is not known
-unmet : (c : tie.In-loop Inv-loop μ-loop Inv-nodes μ-nodes) (j : ℕ) → j < c .before .loop .steps + 1 → node (c .before) j ≡ c .before .before .before .before .before .args .root → ⊥
+unmet : (c : tie.In-loop Inv-loop μ-loop Inv-nodes μ-nodes) (j : ℕ) → j < c .before .loop .steps + 1 → node (c .before) j ≡ call (outer (c .before)) .args .root → ⊥
 unmet c =
-    let known = c .before .before .before .nodes .known in
+    let known = outer (c .before) .nodes .known in
     below-more _ _ (c .before .loop .inv .4) (λ e. omega (arith, ap (λ (u : ℕ). getD known u 0) (sym (c .before .loop .inv .3) ∙ e)))
 
 -- they reach the root, if it is
 reached : (c : tie.After-loop Inv-loop μ-loop Inv-nodes μ-nodes) (k : ℕ) → k ≤ c .before .loop .steps
-    → Reaches (c .before .before .before .before .before .args .parents .now) (c .before .before .before .before .before .args .root) (node (c .before) k)
+    → Reaches (call (outer (c .before)) .args .parents .now) (call (outer (c .before)) .args .root) (node (c .before) k)
 reached c k l =
-    let start = c .before .before .before .before .before in
-    let nodes = c .before .before .before .nodes in
+    let start = call (outer (c .before)) in
+    let nodes = outer (c .before) .nodes in
     let loop = c .before .loop in
     above-reaches (start .args .parents .now) (start .pre .2) (start .args .root) (loop .steps) k (nodes .v) (omega arith) l (rw (loop .inv .3) (nodes .inv .3 (loop .u) (c .loop-test .left)))
 
@@ -69,6 +76,38 @@ nodes-holds c =
       λ w l. absurd (omega arith),
     )
 
+shared-slice-read-if1 : tie.Need-shared-slice-read-if1 Inv-loop μ-loop Inv-nodes μ-nodes
+shared-slice-read-if1 c = omega arith
+
+cast-if1 : tie.Need-cast-if1 Inv-loop μ-loop Inv-nodes μ-nodes
+cast-if1 c = omega (arith, c .shared-slice-known2 .given (c .before .before .nodes .v))
+
+array-read-if1 : tie.Need-array-read-if1 Inv-loop μ-loop Inv-nodes μ-nodes
+array-read-if1 c = omega (arith, call (c .before .before) .pre .2 (c .before .before .nodes .v) (omega arith))
+
+array-write-known-2 : tie.Need-array-write-known-2 Inv-loop μ-loop Inv-nodes μ-nodes
+array-write-known-2 c = omega arith
+
+add-v : tie.Need-add-v Inv-loop μ-loop Inv-nodes μ-nodes
+add-v c = omega arith
+
+nodes-less : tie.Need-nodes-less Inv-loop μ-loop Inv-nodes μ-nodes
+nodes-less c = omega arith
+
+nodes-again : tie.Need-nodes-again Inv-loop μ-loop Inv-nodes μ-nodes
+unfolding above
+nodes-again c =
+    let o = c .before .before .before in
+    let start = call o in
+    let nodes = o .nodes in
+    let here = above-reaches (start .args .parents .now) (start .pre .2) (start .args .root) 1 0 (nodes .v) (omega arith) (omega arith) (nodes .inv .3 _ (c .if1 .taken)) in (
+      omega arith,
+      nodes .inv .1,
+      ⊎-elim (λ e. e ∙ nodes .inv .2) (λ e. e .0) (set-either (nodes .known) (nodes .v) (start .args .root) 1),
+      λ w h. ⊎-elim (λ e. nodes .inv .3 w (λ z. h (e ∙ z))) (λ e. subst (Reaches (start .args .parents .now) (start .args .root)) (e .1) here) (set-either (nodes .known) (nodes .v) w 1),
+      below-more _ _ (nodes .inv .4) here,
+    )
+
 loop-holds : tie.Need-loop-holds Inv-loop μ-loop Inv-nodes μ-nodes
 unfolding above
 loop-holds c = (refl, omega arith, omega arith, refl, λ j l. absurd (omega arith))
@@ -80,7 +119,7 @@ shared-slice-read-u : tie.Need-shared-slice-read-u Inv-loop μ-loop Inv-nodes μ
 shared-slice-read-u c = omega arith
 
 cast-u : tie.Need-cast-u Inv-loop μ-loop Inv-nodes μ-nodes
-cast-u c = omega (arith, c .shared-slice-known2 .given (c .before .before .before .loop .u))
+cast-u c = omega (arith, c .shared-slice-known3 .given (c .before .before .before .loop .u))
 
 add-steps : tie.Need-add-steps Inv-loop μ-loop Inv-nodes μ-nodes
 add-steps c = omega arith
@@ -90,8 +129,8 @@ loop-less c = omega arith
 
 loop-again : tie.Need-loop-again Inv-loop μ-loop Inv-nodes μ-nodes
 loop-again c =
-    let start = c .before .before .before .before .before .before .before in
-    let nodes = c .before .before .before .before .before .nodes in
+    let start = call (outer (c .before .before .before)) in
+    let nodes = outer (c .before .before .before) .nodes in
     let loop = c .before .before .before .loop in
     let ps = start .args .parents .now in (
       loop .inv .0,
@@ -104,16 +143,16 @@ loop-again c =
 mark-requires : tie.Need-mark-requires Inv-loop μ-loop Inv-nodes μ-nodes
 mark-requires c κs = search needs
 
-add-v : tie.Need-add-v Inv-loop μ-loop Inv-nodes μ-nodes
-add-v c = omega arith
+add-v-2 : tie.Need-add-v-2 Inv-loop μ-loop Inv-nodes μ-nodes
+add-v-2 c = omega arith
 
-nodes-less : tie.Need-nodes-less Inv-loop μ-loop Inv-nodes μ-nodes
-nodes-less c = omega arith
+nodes-less-2 : tie.Need-nodes-less-2 Inv-loop μ-loop Inv-nodes μ-nodes
+nodes-less-2 c = omega arith
 
-nodes-again : tie.Need-nodes-again Inv-loop μ-loop Inv-nodes μ-nodes
+nodes-again-2 : tie.Need-nodes-again-2 Inv-loop μ-loop Inv-nodes μ-nodes
 unfolding above
-nodes-again c =
-    let nodes = c .before .before .before .before .before .nodes in (
+nodes-again-2 c =
+    let nodes = outer (c .before .before .before) .nodes in (
       omega arith,
       c .before .before .before .loop .inv .0 ∙ nodes .inv .1,
       ⊎-elim (λ e. e ∙ nodes .inv .2) (λ e. e .0) (c .mark .ensures _),
@@ -128,9 +167,9 @@ returns c =
 
 returns-2 : tie.Need-returns-2 Inv-loop μ-loop Inv-nodes μ-nodes
 returns-2 c =
-    let ps = c .before .before .before .before .before .before .args .parents .now in
-    let root = c .before .before .before .before .before .before .args .root in
-    let nodes = c .before .before .before .before .nodes in
+    let ps = call (outer (c .before .before)) .args .parents .now in
+    let root = call (outer (c .before .before)) .args .root in
+    let nodes = outer (c .before .before) .nodes in
     let past = climbs-past (length ps) ps (nodes .v) root (λ j l. unmet (c .before) j (omega arith)) in
     omega (arith, found (length ps) (length ps) (nodes .v) (λ v. not (climbs (length ps) ps v root)) (omega arith) (λ w l. ap not (nodes .inv .4 w l)) (ap not past))
 
@@ -144,6 +183,13 @@ first-circle-spec =
     μ-nodes
     array-write-known
     nodes-holds
+    shared-slice-read-if1
+    cast-if1
+    array-read-if1
+    array-write-known-2
+    add-v
+    nodes-less
+    nodes-again
     loop-holds
     array-read-loop
     shared-slice-read-u
@@ -152,8 +198,8 @@ first-circle-spec =
     loop-less
     loop-again
     mark-requires
-    add-v
-    nodes-less
-    nodes-again
+    add-v-2
+    nodes-less-2
+    nodes-again-2
     returns
     returns-2)
