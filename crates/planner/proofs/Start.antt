@@ -11,10 +11,11 @@ use lib.Seq.{getD-set-same, getD-set-other, getD-take, length-take-le}
 use lib.Dec.{leb, eqb, leb·zero}
 use lib.IntN.{ℤ, pos, natAbs, subℕ}
 use borrow.Author.Tests.{le-ltb, lt-leb, eq-eqb, ne-eqb}
+use mathlib.Core.Option.{none}
 use Rattle.model.specs.Yard.{Yard, yardOf, size, sum, below, headOr, root, demand, imbalance, shortest, Matched}
 use Rattle.model.specs.Judge.{row, Tree}
 use Rattle.model.specs.Plan.{plan}
-use Rattle.model.specs.Calls.{answered, refused, range, planFault, planAnswer, planList}
+use Rattle.model.specs.Calls.{refused, range, bytes, overwrite, planFault, planAnswer, planList}
 use Rattle.model.proofs.Found.{found}
 use Rattle.model.proofs.Sums.{sum-cong}
 use Rattle.model.proofs.Trees.{Wood}
@@ -119,8 +120,10 @@ module _ (y : Yard) (t : Tree y) (m : Matched y) (list : List ℕ) (l : ℕ) (e 
       high = weight-le (y .parents) (root y);
     })
 
-    pub plan-answered : (r : ℕ) → r ≡ root y → (s : List ℤ) (after : List ℕ) (count : ℕ) → Balanced y r s list after count → (answered count ≡ planAnswer y list) × (after ≡ planList y list)
-    plan-answered r q s after count b =
+    pub plan-accepted : planFault y (length list) ≡ none
+    plan-accepted = plan-none y (length list) .1 (t, m, omega (arith, room, plan-length y t m))
+
+    pub plan-written : (r : ℕ) → r ≡ root y → (s : List ℤ) (after : List ℕ) (count : ℕ) → Balanced y r s list after count → (count ≡ length (plan y)) × (after ≡ overwrite (bytes (plan y)) list)
+    plan-written r q s after count b =
         let p : b .moves ≡ plan y = plan-only y t m (b .moves) (rw q at (b .balances)) in
-        let f = plan-none y (length list) .1 (t, m, omega (arith, room, plan-length y t m)) in
-        rw (f, ← p) (rw (b .made .counted), b .made .written)
+        rw (← p) (b .made .counted, b .made .written)

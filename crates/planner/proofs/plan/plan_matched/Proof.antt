@@ -1,10 +1,12 @@
 -- `planner::plan::plan_matched` meets its contract: the sizes of the demands are the shortest length, which is the plan's; and balancing the root
 -- gives the plan (the laws are in Start).
-use mathlib.Core.Path.{sym, _∙_}
+use mathlib.Core.Path.{refl, sym, _∙_}
+use Prim.Native.Nat.{_/_, _≤_}
 use native.Mathlib.Omega.{arith}
+use lib.ListN.{length}
 use Rattle.model.specs.Yard.{yardOf}
 use Rattle.model.proofs.Judged.{facts, wood}
-use Rattle.planner.proofs.Start.{front-length, front-long, sizes-range, sizes-shortest, root-found, plan-refused, root-asked, plan-answered}
+use Rattle.planner.proofs.Start.{front-length, front-long, sizes-range, sizes-shortest, root-found, plan-refused, root-asked, plan-accepted, plan-written}
 use borrow.Author.Needs.{needs}
 use Rattle.planner.proofs.plan.plan_matched.Statement.{statement}
 use Rattle.planner.proofs.plan.plan_matched.Tie as tie
@@ -32,7 +34,7 @@ returns c =
     let z = c .before in
     let w = z .before .before .before in
     let p = w .before .before .before .before .before .before .pre in
-    plan-refused _ (p .0) (p .1) _ _ (z .sizes .ensures ∙ sizes-shortest _ (p .0) _ (w .write-state .ensures)) (c .if1 .taken)
+    plan-refused _ (p .0) (p .1) _ _ (z .sizes .ensures ∙ sizes-shortest _ (p .0) _ (w .write-state .ensures)) (omega (arith, c .if1 .taken))
 
 tables-requires : tie.Need-tables-requires
 tables-requires c κs =
@@ -51,8 +53,8 @@ balance-subtrees-requires c κs =
     let s = w .before .before .before .before .before .before in
     let y = yardOf (s .args .parents .now) (s .args .pebbles .now) (s .args .targets .now) in (
       y,
-      root-asked y (s .pre .0) (s .pre .1) _ _ (z .sizes .ensures ∙ sizes-shortest y (s .pre .0) _ (w .write-state .ensures)) (b .before .if1 .left)
-          _ _ (b .tables .ensures) (w .write-state .ensures) _ (root-found y (s .pre .0) _ (f .first-own .ensures)),
+      root-asked y (s .pre .0) (s .pre .1) _ _ (z .sizes .ensures ∙ sizes-shortest y (s .pre .0) _ (w .write-state .ensures)) (omega (arith, b .before .if1 .left))
+          _ _ (b .tables .ensures) (w .write-state .ensures) _ (omega (arith, root-found y (s .pre .0) _ (f .first-own .ensures))),
     )
 
 same-length : tie.Need-same-length
@@ -68,8 +70,10 @@ returns-2 c =
     let s = w .before .before .before .before .before .before in
     let y = yardOf (s .args .parents .now) (s .args .pebbles .now) (s .args .targets .now) in
     let l = z .sizes .ensures ∙ sizes-shortest y (s .pre .0) _ (w .write-state .ensures) in
+    let h : z .sizes .result ≤ length (s .args .plan .now) / 2 = omega (arith, b .before .if1 .left) in
     let r = root-found y (s .pre .0) _ (f .first-own .ensures) in
-    plan-answered y (s .pre .0) (s .pre .1) _ _ l (b .before .if1 .left) _ r _ _ _ (a .balance-subtrees .ensures y (root-asked y (s .pre .0) (s .pre .1) _ _ l (b .before .if1 .left) _ _ (b .tables .ensures) (w .write-state .ensures) _ r))
+    let p = plan-written y (s .pre .0) (s .pre .1) _ _ l h _ (omega (arith, r)) _ _ _ (a .balance-subtrees .ensures y (root-asked y (s .pre .0) (s .pre .1) _ _ l h _ _ (b .tables .ensures) (w .write-state .ensures) _ (omega (arith, r)))) in
+    rw (plan-accepted y (s .pre .0) (s .pre .1) _ _ l h, ← (p .0)) (refl, p .1)
 
 pub plan-matched-spec : {M : Type 1} → statement M
 plan-matched-spec =
