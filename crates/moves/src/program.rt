@@ -43,7 +43,7 @@ fn put_plan(parents: &[u8], pebbles: &[u8], targets: &[u8], out: &mut [u8]) -> u
 }
 
 // What is printed for an input, at the front of a list; answers how many bytes.
-pub fn program(input: &[u8], out: &mut [u8; 131080]) -> usize
+pub fn program(input: &[u8], out: &mut [u8; OUTPUT_BYTES]) -> usize
     ensures { λ n. ⌜ Printed (Sheets.program (now (input .entry))) n (now (out .exit)) ⌝ }
 {
     let mut parents = [0u8; 256];
