@@ -10,10 +10,10 @@ ghost use Rattle.model.specs.Paper.{paperDone, paperTried};
 use crate::obey::copy;
 use crate::obey::obey_copy;
 use crate::obey::whole_plan;
+use judge::test::test_yard;
 use model::Done;
 use model::Refusal;
 use model::Tried;
-use yard::test::test_yard;
 
 // The smaller of two numbers.
 fn smaller(a: usize, b: usize) -> usize

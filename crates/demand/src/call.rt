@@ -8,10 +8,10 @@ ghost use Rattle.model.specs.Calls.{demandsFault, demandsList, figureFault, bou
 ghost use Rattle.model.specs.Paper.{paperDone, paperCounted};
 use crate::fill::fill;
 use crate::signed::sizes;
+use judge::test::test_yard;
 use model::Counted;
 use model::Done;
 use model::Refusal;
-use yard::test::test_yard;
 
 // The account call: the demands of all nodes into a list of exactly one entry a node. Refusals 1 to 6, then 2 for a list of another length;
 // unequal totals are no fault. Linear work.

@@ -1,7 +1,6 @@
 // i16 demands: the difference of two marks, a sum, a size, each exact from −256 to 256.
 ghost use mathlib.Core.Path.{_≡_};
 ghost use Prim.Native.Nat.{ℕ, _+_, _<_, _≤_};
-ghost use mathlib.Core.List.{map};
 ghost use lib.ListN.{length, getD};
 ghost use lib.IntN.{ℤ, pos, natAbs, subℕ, _+ℤ_};
 ghost use Rattle.model.specs.Yard.{sum, maxSize};

@@ -17,17 +17,17 @@ use checker::trial::trial;
 use demand::call::demands;
 use demand::call::displaced;
 use demand::call::length_bound;
+use judge::test::test_yard;
 use model::Checked;
 use model::Counted;
 use model::Done;
 use model::Refusal;
 use model::Tried;
-use sheet::reader::read_sheet;
+use reader::read::read_sheet;
 use sheet::writer::write_sheet;
 use yard::refusal::number;
 use yard::refusal::place;
 use yard::state::push_lists;
-use yard::test::test_yard;
 
 // A refusal as one number.
 fn refused(r: Refusal) -> u32

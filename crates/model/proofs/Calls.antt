@@ -1,5 +1,5 @@
 -- Laws of answers, of plans as bytes, and of the tests that several calls share.
-use mathlib.Core.Path.{_≡_, refl, ap}
+use mathlib.Core.Path.{_≡_, refl, sym, ap, _∙_}
 use mathlib.Core.Logic.{_≢_, _↔_}
 use mathlib.Core.Bool.{Bool, true, false, not, _&&_}
 use mathlib.Core.List.{List, [], _∷_}
@@ -15,7 +15,13 @@ use Rattle.model.specs.Judge.{Fault, row, fault, firstOf, unless, atLowe
 use Rattle.model.specs.Push.{Move, adjacent, moveTests, moveFault, pushed}
 use Rattle.model.specs.Plan.{plan}
 use Rattle.model.specs.Calls.{answered, refused, answer, overwrite, totalsFault, bytes, movesOf, planTests, planFault, movesFault, checkTests, checkFault, figureTests, figureFault}
+use Rattle.model.specs.Paper.{paperDone}
+use Rattle.model.specs.declared.Done.{Done}
 use Rattle.model.proofs.Basics.{All, none-all, all-none, unless-none, first-refused}
+
+-- what a function's answer says, where it is known
+pub sees : {d e : Done} {f : Option Fault} → paperDone d ≡ f → d ≡ e → f ≡ paperDone e
+sees p q = sym p ∙ ap paperDone q
 
 -- answer
 pub answer-answered : {A : Type 0} (f : Option Fault) (a b : A) → answer f a ≡ answered b → (f ≡ none) × (a ≡ b)

@@ -16,7 +16,7 @@ use Rattle.model.specs.Yard.{Yard, size, maxSize, parent, pebble, target
 use Rattle.model.specs.Judge.{Fault, row, fault, firstOf, unless, atLowest, sizeFault, lengthFault, rootFault, tests, judge, Tree}
 use Rattle.model.specs.Push.{Move, adjacent, moveTests, moveFault, pushFault, pushed}
 use Rattle.model.specs.Plan.{plan}
-use Rattle.model.specs.Calls.{Answer, answered, refused, inC, zeroInC, answer, mapAnswer, demandsTests, demandsFault, totalsFault, planTests, planFault, maxPlanBytes, bytesFault, movesOf, movesFault, Verdict, checkTests, checkFault, checkAnswer, within, trialTests, trialFault, trialAnswer, trialInC, figureTests, figureFault, boundAnswer, displacedAnswer}
+use Rattle.model.specs.Calls.{Answer, answered, refused, inC, answer, mapAnswer, demandsTests, demandsFault, totalsFault, planTests, planFault, maxPlanBytes, bytesFault, movesOf, movesFault, Verdict, checkTests, checkFault, checkAnswer, within, trialTests, trialFault, trialAnswer, trialInC, figureTests, figureFault, boundAnswer, displacedAnswer}
 use Rattle.model.specs.Sheets.{maxSheetBytes, yardSheet, readYard, reader, readAnswer, writeTests, writeFault, writeAnswer}
 use Rattle.model.proofs.Basics.{All, all-below, none-all, unless-none}
 use Rattle.model.proofs.Sums.{sum-mono, sum-le}

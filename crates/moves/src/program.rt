@@ -11,9 +11,9 @@ ghost use Rattle.moves.specs.Printed.{Printed};
 use model::Counted;
 use model::Refusal;
 use planner::plan::plan;
+use reader::read::read_sheet;
 use sheet::output::put_moves;
 use sheet::output::put_refusal;
-use sheet::reader::read_sheet;
 use yard::refusal::number;
 use yard::refusal::place;
 

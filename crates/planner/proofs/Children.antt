@@ -12,8 +12,8 @@ use Rattle.model.proofs.Demands.{weight, weight-child}
 use Rattle.model.proofs.Runs.{after-append}
 use Rattle.model.proofs.Shortest.{keeps}
 use Rattle.model.proofs.Balance.{Even, Balances, none, next, settles-good, balances-good}
-use Rattle.planner.specs.Kept.{AskedEven, Settled, Balanced}
-use Rattle.planner.proofs.Made.{rest, back, Begun, go-on, ended, ready-after, room-left}
+use Rattle.planner.specs.Balancing.{AskedEven, Settled, Balanced}
+use Rattle.serve.proofs.Made.{rest, back, Begun, go-on, ended, ready-after, room-left}
 
 -- one child, and then those behind it
 one-more : {y : Yard} {c : ℕ} {cs : List ℕ} {ms ns : List Move} → Balances y (c ∷ []) ms → Balances (run y ms) cs ns → Balances y (c ∷ cs) (ms ++ ns)

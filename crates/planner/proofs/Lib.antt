@@ -1,11 +1,4 @@
--- Laws about the planner's tables and state, beside the functions' proofs.
-pub mod Links
-pub mod Numbers
-pub mod Siblings
-pub mod Looking
-pub mod Moving
-pub mod Serving
-pub mod Made
+-- Laws about balancing and the state that it starts from, beside the functions' proofs.
 pub mod Settle
 pub mod Children
 pub mod Start

@@ -25,11 +25,12 @@ use Rattle.model.proofs.Shortest.{Good, keeps}
 use Rattle.model.proofs.Choice.{all-needy, none-needy}
 use Rattle.model.proofs.Serve.{Due, Serves, serves-shift}
 use Rattle.model.proofs.Balance.{Settles, settled, turned, turn-due, first-needy}
-use Rattle.planner.specs.Kept.{Ready, Start, at-child, Made, Asked, Begins, AskedMoves, AskedEven, Settled}
-use Rattle.planner.proofs.Serving.{mark-is}
-use Rattle.planner.proofs.Looking.{look-none, start-first, chosen, start-after}
-use Rattle.planner.proofs.Moving.{made-nil}
-use Rattle.planner.proofs.Made.{rest, back, ready-after, room-left, Begun, begin, go-on}
+use Rattle.serve.specs.Kept.{Ready, Start, at-child, Made, Asked, Begins, AskedMoves}
+use Rattle.planner.specs.Balancing.{AskedEven, Settled}
+use Rattle.serve.proofs.Serving.{mark-is}
+use Rattle.serve.proofs.Looking.{look-none, start-first, chosen, start-after}
+use Rattle.serve.proofs.Moving.{made-nil}
+use Rattle.serve.proofs.Made.{rest, back, ready-after, room-left, Begun, begin, go-on}
 
 -- whether u holds a pebble, as the code reads it
 abbrev pub marked : List ℤ → ℕ → Bool

@@ -26,7 +26,8 @@ use Rattle.model.proofs.Balance.{plan-only}
 use Rattle.model.proofs.Calls.{totals-none, plan-none}
 use Rattle.model.proofs.Demand3.{plan-length}
 use Rattle.demand.proofs.Lists.{length-listed, entry-listed}
-use Rattle.planner.specs.Kept.{Tables, Kept, AskedEven, Balanced}
+use Rattle.serve.specs.Kept.{Tables, Kept}
+use Rattle.planner.specs.Balancing.{AskedEven, Balanced}
 
 -- placing the pebbles of the nodes below v, 256 entries behind the demands
 pub record Placed (pebbles : List ℕ) (s₀ s : List ℤ) (v : ℕ) : Type 0 where

@@ -1,3 +1,3 @@
 -- What the planner promises, and what its helpers promise one another.
-pub mod Kept
+pub mod Balancing
 pub mod Promise

@@ -2,12 +2,13 @@
 ghost use mathlib.Core.Path.{_≡_};
 ghost use mathlib.Core.Bool.{cond};
 ghost use Rattle.model.specs.Yard.{Yard};
-ghost use Rattle.planner.specs.Kept.{Asked, Begins, AskedEven, Settled, Balanced};
-use crate::choose::choose_from;
-use crate::choose::wide;
-use crate::serve::extract_pebble;
-use crate::serve::inject_pebble;
-use crate::serve::move_pebbles;
+ghost use Rattle.serve.specs.Kept.{Asked, Begins};
+ghost use Rattle.planner.specs.Balancing.{AskedEven, Settled, Balanced};
+use serve::choose::choose_from;
+use serve::choose::wide;
+use serve::pebble::extract_pebble;
+use serve::pebble::inject_pebble;
+use serve::pebble::move_pebbles;
 
 // Where a turn of the loop begins, which fills the child c or draws from it.
 fn turn_start(t: &[u8; 768], s: &[i16; 512], c: usize, away: bool, height: usize) -> usize

@@ -1,7 +1,4 @@
-// The planner: Algorithms 1 to 4 of the source, on tables of children and demands kept beside the pebbles.
+// The planner: Algorithm 1 of the source over Algorithms 2 to 4, and the call.
 pub mod balance;
-pub mod choose;
 pub mod plan;
-pub mod serve;
 pub mod state;
-pub mod tree;

@@ -7,13 +7,13 @@ ghost use Rattle.model.specs.Paper.{paperCounted};
 ghost use Rattle.planner.specs.Promise.{Promised};
 use crate::balance::balance_subtrees;
 use crate::state::write_state;
-use crate::tree::tables;
 use demand::call::test_matched;
 use demand::signed::sizes;
+use judge::scan::first_own;
 use model::Counted;
 use model::Done;
 use model::Refusal;
-use yard::scan::first_own;
+use serve::tree::tables;
 
 // The plan of a tree with as many pebbles as targets. Its length is worked out from the demands before anything is written: refusal 8 with it as
 // place if the list is shorter.

@@ -3,7 +3,7 @@ ghost use mathlib.Core.Path.{_≡_};
 ghost use lib.ListN.{length};
 ghost use Rattle.model.specs.Yard.{yardOf};
 ghost use Rattle.model.specs.Judge.{Tree};
-ghost use Rattle.planner.specs.Kept.{Kept};
+ghost use Rattle.serve.specs.Kept.{Kept};
 use demand::fill::fill;
 use demand::signed::difference;
 

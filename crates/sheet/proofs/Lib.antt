@@ -4,6 +4,3 @@ pub mod Writing
 pub mod Rows
 pub mod WriteCall
 pub mod Moves
-pub mod Fields
-pub mod ReadLines
-pub mod ReadCall

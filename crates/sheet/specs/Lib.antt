@@ -1,3 +1,2 @@
 -- Definitions that the contracts of this crate's helpers cite.
 pub mod Written
-pub mod Reading

@@ -1,5 +1,4 @@
-// Yard sheets and what the move program prints: bytes read and written.
+// Yard sheets, move sheets and refusals written as bytes.
 pub mod decimal;
 pub mod output;
-pub mod reader;
 pub mod writer;

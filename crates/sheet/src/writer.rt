@@ -10,10 +10,10 @@ ghost use Rattle.sheet.specs.Written.{Written};
 use crate::decimal::put_text;
 use crate::decimal::put_value;
 use crate::decimal::width;
+use judge::test::test_lengths;
 use model::Counted;
 use model::Done;
 use model::Refusal;
-use yard::test::test_lengths;
 
 // The bytes of the header.
 pub const HEADER_BYTES: usize = 24;

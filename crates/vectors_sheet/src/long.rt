@@ -1,5 +1,5 @@
 // Large yards: written, read back, and a sheet with a line too many. Lists are told by their digests.
-use sheet::reader::read_sheet;
+use reader::read::read_sheet;
 use sheet::writer::write_sheet;
 use vectors::fill::count_up;
 use vectors::print::counted;

@@ -1,5 +1,5 @@
 // The reader on small sheets. After the answer come the first four entries of each list, which held 7 before.
-use sheet::reader::read_sheet;
+use reader::read::read_sheet;
 use vectors::print::counted;
 use vectors::print::end;
 use vectors::print::label;

@@ -1,8 +1,8 @@
 // The test of three lists: parents, pebbles, targets.
+use judge::test::test_yard;
 use vectors::print::done;
 use vectors::print::end;
 use vectors::print::label;
-use yard::test::test_yard;
 
 pub fn test(name: &[u8], parents: &[u8], pebbles: &[u8], targets: &[u8]) {
     label(name);

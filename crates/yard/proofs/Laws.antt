@@ -1,5 +1,5 @@
--- What an answer says; lists continued by zeros; and a push of the first entries of an array, said of the whole array.
-use mathlib.Core.Path.{_≡_, refl, sym, ap, _∙_}
+-- Lists continued by zeros; and a push of the first entries of an array, said of the whole array.
+use mathlib.Core.Path.{_≡_, refl, sym, ap}
 use mathlib.Core.Bool.{Bool, true, false, not, cond, _&&_}
 use mathlib.Core.List.{List, [], _∷_, _++_}
 use mathlib.Core.Option.{Option, none, some}
@@ -14,17 +14,11 @@ use borrow.Author.Tests.{lt-ltb, lt-leb, eq-eqb}
 use Rattle.model.specs.Yard.{Yard, yardOf, size, maxSize, parent, pebble, target, capacity, below, roots, root, climbs}
 use Rattle.model.specs.Judge.{Fault, fault, rootFault, tests, judge}
 use Rattle.model.specs.Push.{Move, moveTests, moveFault, pushFault, isNone, legal, shifted}
-use Rattle.model.specs.Paper.{paperDone}
-use Rattle.model.specs.declared.Done.{Done}
 use Rattle.model.proofs.Basics.{first-join}
 use Rattle.model.proofs.Step.{step, ends}
 use Rattle.model.proofs.Calls.{Other, other-none, other-fault, other-unless, other-lowest, other-first}
 use Rattle.yard.specs.State.{padded, yardIn, stateAfter}
 use Rattle.yard.specs.declared.state.Yard.{Yard as State}
-
--- what a function's answer says, where it is known
-pub sees : {d e : Done} {f : Option Fault} → paperDone d ≡ f → d ≡ e → f ≡ paperDone e
-sees p q = sym p ∙ ap paperDone q
 
 -- what a refused step answers and leaves, and an accepted one
 pub refuses : {f : Option Fault} {r : Fault} (kept changed : List ℕ) → f ≡ some r → (some r ≡ f) × (kept ≡ cond (isNone f) changed kept)
@@ -48,11 +42,11 @@ pub padded-room : (n : ℕ) (list : List ℕ) → length list ≤ n → padded n
 unfolding padded
 padded-room n list h = room list n n h (omega arith)
 
-pub padded-cut : (n : ℕ) (list : List ℕ) → n ≤ length list → padded n list ≡ take n list
+padded-cut : (n : ℕ) (list : List ℕ) → n ≤ length list → padded n list ≡ take n list
 unfolding padded
 padded-cut n list h = take-append-le n list (replicate n 0) h
 
-pub length-padded : (n : ℕ) (list : List ℕ) → length (padded n list) ≡ n
+length-padded : (n : ℕ) (list : List ℕ) → length (padded n list) ≡ n
 unfolding padded
 length-padded n list = simp (length-take, length-append, length-replicate) (omega arith)
 

@@ -1,3 +1,2 @@
--- Definitions that speak of this crate's own types and helpers.
-pub mod Climb
+-- Definitions that speak of the yard state.
 pub mod State

@@ -11,7 +11,7 @@ ghost use Rattle.model.specs.Paper.{paperDone};
 ghost use Rattle.yard.specs.State as State;
 ghost use Rattle.yard.specs.State.{yardIn, stateOf, stateAfter};
 use crate::step::step;
-use crate::test::test_yard;
+use judge::test::test_yard;
 use model::Done;
 use model::Refusal;
 

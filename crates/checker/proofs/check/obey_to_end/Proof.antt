@@ -15,7 +15,7 @@ use Rattle.model.specs.Paper.{paperDone}
 use Rattle.model.proofs.Found.{lowest-fault, lowest-none}
 use Rattle.model.proofs.Judged.{facts}
 use Rattle.model.proofs.Runs.{obeys, run-tree}
-use Rattle.yard.proofs.Laws.{sees}
+use Rattle.model.proofs.Calls.{sees}
 use Rattle.checker.proofs.Laws.{front-all, front-zeros, Back, came-back}
 use Rattle.checker.proofs.check.obey_to_end.Statement.{statement}
 use Rattle.checker.proofs.check.obey_to_end.Tie as tie

@@ -10,7 +10,7 @@ use Rattle.model.specs.Yard.{yardOf}
 use Rattle.model.specs.Push.{push}
 use Rattle.model.specs.Calls.{movesOf}
 use Rattle.model.proofs.Judged.{facts}
-use Rattle.yard.proofs.Laws.{sees}
+use Rattle.model.proofs.Calls.{sees}
 use Rattle.checker.proofs.Laws.{front-length, front-next, Left, some-not, left-none, left-refused, left-next}
 use Rattle.checker.proofs.obey.obey.Statement.{statement}
 use Rattle.checker.proofs.obey.obey.Tie as tie

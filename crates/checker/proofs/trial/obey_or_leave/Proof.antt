@@ -5,7 +5,7 @@ use lib.ListN.{length}
 use borrow.Author.Needs.{needs}
 use Rattle.model.specs.Paper.{paperDone}
 use Rattle.model.proofs.Judged.{facts}
-use Rattle.yard.proofs.Laws.{sees}
+use Rattle.model.proofs.Calls.{sees}
 use Rattle.checker.proofs.Laws.{front-zeros, Back, came-back}
 use Rattle.checker.proofs.trial.obey_or_leave.Statement.{statement}
 use Rattle.checker.proofs.trial.obey_or_leave.Tie as tie

@@ -8,7 +8,7 @@ use Rattle.model.specs.Yard.{Yard, yardOf, pebble, target, sum}
 use Rattle.model.specs.Judge.{Tree}
 use Rattle.model.specs.Calls.{answered, figureFault}
 use Rattle.model.proofs.Judged.{facts}
-use Rattle.yard.proofs.Laws.{sees}
+use Rattle.model.proofs.Calls.{sees}
 use Rattle.demand.proofs.Answers.{figure-tree}
 use Rattle.demand.proofs.call.displaced.Statement.{statement}
 use Rattle.demand.proofs.call.displaced.Tie as tie

@@ -9,7 +9,7 @@ use Rattle.model.specs.Yard.{Yard, yardOf, size, pebble, sum, pebbleCount}
 use Rattle.model.specs.Judge.{Tree}
 use Rattle.model.specs.Calls.{answered, figureFault}
 use Rattle.model.proofs.Judged.{facts}
-use Rattle.yard.proofs.Laws.{sees}
+use Rattle.model.proofs.Calls.{sees}
 use Rattle.model.proofs.Places.{bound-small}
 use Rattle.demand.proofs.Answers.{figure-tree}
 use Rattle.demand.proofs.call.length_bound.Statement.{statement}

@@ -10,10 +10,10 @@ use borrow.Fn.PlainCycle.{Measures, is, falls, and}
 use Rattle.model.specs.Yard.{Yard}
 use Rattle.model.specs.Push.{run}
 use Rattle.model.proofs.Trees.{Child}
-use Rattle.planner.specs.Kept.{AskedEven}
-use Rattle.planner.proofs.Looking.{node-small, first-lt, next-lt}
-use Rattle.planner.proofs.Made.{rest, back, within}
-use Rattle.planner.proofs.Siblings.{above, first-none, first-some, next-none, next-some}
+use Rattle.planner.specs.Balancing.{AskedEven}
+use Rattle.serve.proofs.Looking.{node-small, first-lt, next-lt}
+use Rattle.serve.proofs.Made.{rest, back, within}
+use Rattle.serve.proofs.Siblings.{above, first-none, first-some, next-none, next-some}
 use Rattle.planner.proofs.Settle.{leaf-settled}
 use Rattle.planner.proofs.Children.{Left, left-none, Started, started, child-lower, child-asked, left-next}
 use Rattle.planner.proofs.balance.balance_subtrees.Reads as tree

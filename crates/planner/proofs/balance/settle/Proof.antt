@@ -7,9 +7,9 @@ use mathlib.Core.Path.{_≡_}
 use lib.ListN.{length}
 use Rattle.model.specs.Yard.{Yard}
 use Rattle.model.specs.Push.{run}
-use Rattle.planner.specs.Kept.{AskedEven}
-use Rattle.planner.proofs.Looking.{node-small}
-use Rattle.planner.proofs.Made.{rest, back, within, ended}
+use Rattle.planner.specs.Balancing.{AskedEven}
+use Rattle.serve.proofs.Looking.{node-small}
+use Rattle.serve.proofs.Made.{rest, back, within, ended}
 use Rattle.planner.proofs.Settle.{marked, marked-held, even-after, none-chosen, turn-asked, turn-moves, turn-good, turn-settles, start-for, starts-next, Turned, turn-none, turn-more}
 use Rattle.planner.proofs.balance.settle.Statement.{statement}
 use Rattle.planner.proofs.balance.settle.Tie as tie

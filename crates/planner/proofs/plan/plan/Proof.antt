@@ -1,7 +1,6 @@
 -- `planner::plan::plan` meets its contract: refused as a yard with no plan is, or planned; and what it answers and leaves keeps demand 3.
 use borrow.Author.Needs.{needs}
-use Rattle.model.proofs.Calls.{figure-matched}
-use Rattle.yard.proofs.Laws.{sees}
+use Rattle.model.proofs.Calls.{figure-matched, sees}
 use Rattle.planner.proofs.Promise.{kept, kept-refused}
 use Rattle.planner.proofs.plan.plan.Statement.{statement}
 use Rattle.planner.proofs.plan.plan.Tie as tie

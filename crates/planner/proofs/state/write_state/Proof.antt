@@ -10,7 +10,7 @@ use mir.Val.{toZ, ofZ}
 use lib.Seq.{length-take-le, length-front}
 use borrow.Author.Needs.{needs}
 use Rattle.model.proofs.Judged.{facts}
-use Rattle.planner.proofs.Numbers.{small-back}
+use Rattle.serve.proofs.Numbers.{small-back}
 use Rattle.planner.proofs.Start.{Placed, place-none, place-next, placed-kept, mark-difference}
 use Rattle.planner.proofs.state.write_state.Statement.{statement}
 use Rattle.planner.proofs.state.write_state.Tie as tie

@@ -9,7 +9,7 @@ use borrow.Author.Needs.{needs}
 use Rattle.model.specs.Yard.{Yard, yardOf, size, maxSize}
 use Rattle.model.specs.Judge.{firstOf, tests}
 use Rattle.model.proofs.Tests.{passed-lengths}
-use Rattle.yard.proofs.Laws.{sees}
+use Rattle.model.proofs.Calls.{sees}
 use Rattle.sheet.proofs.WriteCall.{write-lengths, write-short, write-whole}
 use Rattle.sheet.proofs.writer.write_sheet.Statement.{statement}
 use Rattle.sheet.proofs.writer.write_sheet.Tie as tie

@@ -3,7 +3,8 @@
 use borrow.Author.Needs.{needs}
 use Rattle.model.specs.Push.{legal}
 use Rattle.model.proofs.Judged.{facts}
-use Rattle.yard.proofs.Laws.{sees, refuses, push-refused, push-tree}
+use Rattle.model.proofs.Calls.{sees}
+use Rattle.yard.proofs.Laws.{refuses, push-refused, push-tree}
 use Rattle.yard.proofs.state.push_lists.Statement.{statement}
 use Rattle.yard.proofs.state.push_lists.Tie as tie
 

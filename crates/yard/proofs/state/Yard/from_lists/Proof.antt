@@ -6,7 +6,7 @@ use borrow.Author.Needs.{needs}
 use Rattle.model.specs.Yard.{yardOf}
 use Rattle.model.specs.Judge.{Tree}
 use Rattle.model.proofs.Judged.{facts}
-use Rattle.yard.proofs.Laws.{sees}
+use Rattle.model.proofs.Calls.{sees}
 use Rattle.yard.proofs.state.Yard.from_lists.Statement.{statement}
 use Rattle.yard.proofs.state.Yard.from_lists.Tie as tie
 

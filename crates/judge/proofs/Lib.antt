@@ -1,0 +1,3 @@
+-- Laws of marks and climbs.
+pub mod Lists
+pub mod Climb

@@ -1,0 +1,2 @@
+-- Definitions that speak of the climbs of this crate.
+pub mod Climb

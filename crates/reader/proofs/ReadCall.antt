@@ -1,0 +1,80 @@
+-- What a sheet says by its header and its length, and the reader's answer and the lists that it leaves, by what is found: a short list, a refusal,
+-- or the lists of a yard, copied to the front of the lent ones.
+use mathlib.Core.Path.{_≡_, sym, ap, _∙_}
+use mathlib.Core.Bool.{true, false}
+use mathlib.Core.List.{List, [], _∷_}
+use Prim.Native.Nat.{ℕ, _≤_, _<_}
+use native.Mathlib.Omega.{arith}
+use lib.ListN.{length, take, drop, getD, length-take, drop-of-length-le}
+use lib.Seq.{length-take-le}
+use borrow.Author.Tests.{le-leb, lt-leb}
+use Rattle.model.specs.Yard.{Yard, yardOf, maxSize}
+use Rattle.model.specs.Judge.{Fault, row}
+use Rattle.model.specs.Calls.{Answer, answered, refused}
+use Rattle.model.specs.Sheets.{text, header, same, readNodes, readYard, reader, readAnswer, filled}
+use Rattle.model.proofs.Lines.{same-true}
+use Rattle.model.proofs.Sheets.{reader-room}
+use Rattle.sheet.specs.Written.{Written}
+use Rattle.reader.specs.Reading.{Full}
+use Rattle.reader.proofs.Fields.{drop-next}
+use Rattle.sheet.proofs.Writing.{written-front}
+
+module _ (bs : List ℕ) where
+  pub other-header : same (take 24 bs) header ≡ false → refused (row 15 1) ≡ readYard bs
+  unfolding readYard header text
+  other-header e = sym (rw (e, readYard))
+
+  module _ (e : same (take 24 bs) header ≡ true) where
+    long : 24 ≤ length bs
+    unfolding header text
+    long = omega (arith, simp length-take at (ap length (same-true (take 24 bs) header e)))
+
+    pub no-line : length bs ≡ 24 → refused (row 1 2) ≡ readYard bs
+    unfolding readYard header text
+    no-line q =
+        let h : length bs ≤ 24 = omega arith in
+        let d : drop 24 bs ≡ [] = drop-of-length-le bs h in
+        sym (rw (e, readYard) (rw d))
+
+    pub some-line : (length bs ≡ 24 → ⊥) → readNodes maxSize 0 (drop 24 bs) ≡ readYard bs
+    unfolding readYard header text
+    some-line n =
+        let q : drop 24 bs ≡ getD bs 24 0 ∷ drop 25 bs = drop-next bs 24 (omega (arith, long)) in
+        sym (rw (e, readYard) (rw q))
+
+module _ (bs ps cs ts : List ℕ) where
+  abbrev Leaves : Answer ℕ → List ℕ → List ℕ → List ℕ → Type 0
+  Leaves a ps' cs' ts' =
+      (a ≡ readAnswer bs ps cs ts)
+      × ((ps' ≡ filled (λ (y : Yard). y .parents) (reader bs ps cs ts) ps)
+      × ((cs' ≡ filled (λ (y : Yard). y .pebbles) (reader bs ps cs ts) cs)
+      × (ts' ≡ filled (λ (y : Yard). y .targets) (reader bs ps cs ts) ts)))
+
+  refuses : {f : Fault} → reader bs ps cs ts ≡ refused f → Leaves (refused f) ps cs ts
+  refuses e = (rw e, (rw e, (rw e, rw e)))
+
+  pub short-parents : length ps < 256 → Leaves (refused (row 18 0)) ps cs ts
+  unfolding reader
+  short-parents h = refuses (rw (lt-leb 256 (length ps) h, reader))
+
+  module _ (p : 256 ≤ length ps) where
+    pub short-pebbles : length cs < 256 → Leaves (refused (row 18 0)) ps cs ts
+    unfolding reader
+    short-pebbles h = refuses (rw (le-leb 256 (length ps) p, lt-leb 256 (length cs) h, reader))
+
+    module _ (c : 256 ≤ length cs) where
+      pub short-targets : length ts < 256 → Leaves (refused (row 18 0)) ps cs ts
+      unfolding reader
+      short-targets h = refuses (rw (le-leb 256 (length ps) p, le-leb 256 (length cs) c, lt-leb 256 (length ts) h, reader))
+
+      module _ (t : 256 ≤ length ts) where
+        pub sheet-refused : {f : Fault} → readYard bs ≡ refused f → Leaves (refused f) ps cs ts
+        sheet-refused e = refuses (reader-room bs ps cs ts p c t ∙ e)
+
+        pub sheet-read : (n : ℕ) (us vs ws : List ℕ) {i j k : ℕ} {ps' cs' ts' : List ℕ} → n ≤ maxSize → Full us vs ws
+            → readYard bs ≡ answered (yardOf (take n us) (take n vs) (take n ws))
+            → Written (take n us) 0 ps i ps' → Written (take n vs) 0 cs j cs' → Written (take n ws) 0 ts k ts'
+            → Leaves (answered n) ps' cs' ts'
+        sheet-read n us vs ws l f e a b d =
+            let r = reader-room bs ps cs ts p c t ∙ e in
+            (rw (r, length-take-le n us (omega arith)), (rw r (written-front a .1), (rw r (written-front b .1), rw r (written-front d .1))))

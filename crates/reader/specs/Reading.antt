@@ -1,0 +1,40 @@
+-- What the reader's helpers answer, in the model's words.
+use mathlib.Core.Path.{_≡_}
+use mathlib.Core.Option.{Option, none, some}
+use mathlib.Core.List.{List, [], _∷_, _++_}
+use Prim.Native.Nat.{ℕ, _≤_, _<_}
+use lib.ListN.{length, take, drop}
+use Rattle.model.specs.Yard.{Yard, yardOf, maxSize}
+use Rattle.model.specs.Calls.{Answer, answered, refused}
+use Rattle.model.specs.Sheets.{decimal, Field, NodeLine}
+use Rattle.model.specs.Paper.{paper}
+use Rattle.model.specs.declared.Counted.{Counted}
+use Rattle.reader.specs.declared.read.Word.{Word}
+use Rattle.reader.specs.declared.read.Line.{Line}
+
+-- r is the value whose decimal is that of u with the byte b behind it; if it is above 255, no value's decimal begins so
+pub record Extended (u b r : ℕ) : Type 0 where
+  pub good : r < 256 → decimal r ≡ decimal u ++ (b ∷ [])
+  pub bad : 256 ≤ r → (v : ℕ) (w : List ℕ) → v < 256 → decimal v ≡ decimal u ++ (b ∷ w) → ⊥
+
+-- a word or a line found in a sheet, with the place behind it
+abbrev pub wordIn : List ℕ → Word → Option Field
+wordIn sheet (Word.Value v next) = some (record { value = v; rest = drop next sheet })
+wordIn sheet Word.Wrong = none
+
+abbrev pub lineIn : List ℕ → Line → Option NodeLine
+lineIn sheet (Line.Node v p c t next) = some (record { node = v; parent = p; pebble = c; target = t; rest = drop next sheet })
+lineIn sheet Line.Wrong = none
+
+-- three arrays of 256 entries
+abbrev pub Full : List ℕ → List ℕ → List ℕ → Type 0
+Full ps cs ts = (length ps ≡ maxSize) × (length cs ≡ maxSize) × (length ts ≡ maxSize)
+
+-- the yard in the first entries of three arrays, as many as are answered
+abbrev pub took : Counted → List ℕ → List ℕ → List ℕ → Answer Yard
+took (Counted.Number n) ps cs ts = answered (yardOf (take n ps) (take n cs) (take n ts))
+took (Counted.Refused r) ps cs ts = refused (paper r)
+
+abbrev pub counted : Counted → ℕ
+counted (Counted.Number n) = n
+counted (Counted.Refused r) = 0

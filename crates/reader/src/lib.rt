@@ -1,0 +1,2 @@
+// Yard sheets read: bytes into three lists.
+pub mod read;

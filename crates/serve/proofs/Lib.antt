@@ -1,0 +1,8 @@
+-- Laws about the planner's tables and state, beside the functions' proofs.
+pub mod Links
+pub mod Numbers
+pub mod Siblings
+pub mod Looking
+pub mod Moving
+pub mod Made
+pub mod Serving

@@ -1,0 +1,27 @@
+-- `planner::choose::choose` meets its contract: the scan may begin at the lowest child.
+use native.Mathlib.Omega.{arith}
+use borrow.Author.Needs.{needs}
+use Rattle.serve.proofs.Looking.{node-small, start-first}
+use Rattle.serve.proofs.choose.choose.Statement.{statement}
+use Rattle.serve.proofs.choose.choose.Tie as tie
+
+add-wide : tie.Need-add-wide
+add-wide c = omega (arith, node-small (c .pre .1) (c .pre .2))
+
+element-copy-out-wide : tie.Need-element-copy-out-wide
+element-copy-out-wide c = omega (arith, node-small (c .pre .1) (c .pre .2))
+
+wide-requires : tie.Need-wide-requires
+wide-requires c κs = search needs
+
+choose-from-requires : tie.Need-choose-from-requires
+choose-from-requires c κs =
+    let p = c .before .before .pre in
+    (p .0, p .1, p .2, start-first (p .0) _ _ _ _ (p .1) (p .2) (c .wide .ensures .0))
+
+returns : tie.Need-returns
+returns c y r l = c .choose-from .ensures y r l (start-first y _ _ _ _ r l (c .before .wide .ensures .0))
+
+pub choose-spec : {M : Type 1} → statement M
+choose-spec =
+    tie.close (tie.spec add-wide element-copy-out-wide wide-requires choose-from-requires returns)

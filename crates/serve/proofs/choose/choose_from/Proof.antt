@@ -1,0 +1,96 @@
+-- `planner::choose::choose_from` meets its contract: the scan goes through u's children in rising order, and leaves none behind that wants something
+-- (the laws are in Looking).
+use native.Mathlib.Omega.{arith}
+use borrow.Author.Needs.{needs}
+use Prim.Native.Nat.{_-_, _<_}
+use mathlib.Core.Path.{sym, ap, _∙_}
+use Rattle.model.specs.Yard.{Yard, size}
+use Rattle.serve.specs.Kept.{Ready, Looking, Start}
+use Rattle.serve.proofs.Looking.{sign, node-small, next-lt, demand-back, start-none, start-child, look-found, look-last, look-next}
+use Rattle.serve.proofs.choose.choose_from.Statement.{statement}
+use Rattle.serve.proofs.choose.choose_from.Tie as tie
+
+abbrev Inv-loop : tie.InvT-loop
+Inv-loop t s u start away c₀ c = (y : Yard) → Ready y t s → u < size y → Start away y t u start → Looking away y u c
+
+abbrev μ-loop : tie.MeasureT-loop
+μ-loop t s u start away c₀ c = 256 - c
+
+returns : tie.Need-returns Inv-loop μ-loop
+returns c y r l f = start-none y _ _ _ _ r l f (c .if1 .taken)
+
+loop-holds : tie.Need-loop-holds Inv-loop μ-loop
+loop-holds c y r l f = start-child f (c .if1 .left)
+
+mul-wanted : tie.Need-mul-wanted Inv-loop μ-loop
+mul-wanted c =
+    let p = c .before .before .pre in
+    omega (arith, node-small (p .1) (c .loop .inv (p .0) (p .1) (p .2) (p .3) .child .lt))
+
+element-copy-out-wanted : tie.Need-element-copy-out-wanted Inv-loop μ-loop
+element-copy-out-wanted c =
+    let p = c .before .before .pre in
+    omega (arith, node-small (p .1) (c .loop .inv (p .0) (p .1) (p .2) (p .3) .child .lt))
+
+wanted-requires : tie.Need-wanted-requires Inv-loop μ-loop
+wanted-requires c κs = search needs
+
+returns-2 : tie.Need-returns-2 Inv-loop μ-loop
+returns-2 c y r l f =
+    let h = c .before .before .before .loop .inv y r l f in
+    omega (arith, look-found y _ _ _ _ r l _ h (sym (c .before .wanted .ensures ∙ ap (sign (c .before .before .before .before .before .args .away)) (demand-back r (h .child .lt))) ∙ c .if2 .taken))
+
+add-next : tie.Need-add-next Inv-loop μ-loop
+add-next c =
+    let p = c .before .before .before .before .before .pre in
+    omega (arith, node-small (p .1) (c .before .before .before .loop .inv (p .0) (p .1) (p .2) (p .3) .child .lt))
+
+element-copy-out-next : tie.Need-element-copy-out-next Inv-loop μ-loop
+element-copy-out-next c =
+    let p = c .before .before .before .before .before .pre in
+    omega (arith, node-small (p .1) (c .before .before .before .loop .inv (p .0) (p .1) (p .2) (p .3) .child .lt))
+
+cast-next : tie.Need-cast-next Inv-loop μ-loop
+cast-next c =
+    let p = c .before .before .before .before .before .before .pre in
+    let k = c .before .before .before .before .loop .inv (p .0) (p .1) (p .2) (p .3) .child in
+    omega (arith, node-small (p .1) (next-lt (p .1) (k .lt) (λ e. k .other (sym e ∙ k .up))))
+
+returns-3 : tie.Need-returns-3 Inv-loop μ-loop
+returns-3 c y r l f =
+    let e = c .before .before in
+    let h = e .before .before .before .loop .inv y r l f in
+    look-last y _ _ _ _ r l _ h (sym (e .before .wanted .ensures ∙ ap (sign (e .before .before .before .before .before .args .away)) (demand-back r (h .child .lt))) ∙ e .if2 .left) (c .if3 .taken)
+
+loop-less : tie.Need-loop-less Inv-loop μ-loop
+loop-less c =
+    let e = c .before .before in
+    let p = e .before .before .before .before .before .pre in
+    let h = e .before .before .before .loop .inv (p .0) (p .1) (p .2) (p .3) in
+    let n = look-next (p .0) _ _ _ _ (p .1) (p .2) _ h (sym (e .before .wanted .ensures ∙ ap (sign (e .before .before .before .before .before .args .away)) (demand-back (p .1) (h .child .lt))) ∙ e .if2 .left) (c .if3 .left) in
+    omega (arith, n .1, node-small (p .1) (n .0 .child .lt))
+
+loop-again : tie.Need-loop-again Inv-loop μ-loop
+loop-again c y r l f =
+    let e = c .before .before in
+    let h = e .before .before .before .loop .inv y r l f in
+    look-next y _ _ _ _ r l _ h (sym (e .before .wanted .ensures ∙ ap (sign (e .before .before .before .before .before .args .away)) (demand-back r (h .child .lt))) ∙ e .if2 .left) (c .if3 .left) .0
+
+pub choose-from-spec : {M : Type 1} → statement M
+choose-from-spec =
+    tie.close
+    (tie.spec
+    Inv-loop
+    μ-loop
+    returns
+    loop-holds
+    mul-wanted
+    element-copy-out-wanted
+    wanted-requires
+    returns-2
+    add-next
+    element-copy-out-next
+    cast-next
+    returns-3
+    loop-less
+    loop-again)

@@ -1,0 +1,93 @@
+-- What the planner's tables and its state hold of a yard, and what its helpers ask and give. The yard itself is not at hand in the code: a helper
+-- asks that there is one, and says what it did for each.
+use mathlib.Core.Path.{_≡_}
+use mathlib.Core.Logic.{_≢_}
+use mathlib.Core.Bool.{Bool, true, false, _&&_}
+use mathlib.Core.List.{List}
+use Prim.Native.Nat.{ℕ, _+_, _*_, _≤_, _<_}
+use lib.ListN.{length, getD, set}
+use lib.Dec.{leb, ltb}
+use lib.IntN.{ℤ, pos}
+use Rattle.model.specs.Yard.{Yard, size, up, pebble, below, headOr, isChild, demand, shortest}
+use Rattle.model.specs.Judge.{Tree}
+use Rattle.model.specs.Push.{Move, run}
+use Rattle.model.specs.Plan.{choice}
+use Rattle.model.specs.Calls.{bytes, overwrite}
+use Rattle.model.proofs.Trees.{Child}
+use Rattle.model.proofs.Demands.{weight}
+use Rattle.model.proofs.Step.{crossing, need}
+use Rattle.model.proofs.Signed.{nextℤ}
+use Rattle.model.proofs.Serve.{Due, Serves, blocked}
+
+-- three tables of 256 entries in a row: a node's parent; its lowest child, or itself; the next child of its parent, or itself
+pub record Tables (ps t : List ℕ) : Type 0 where
+  pub parent : (v : ℕ) → v < length ps → getD t v 0 ≡ up ps v
+  pub first : (u : ℕ) → u < length ps → getD t (256 + u) 0 ≡ headOr u (below (length ps) (isChild ps u))
+  pub next : (c : ℕ) → c < length ps → (up ps c) ≢ c → getD t (512 + c) 0 ≡ headOr c (below (length ps) (λ v. (leb (c + 1) v) && (isChild ps (up ps c) v)))
+
+-- two tables of 256 entries in a row: a node's demand, and its pebbles
+pub record Kept (y : Yard) (s : List ℤ) : Type 0 where
+  pub long : length s ≡ 512
+  pub demands : (v : ℕ) → v < size y → getD s v (pos 0) ≡ demand y v
+  pub pebbles : (v : ℕ) → v < size y → getD s (256 + v) (pos 0) ≡ pos (pebble y v)
+
+-- the state after a move over the edge of v, away from the root (true) or towards it, and the list with it at place k
+abbrev pub movedState : List ℕ → Bool → ℕ → List ℤ → List ℤ
+movedState t b v s =
+    set (set (set s v (nextℤ b (getD s v (pos 0)))) (256 + crossing t b v .from) (pos 0)) (256 + crossing t b v .to) (pos 1)
+
+abbrev pub movedPlan : List ℕ → Bool → ℕ → ℕ → List ℕ → List ℕ
+movedPlan t b v k plan = set (set plan (2 * k) (crossing t b v .from)) (2 * k + 1) (crossing t b v .to)
+
+-- tables and state of a tree
+pub record Ready (y : Yard) (t : List ℕ) (s : List ℤ) : Type 0 where
+  pub tree : Tree y
+  pub tables : Tables (y .parents) t
+  pub kept : Kept y s
+
+-- a child of u that lacks pebbles (true) or has too many (false); a child c of u before which there is none; and where to begin looking for one
+abbrev pub wants : Bool → Yard → ℕ → ℕ → Bool
+wants b y u v = (isChild (y .parents) u v) && (ltb 0 (need y b v))
+
+pub record Looking (b : Bool) (y : Yard) (u c : ℕ) : Type 0 where
+  pub child : Child (y .parents) u c
+  pub none : (v : ℕ) → v < c → wants b y u v ≡ false
+
+pub data Start (b : Bool) (y : Yard) (t : List ℕ) (u : ℕ) : ℕ → Type 0 where
+  no-child : getD t (256 + u) 0 ≡ u → Start b y t u u
+  at-child : {c : ℕ} → Looking b y u c → Start b y t u c
+
+-- what filling v (true) or drawing from it (false) asks: that a pebble is due over its edge, and a height that bounds the nodes inside v
+pub record Asked (b : Bool) (y : Yard) (t : List ℕ) (s : List ℤ) (v height : ℕ) : Type 0 where
+  pub ready : Ready y t s
+  pub due : Due y b v
+  pub high : weight (y .parents) v ≤ height
+
+-- the nodes that must make way before a pebble can go over the edge of top: from each that is blocked on to the child that is chosen
+pub data Chain (b : Bool) (y : Yard) (top : ℕ) : ℕ → Type 0 where
+  at-top : Chain b y top top
+  down : {u : ℕ} → Chain b y top u → blocked y b u ≡ true → Chain b y top (choice (need y b) y u)
+
+-- where the moves begin: at the end of that chain
+pub record Begins (b : Bool) (y : Yard) (top low : ℕ) : Type 0 where
+  pub chain : Chain b y top low
+  pub free : blocked y b low ≡ false
+
+-- what the moves ask, from there up to top: room in the list too
+pub record AskedMoves (b : Bool) (y : Yard) (t : List ℕ) (s : List ℤ) (plan : List ℕ) (low top : ℕ) : Type 0 where
+  pub ready : Ready y t s
+  pub due : Due y b top
+  pub begins : Begins b y top low
+  pub room : 2 * shortest y ≤ length plan
+
+-- moves that were made, written at the front of the list, and counted
+pub record Made (y : Yard) (ms : List Move) (s : List ℤ) (before after : List ℕ) (count : ℕ) : Type 0 where
+  pub kept : Kept (run y ms) s
+  pub written : after ≡ overwrite (bytes ms) before
+  pub counted : count ≡ length ms
+
+-- what they give: the moves of Algorithm 2 or 3
+pub record Served (b : Bool) (y : Yard) (v : ℕ) (s : List ℤ) (before after : List ℕ) (count : ℕ) : Type 0 where
+  pub moves : List Move
+  pub serves : Serves y b v moves
+  pub made : Made y moves s before after count

@@ -1,0 +1,57 @@
+// The choice of a child.
+ghost use mathlib.Core.Path.{_≡_};
+ghost use mathlib.Core.Bool.{cond};
+ghost use Prim.Native.Nat.{_<_};
+ghost use lib.IntN.{pos};
+ghost use lib.Signed.{ltZ};
+ghost use Rattle.model.specs.Yard.{Yard, size};
+ghost use Rattle.model.specs.Plan.{choice};
+ghost use Rattle.model.proofs.Step.{need};
+ghost use Rattle.serve.specs.Kept.{Ready, Start};
+
+// A byte as a number.
+pub fn wide(x: u8) -> usize
+    ensures { λ r. ⌜ (r ≡ x) × (r < 256) ⌝ }
+{
+    x as usize
+}
+
+// Whether a demand is of the sign wanted: pebbles lack (away from the root), or are too many.
+fn wanted(demand: i16, away: bool) -> bool
+    ensures { λ r. ⌜ r ≡ cond away (ltZ (pos 0) demand) (ltZ demand (pos 0)) ⌝ }
+{
+    if away {
+        return demand > 0;
+    }
+    demand < 0
+}
+
+// The child of u that is served wherever one is chosen, or u itself if no child has a demand of the sign wanted. One scan of u's children, which
+// begins at a child before which there is none (at u itself if it has no child).
+pub fn choose_from(t: &[u8; 768], s: &[i16; 512], u: usize, start: usize, away: bool) -> usize
+    requires { ⌜ ((y : Yard) × Ready y (now t) (now s) × (u < size y) × Start away y (now t) u start) ⌝ }
+    ensures { λ r. ⌜ ((y : Yard) → Ready y (now (t .entry)) (now (s .entry)) → u < size y → Start away y (now (t .entry)) u start → r ≡ choice (need y away) y u) ⌝ }
+{
+    if start == u {
+        return u;
+    }
+    let mut c = start;
+    loop {
+        if wanted(s[c], away) {
+            return c;
+        }
+        let next = t[512 + c] as usize;
+        if next == c {
+            return u;
+        }
+        c = next;
+    }
+}
+
+// The same, with the scan from the lowest child on.
+pub fn choose(t: &[u8; 768], s: &[i16; 512], u: usize, away: bool) -> usize
+    requires { ⌜ ((y : Yard) × Ready y (now t) (now s) × (u < size y)) ⌝ }
+    ensures { λ r. ⌜ ((y : Yard) → Ready y (now (t .entry)) (now (s .entry)) → u < size y → r ≡ choice (need y away) y u) ⌝ }
+{
+    choose_from(t, s, u, wide(t[256 + u]), away)
+}

@@ -1,0 +1,96 @@
+// Algorithms 2, 3 and 4: filling, clearing, drawing, and a move.
+ghost use mathlib.Core.Path.{_≡_};
+ghost use mathlib.Core.Bool.{true, false};
+ghost use Prim.Native.Nat.{_+_, _*_, _<_, _≤_};
+ghost use lib.ListN.{length, getD, set};
+ghost use lib.IntN.{pos, natAbs};
+ghost use Rattle.model.specs.Yard.{Yard};
+ghost use Rattle.model.proofs.Serve.{blocked};
+ghost use Rattle.serve.specs.Kept.{movedState, movedPlan, Asked, Begins, AskedMoves, Served};
+use crate::choose::choose;
+use crate::choose::wide;
+
+// Writes a move at place k of the list, and the pebble's at the two nodes.
+fn record_move(s: &mut [i16; 512], plan: &mut [u8], k: usize, from: usize, to: usize)
+    requires { ⌜ (from < 256) × (to < 256) × (2 * k + 2 ≤ length (now plan)) ⌝ }
+    ensures { λ _. ⌜ now (s .exit) ≡ set (set (now (s .entry)) (256 + from) (pos 0)) (256 + to) (pos 1) ⌝ }
+    ensures { λ _. ⌜ now (plan .exit) ≡ set (set (now (plan .entry)) (2 * k) from) (2 * k + 1) to ⌝ }
+{
+    s[256 + from] = 0;
+    s[256 + to] = 1;
+    plan[2 * k] = from as u8;
+    plan[2 * k + 1] = to as u8;
+}
+
+// Algorithm 4: the pebble goes over the edge of v, away from the root or towards it, and the demand of v changes by one.
+fn move_pebble(t: &[u8; 768], s: &mut [i16; 512], plan: &mut [u8], k: usize, v: usize, away: bool)
+    requires { ⌜ (v < 256) × (2 * k + 2 ≤ length (now plan)) × (natAbs (getD (now s) v (pos 0)) ≤ 256) ⌝ }
+    ensures { λ _. ⌜ now (s .exit) ≡ movedState (now (t .entry)) away v (now (s .entry)) ⌝ }
+    ensures { λ _. ⌜ now (plan .exit) ≡ movedPlan (now (t .entry)) away v k (now (plan .entry)) ⌝ }
+{
+    let p = wide(t[v]);
+    if away {
+        s[v] -= 1;
+        record_move(s, plan, k, p, v);
+        return;
+    }
+    s[v] += 1;
+    record_move(s, plan, k, v, p);
+}
+
+// Algorithm 2: where filling v from its parent begins. A full v is cleared first.
+pub fn inject_pebble(t: &[u8; 768], s: &[i16; 512], v: usize, height: usize) -> usize
+    requires { ⌜ ((y : Yard) × Asked true y (now t) (now s) v height) ⌝ }
+    ensures { λ r. ⌜ ((y : Yard) → Asked true y (now (t .entry)) (now (s .entry)) v height → Begins true y v r) ⌝ }
+{
+    if s[256 + v] == 0 {
+        return v;
+    }
+    clear_node(t, s, v, height)
+}
+
+// To clear v, which is full, fill the child that is chosen.
+fn clear_node(t: &[u8; 768], s: &[i16; 512], v: usize, height: usize) -> usize
+    requires { ⌜ ((y : Yard) × Asked true y (now t) (now s) v height × (blocked y true v ≡ true)) ⌝ }
+    ensures { λ r. ⌜ ((y : Yard) → Asked true y (now (t .entry)) (now (s .entry)) v height → blocked y true v ≡ true → Begins true y v r) ⌝ }
+{
+    let c = choose(t, s, v, true);
+    inject_pebble(t, s, c, height - 1)
+}
+
+// Algorithm 3: where drawing from v into its parent begins. Into an empty v one is drawn first.
+pub fn extract_pebble(t: &[u8; 768], s: &[i16; 512], v: usize, height: usize) -> usize
+    requires { ⌜ ((y : Yard) × Asked false y (now t) (now s) v height) ⌝ }
+    ensures { λ r. ⌜ ((y : Yard) → Asked false y (now (t .entry)) (now (s .entry)) v height → Begins false y v r) ⌝ }
+{
+    if s[256 + v] != 0 {
+        return v;
+    }
+    let c = choose(t, s, v, false);
+    extract_pebble(t, s, c, height - 1)
+}
+
+// The moves of filling `top`, or of drawing from it, which begin at `low`: from there up to `top` a pebble goes over the edge of each node and
+// makes way for the next. They go to the front of the list; answers how many.
+pub fn move_pebbles(
+    t: &[u8; 768],
+    s: &mut [i16; 512],
+    plan: &mut [u8],
+    low: usize,
+    top: usize,
+    away: bool,
+) -> usize
+    requires { ⌜ ((y : Yard) × AskedMoves away y (now t) (now s) (now plan) low top) ⌝ }
+    ensures { λ r. ⌜ ((y : Yard) → AskedMoves away y (now (t .entry)) (now (s .entry)) (now (plan .entry)) low top → Served away y top (now (s .exit)) (now (plan .entry)) (now (plan .exit)) r) ⌝ }
+{
+    let mut k = 0;
+    let mut v = low;
+    loop {
+        move_pebble(t, s, plan, k, v, away);
+        k += 1;
+        if v == top {
+            return k;
+        }
+        v = wide(t[v]);
+    }
+}
