@@ -1,13 +1,14 @@
 // One step: the push that the yard state, the checker and the trial share.
 ghost use mathlib.Core.Path.{_≡_};
-ghost use mathlib.Core.Bool.{cond};
+ghost use mathlib.Core.Bool.{cond, false};
 ghost use mathlib.Core.List.{[]};
-ghost use Prim.Native.Nat.{_<_};
+ghost use mathlib.Core.Option.{some};
+ghost use Prim.Native.Nat.{ℕ, _<_};
 ghost use lib.ListN.{length};
 ghost use Rattle.model.specs.Yard.{yardOf};
 ghost use Rattle.model.specs.Push as Push;
 ghost use Rattle.model.specs.Push.{push, moveFault, isNone, shifted};
-ghost use Rattle.model.specs.Paper.{paperDone};
+ghost use Rattle.model.specs.Paper.{paper, paperDone};
 use model::Done;
 use model::Refusal;
 
@@ -25,6 +26,51 @@ fn adjacent(parents: &[u8], a: usize, b: usize) -> bool
     parents[b] as usize == a
 }
 
+// Whether none of refusals 10 to 13 meets the move from `from` to `to`. That the nodes differ need not be tested: one holds a pebble, the other none.
+fn free(parents: &[u8], pebbles: &[u8], from: usize, to: usize) -> bool
+    requires { ⌜ length (now pebbles) ≡ length (now parents) ⌝ }
+    ensures { λ r. ⌜ ((place : ℕ) → r ≡ isNone (moveFault (yardOf (now (parents .entry)) (now (pebbles .entry)) []) (push from to) place)) ⌝ }
+{
+    let n = parents.len();
+    if n <= from {
+        return false;
+    }
+    if n <= to {
+        return false;
+    }
+    if pebbles[from] == 0 {
+        return false;
+    }
+    if pebbles[to] >= 1 {
+        return false;
+    }
+    if parents[from] as usize == to {
+        return true;
+    }
+    parents[to] as usize == from
+}
+
+// Which of refusals 10 to 13 meets a move first, where one does.
+fn fault(parents: &[u8], pebbles: &[u8], from: usize, to: usize, place: usize) -> Refusal
+    requires { ⌜ (length (now pebbles) ≡ length (now parents)) × (isNone (moveFault (yardOf (now parents) (now pebbles) []) (push from to) place) ≡ false) ⌝ }
+    ensures { λ r. ⌜ moveFault (yardOf (now (parents .entry)) (now (pebbles .entry)) []) (push from to) place ≡ some (paper r) ⌝ }
+{
+    let n = parents.len();
+    if n <= from {
+        return Refusal::NoSuchNode(place);
+    }
+    if n <= to {
+        return Refusal::NoSuchNode(place);
+    }
+    if !adjacent(parents, from, to) {
+        return Refusal::NotAdjacent(place);
+    }
+    if pebbles[from] == 0 {
+        return Refusal::FromEmpty(place);
+    }
+    Refusal::ToFull(place)
+}
+
 // Judges the move from `from` to `to` by refusals 10 to 13, with `place` as their place, and makes it if none meets it; a refusal leaves the
 // pebbles as they were. (Refusals 10 to 13 do not look at targets.)
 pub fn step(parents: &[u8], pebbles: &mut [u8], from: usize, to: usize, place: usize) -> Done
@@ -32,24 +78,11 @@ pub fn step(parents: &[u8], pebbles: &mut [u8], from: usize, to: usize, place: u
     ensures { λ r. ⌜ paperDone r ≡ moveFault (yardOf (now (parents .entry)) (now (pebbles .entry)) []) (push from to) place ⌝ }
     ensures { λ r. ⌜ now (pebbles .exit) ≡ cond (isNone (moveFault (yardOf (now (parents .entry)) (now (pebbles .entry)) []) (push from to) place)) (shifted (now (pebbles .entry)) (push from to)) (now (pebbles .entry)) ⌝ }
 {
-    let n = parents.len();
-    if n <= from {
-        return Done::Refused(Refusal::NoSuchNode(place));
-    }
-    if n <= to {
-        return Done::Refused(Refusal::NoSuchNode(place));
-    }
-    if !adjacent(parents, from, to) {
-        return Done::Refused(Refusal::NotAdjacent(place));
+    if !free(parents, pebbles, from, to) {
+        return Done::Refused(fault(parents, pebbles, from, to, place));
     }
     let first = pebbles[from];
-    if first == 0 {
-        return Done::Refused(Refusal::FromEmpty(place));
-    }
     let second = pebbles[to];
-    if second >= 1 {
-        return Done::Refused(Refusal::ToFull(place));
-    }
     pebbles[from] = first - 1;
     pebbles[to] = second + 1;
     Done::Accepted
