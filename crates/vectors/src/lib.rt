@@ -1,3 +1,4 @@
-// What the vector programs share: answers and lists in print, and long lists.
-pub mod fill;
+// What the vector programs share: the reading of cases, and answers and lists in print.
+pub mod cases;
+pub mod lists;
 pub mod print;

@@ -40,6 +40,20 @@ pub fn list(name: &[u8], bytes: &[u8]) {
     }
 }
 
+// The first entries of a list.
+pub fn first(name: &[u8], bytes: &[u8], count: isize) {
+    let end = io::count(count, bytes);
+    list(name, &bytes[..end]);
+}
+
+// The last entries of a list.
+pub fn last(name: &[u8], bytes: &[u8], count: usize) {
+    if count <= bytes.len() {
+        let from = bytes.len() - count;
+        list(name, &bytes[from..]);
+    }
+}
+
 fn mixed(h: usize, b: u8) -> usize {
     (h % 1000003 * 31 + b as usize) % 1000003
 }

@@ -1,19 +1,42 @@
-// The account call, the bound and the displaced on document 01's yards and refusals. Each line is a case.
-mod accounts;
-mod figures;
+// The account call, the bound and the displaced on document 01's yards and refusals. Each line of standard input is a case, and of the output too.
+mod calls;
 mod print;
 
+use vectors::cases::bad;
+use vectors::cases::find;
+use vectors::cases::is_case;
+use vectors::lists::yard_lists;
+
+fn line(text: &[u8]) {
+    if is_case(text) {
+        let mut parents = [0u8; 300];
+        let mut pebbles = [0u8; 300];
+        let mut targets = [0u8; 300];
+        let sizes = yard_lists(text, &mut parents, &mut pebbles, &mut targets);
+        let n = sizes.parents;
+        let m = sizes.pebbles;
+        let k = sizes.targets;
+        calls::case(text, &parents[..n], &pebbles[..m], &targets[..k]);
+    }
+}
+
+fn run(text: &[u8]) {
+    let mut at = 0;
+    while at < text.len() {
+        let end = find(text, at, b'\n');
+        line(&text[at..end]);
+        if end == text.len() {
+            return;
+        }
+        at = end + 1;
+    }
+}
+
 fn main() {
-    accounts::accepted();
-    accounts::totals();
-    accounts::lengths();
-    accounts::lists();
-    accounts::first();
-    accounts::circles();
-    accounts::ends();
-    figures::accepted();
-    figures::lists();
-    figures::parents();
-    figures::totals();
-    figures::large();
+    let mut input = [0u8; 16384];
+    let count = io::read_full(0, &mut input);
+    if count == 16384 {
+        bad(b"too many cases");
+    }
+    run(&input[..count]);
 }

@@ -1,51 +1,81 @@
-// The writer on small yards. After the answer comes the list, whose bytes were dots before; a line feed in it begins a line.
+// The writer, and sheets read back.
+use reader::read::read_sheet;
 use sheet::writer::write_sheet;
+use vectors::cases::bad;
+use vectors::cases::field;
+use vectors::cases::is;
+use vectors::lists::part;
+use vectors::lists::yard_lists;
 use vectors::print::counted;
+use vectors::print::digest;
 use vectors::print::end;
 use vectors::print::label;
 use vectors::print::text;
 
-fn write(name: &[u8], parents: &[u8], pebbles: &[u8], targets: &[u8], sheet: &mut [u8]) {
-    label(name);
+// The answer, and the list; a line feed in it begins a line.
+fn write(line: &[u8], parents: &[u8], pebbles: &[u8], targets: &[u8], sheet: &mut [u8]) {
+    label(field(line, 1));
     counted(write_sheet(parents, pebbles, targets, sheet));
     text(b", list:\n");
     text(sheet);
     end();
 }
 
-pub fn accepted() {
-    write(
-        b"A",
-        &[0, 0, 0, 1, 1],
-        &[0, 1, 0, 1, 0],
-        &[0, 0, 1, 0, 1],
-        &mut [b'.'; 67],
-    );
-    write(b"C", &[0], &[1], &[1], &mut [b'.'; 32]);
+// The answer for the first bytes of the list, as many as a field says; then digests of the parents and of the list.
+fn write_long(line: &[u8], parents: &[u8], pebbles: &[u8], targets: &[u8], sheet: &mut [u8]) {
+    let room = part(field(line, 6), sheet);
+    label(field(line, 1));
+    counted(write_sheet(parents, pebbles, targets, &mut sheet[..room]));
+    digest(b", values ", parents);
+    digest(b", list ", sheet);
+    end();
 }
 
-pub fn marks() {
-    write(
-        b"no tree, marks above 1",
-        &[255, 99],
-        &[2, 100],
-        &[10, 199],
-        &mut [b'.'; 50],
-    );
+// What the first bytes of a sheet say, as many as a field says.
+fn read_back(line: &[u8], sheet: &[u8]) {
+    let mut parents = [0u8; 256];
+    let mut pebbles = [0u8; 256];
+    let mut targets = [0u8; 256];
+    let room = part(field(line, 6), sheet);
+    label(field(line, 1));
+    counted(read_sheet(&sheet[..room], &mut parents, &mut pebbles, &mut targets));
+    digest(b", parents ", &parents);
+    digest(b", pebbles ", &pebbles);
+    digest(b", targets ", &targets);
+    end();
 }
 
-pub fn room() {
-    write(b"8, one byte", &[0], &[1], &[1], &mut [b'.'; 31]);
-    write(b"8, no room", &[0], &[1], &[1], &mut []);
+fn written(line: &[u8], parents: &[u8], pebbles: &[u8], targets: &[u8], sheet: &mut [u8]) {
+    if is(line, b"write", 5) {
+        write(line, parents, pebbles, targets, sheet);
+        return;
+    }
+    if is(line, b"long", 6) {
+        write_long(line, parents, pebbles, targets, sheet);
+        return;
+    }
+    if is(line, b"back", 6) {
+        write_sheet(parents, pebbles, targets, sheet);
+        read_back(line, sheet);
+        return;
+    }
+    bad(line);
 }
 
-pub fn lengths() {
-    write(b"1, no node", &[], &[], &[], &mut [b'.'; 32]);
-    write(b"2, pebbles", &[0, 0], &[1], &[1, 0], &mut [b'.'; 3]);
-    write(b"2, targets", &[0, 0], &[1, 0], &[1, 0, 0], &mut [b'.'; 3]);
+// A list of dots, as long as a field says.
+fn with_sheet(line: &[u8], parents: &[u8], pebbles: &[u8], targets: &[u8]) {
+    let mut sheet = [b'.'; 4011];
+    let size = part(field(line, 5), &sheet);
+    written(line, parents, pebbles, targets, &mut sheet[..size]);
 }
 
-pub fn first() {
-    write(b"1 before 2", &[], &[1], &[1], &mut [b'.'; 3]);
-    write(b"2 before 8", &[0], &[1, 1], &[1], &mut []);
+pub fn case(line: &[u8]) {
+    let mut parents = [0u8; 300];
+    let mut pebbles = [0u8; 300];
+    let mut targets = [0u8; 300];
+    let sizes = yard_lists(line, &mut parents, &mut pebbles, &mut targets);
+    let n = sizes.parents;
+    let m = sizes.pebbles;
+    let k = sizes.targets;
+    with_sheet(line, &parents[..n], &pebbles[..m], &targets[..k]);
 }

@@ -1,32 +1,34 @@
--- The loop's invariant: the list keeps its length. The measure is what is left of it.
-use Prim.Native.Nat.{_-_}
+-- The loop's invariant: the list keeps its length, and `i` is `n` or more. The measure is what is left to fill.
+use Prim.Native.Nat.{_≤_, _-_}
 use mathlib.Core.Path.{_≡_}
 use lib.ListN.{length, length-set}
-use native.Mathlib.Omega.{arith}
 use borrow.Author.Needs.{needs}
-use Rattle.vectors.proofs.fill.count_up.Statement.{statement}
-use Rattle.vectors.proofs.fill.count_up.Tie as tie
+use Rattle.vectors.proofs.lists.copy.Statement.{statement}
+use Rattle.vectors.proofs.lists.copy.Tie as tie
 
 abbrev Inv-loop : tie.InvT-loop
-Inv-loop list₀ from first b₀ i₀ list b i = length list ≡ length list₀
+Inv-loop list₀ n to i₀ list i = (length list ≡ length list₀) × (n ≤ i)
 
 abbrev μ-loop : tie.MeasureT-loop
-μ-loop list₀ from first b₀ i₀ list b i = length list - i
+μ-loop list₀ n to i₀ list i = to - i
 
 loop-holds : tie.Need-loop-holds Inv-loop μ-loop
 loop-holds c = search needs
 
+sub-list : tie.Need-sub-list Inv-loop μ-loop
+sub-list c = search needs
+
+slice-read-list : tie.Need-slice-read-list Inv-loop μ-loop
+slice-read-list c = search needs
+
 slice-write-list : tie.Need-slice-write-list Inv-loop μ-loop
 slice-write-list c = search needs
-
-next-requires : tie.Need-next-requires Inv-loop μ-loop
-next-requires c κs = search needs
 
 add-i : tie.Need-add-i Inv-loop μ-loop
 add-i c = search needs
 
 loop-less : tie.Need-loop-less Inv-loop μ-loop
-loop-less c = simp length-set (omega arith)
+loop-less c = search needs
 
 loop-again : tie.Need-loop-again Inv-loop μ-loop
 loop-again c = simp length-set (search needs)
@@ -37,15 +39,16 @@ same-length c = search needs
 returns : tie.Need-returns Inv-loop μ-loop
 returns c = search needs
 
-pub count-up-spec : {M : Type 1} → statement M
-count-up-spec =
+pub copy-spec : {M : Type 1} → statement M
+copy-spec =
     tie.close
     (tie.spec
     Inv-loop
     μ-loop
     loop-holds
+    sub-list
+    slice-read-list
     slice-write-list
-    next-requires
     add-i
     loop-less
     loop-again

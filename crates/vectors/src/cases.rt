@@ -1,0 +1,107 @@
+// Cases as text, one to a line: a kind, a label, then lists and numbers, between bars. A line that begins with # is a comment.
+ghost use Prim.Native.Nat.{_≤_};
+ghost use lib.ListN.{length};
+ghost use Rattle.io.specs.Counts.{Counts};
+use check::same;
+use crate::print::text;
+
+// The first place from an index on where a byte stands, or the end.
+pub fn find(bytes: &[u8], from: usize, byte: u8) -> usize
+    requires { ⌜ from ≤ length (now bytes) ⌝ }
+    ensures { λ r. ⌜ (from ≤ r) × Counts r (now (bytes .entry)) ⌝ }
+{
+    let mut i = from;
+    while i < bytes.len() {
+        if bytes[i] == byte {
+            return i;
+        }
+        i += 1;
+    }
+    i
+}
+
+// What no case says and no program can take is told in the output, which then is not the stored one.
+pub fn bad(what: &[u8]) {
+    text(b"BAD: ");
+    text(what);
+    text(b"\n");
+}
+
+// Whether a line is a case, and neither a comment nor empty.
+pub fn is_case(line: &[u8]) -> bool {
+    if line.len() == 0 {
+        return false;
+    }
+    line[0] != b'#'
+}
+
+// The place behind the next bar, or the end.
+fn behind_bar(line: &[u8], from: usize) -> usize
+    requires { ⌜ from ≤ length (now line) ⌝ }
+    ensures { λ r. ⌜ r ≤ length (now (line .entry)) ⌝ }
+{
+    let bar = find(line, from, b'|');
+    if bar < line.len() {
+        return bar + 1;
+    }
+    bar
+}
+
+// Where a field begins; the first field is 0.
+fn start(line: &[u8], number: usize) -> usize
+    ensures { λ r. ⌜ r ≤ length (now (line .entry)) ⌝ }
+{
+    let mut at = 0;
+    let mut i = 0;
+    while i < number {
+        at = behind_bar(line, at);
+        i += 1;
+    }
+    at
+}
+
+fn without_first_space(part: &[u8]) -> &[u8] {
+    if part.len() > 0 {
+        if part[0] == b' ' {
+            return &part[1..];
+        }
+    }
+    part
+}
+
+fn without_last_space(part: &[u8]) -> &[u8] {
+    if part.len() > 0 {
+        let last = part.len() - 1;
+        if part[last] == b' ' {
+            return &part[..last];
+        }
+    }
+    part
+}
+
+// A field, without the space on either side of it.
+pub fn field(line: &[u8], number: usize) -> &[u8] {
+    let from = start(line, number);
+    let to = find(line, from, b'|');
+    without_last_space(without_first_space(&line[from..to]))
+}
+
+fn bars(line: &[u8]) -> usize {
+    let mut count = 0;
+    let mut i = 0;
+    while i < line.len() {
+        if line[i] == b'|' {
+            count += 1;
+        }
+        i += 1;
+    }
+    count
+}
+
+// Whether a line is a case of a kind, with as many bars as that kind has.
+pub fn is(line: &[u8], kind: &[u8], count: usize) -> bool {
+    if bars(line) != count {
+        return false;
+    }
+    same(field(line, 0), kind)
+}
