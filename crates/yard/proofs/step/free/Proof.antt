@@ -2,9 +2,9 @@
 use mathlib.Core.Path.{_≡_, sym, _∙_}
 use mathlib.Core.Bool.{true, _&&_, _||_}
 use mathlib.Core.List.{[]}
-use Prim.Native.Nat.{ℕ}
+use Prim.Native.Nat.{ℕ, _<_}
 use native.Mathlib.Omega.{arith}
-use lib.ListN.{length}
+use lib.ListN.{length, getD}
 use lib.Dec.{ltb, eqb}
 use borrow.Author.Needs.{needs}
 use borrow.Author.Tests.{lt-ltb, le-ltb, lt-leb, le-leb, eq-eqb, ne-eqb}
@@ -24,7 +24,8 @@ counted : (c : tie.Else4) (place : ℕ) → let a = c .before .before .before .b
 counted c place =
     let e = c .before .before in
     let a = e .before .before .before .before .args in
-    rw (move-free _ _ place, known (e .before .before), holds _ (e .if3 .left), lt-leb _ _ (c .if4 .left), apart (a .pebbles .now) (a .from) (a .to) (e .if3 .left) (c .if4 .left))
+    let none : getD (a .pebbles .now) (a .to) 0 < 1 = omega (arith, c .if4 .left) in
+    rw (move-free _ _ place, known (e .before .before), holds _ (e .if3 .left), lt-leb _ _ none, apart (a .pebbles .now) (a .from) (a .to) (e .if3 .left) none)
 
 returns : tie.Need-returns
 returns c place = rw (move-free _ _ place, le-ltb _ _ (c .if1 .taken))
