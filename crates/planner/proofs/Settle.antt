@@ -123,9 +123,9 @@ pub record Starts (y : Yard) (t : List ℕ) (u lacks spares : ℕ) : Type 0 wher
   pub lack : Start true y t u lacks
   pub spare : Start false y t u spares
 
-pub start-for : {y : Yard} {t : List ℕ} {u lacks spares c : ℕ} (b : Bool) → Starts y t u lacks spares → c ≡ cond b lacks spares → Start b y t u c
-start-for true h e = rw e (h .lack)
-start-for false h e = rw e (h .spare)
+pub start-for : {y : Yard} {t : List ℕ} {u lacks spares : ℕ} (b : Bool) → Starts y t u lacks spares → Start b y t u (cond b lacks spares)
+start-for true h = h .lack
+start-for false h = h .spare
 
 -- after a turn it begins at the child that was chosen, for its sign
 pub starts-next : {y : Yard} {ms : List Move} {t : List ℕ} {u c lacks spares lacks′ spares′ : ℕ} (b : Bool) → Starts y t u lacks spares → Tree y → Good y ms

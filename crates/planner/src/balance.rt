@@ -1,8 +1,11 @@
 // Algorithm 1: balancing the subtrees of a node.
 ghost use mathlib.Core.Path.{_≡_};
 ghost use mathlib.Core.Bool.{cond};
-ghost use Rattle.model.specs.Yard.{Yard};
-ghost use Rattle.serve.specs.Kept.{Asked, Begins};
+ghost use Prim.Native.Nat.{_<_};
+ghost use Rattle.model.specs.Yard.{Yard, size};
+ghost use Rattle.model.specs.Plan.{choice};
+ghost use Rattle.model.proofs.Step.{need};
+ghost use Rattle.serve.specs.Kept.{Ready, Start, Asked, Begins};
 ghost use Rattle.planner.specs.Balancing.{AskedEven, Settled, Balanced};
 use serve::choose::choose_from;
 use serve::choose::wide;
@@ -31,6 +34,24 @@ fn either(first: bool, a: usize, b: usize) -> usize
     b
 }
 
+// The child that the loop at u serves next. One scan for each sign, so that neither asks for the sign child by child.
+fn choose_next(
+    t: &[u8; 768],
+    s: &[i16; 512],
+    u: usize,
+    lacks: usize,
+    spares: usize,
+    away: bool,
+) -> usize
+    requires { ⌜ ((y : Yard) × Ready y (now t) (now s) × (u < size y) × Start away y (now t) u (cond away lacks spares)) ⌝ }
+    ensures { λ r. ⌜ ((y : Yard) → Ready y (now (t .entry)) (now (s .entry)) → u < size y → Start away y (now (t .entry)) u (cond away lacks spares) → r ≡ choice (need y away) y u) ⌝ }
+{
+    if away {
+        return choose_from(t, s, u, lacks, true);
+    }
+    choose_from(t, s, u, spares, false)
+}
+
 // The loop at u: if u holds a pebble a child is filled from it, else one is drawn from a child, until no child has a demand of the sign wanted;
 // then none has any, as u's own demand is 0. No demand grows, so a child passed over once for a sign is not looked at again.
 fn settle(t: &[u8; 768], s: &mut [i16; 512], plan: &mut [u8], u: usize, height: usize) -> usize
@@ -43,7 +64,7 @@ fn settle(t: &[u8; 768], s: &mut [i16; 512], plan: &mut [u8], u: usize, height: 
     let mut spares = first;
     loop {
         let away = s[256 + u] != 0;
-        let c = choose_from(t, s, u, either(away, lacks, spares), away);
+        let c = choose_next(t, s, u, lacks, spares, away);
         if c == u {
             return k;
         }

@@ -2,8 +2,8 @@
 ghost use Prim.Native.Nat.{_≤_};
 ghost use lib.ListN.{length};
 ghost use Rattle.io.specs.Counts.{Counts};
-use check::same;
 use crate::print::text;
+use check::same;
 
 // The first place from an index on where a byte stands, or the end.
 pub fn find(bytes: &[u8], from: usize, byte: u8) -> usize

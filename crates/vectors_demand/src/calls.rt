@@ -1,9 +1,9 @@
 // The account call, the bound and the displaced.
 ghost use Prim.Native.Nat.{_≤_};
 use crate::print::demands;
+use demand::call;
 use demand::call::displaced;
 use demand::call::length_bound;
-use demand::call;
 use vectors::cases::bad;
 use vectors::cases::field;
 use vectors::cases::is;

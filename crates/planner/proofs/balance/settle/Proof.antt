@@ -58,54 +58,49 @@ used c =
     let b = c .loop .inv (p .0) (p .1) .begun in
     within (b .good) (p .1 .room) (b .made)
 
-either-requires : tie.Need-either-requires Inv-loop μ-loop
-either-requires c κs = search needs
-
-choose-from-requires : tie.Need-choose-from-requires Inv-loop μ-loop
-choose-from-requires c κs =
-    let l = c .before .before .before in
+choose-next-requires : tie.Need-choose-next-requires Inv-loop μ-loop
+choose-next-requires c κs =
+    let l = c .before .before in
     let p = call l .pre in
     let z = here l (p .0) (p .1) in
-    (_, z .ready, z .node, start-for _ (l .loop .inv (p .0) (p .1) .starts) (c .either .ensures))
+    (_, z .ready, z .node, start-for _ (l .loop .inv (p .0) (p .1) .starts))
 
 same-length : tie.Need-same-length Inv-loop μ-loop
-same-length c = used (c .before .before .before .before .before) .0
+same-length c = used (c .before .before .before .before) .0
 
 returns : tie.Need-returns Inv-loop μ-loop
 returns c y a =
-    let e = c .before .before in
-    let l = e .before .before .before in
+    let l = c .before .before .before .before in
     let w = l .loop .inv y a in
     let z = here l y a in
     record {
       moves = w .begun .moves;
-      settles = ended (w .begun) (none-chosen z (marked-held (z .ready) (z .node)) (c .before .choose-from .ensures _ (z .ready) (z .node) (start-for _ (w .starts) (e .either .ensures))) (omega (arith, c .if1 .taken)));
+      settles = ended (w .begun) (none-chosen z (marked-held (z .ready) (z .node)) (c .before .choose-next .ensures _ (z .ready) (z .node) (start-for _ (w .starts))) (omega (arith, c .if1 .taken)));
       made = w .begun .made;
     }
+
+either-requires : tie.Need-either-requires Inv-loop μ-loop
+either-requires c κs = search needs
 
 either-requires-2 : tie.Need-either-requires-2 Inv-loop μ-loop
 either-requires-2 c κs = search needs
 
-either-requires-3 : tie.Need-either-requires-3 Inv-loop μ-loop
-either-requires-3 c κs = search needs
-
 turn-start-requires : tie.Need-turn-start-requires Inv-loop μ-loop
 turn-start-requires c κs =
     let d = c .before .before .before in
-    let e = d .before .before in
-    let l = e .before .before .before in
+    let l = d .before .before .before .before in
     let p = call l .pre in
     let z = here l (p .0) (p .1) in
-    (_, turn-asked z (marked-held (z .ready) (z .node)) (d .before .choose-from .ensures _ (z .ready) (z .node) (start-for _ (l .loop .inv (p .0) (p .1) .starts) (e .either .ensures))) (d .if1 .left))
+    (_, turn-asked z (marked-held (z .ready) (z .node)) (d .before .choose-next .ensures _ (z .ready) (z .node) (start-for _ (l .loop .inv (p .0) (p .1) .starts))) (d .if1 .left))
 
 mul-move-pebbles : tie.Need-mul-move-pebbles Inv-loop μ-loop
-mul-move-pebbles c = let l = c .before .before .before .before .before .before .before .before .before .before in omega (arith, used l, call l .good)
+mul-move-pebbles c = let l = c .before .before .before .before .before .before .before .before .before in omega (arith, used l, call l .good)
 
 sub-move-pebbles : tie.Need-sub-move-pebbles Inv-loop μ-loop
-sub-move-pebbles c = omega (arith, used (c .before .before .before .before .before .before .before .before .before .before))
+sub-move-pebbles c = omega (arith, used (c .before .before .before .before .before .before .before .before .before))
 
 part-move-pebbles-start : tie.Need-part-move-pebbles-start Inv-loop μ-loop
-part-move-pebbles-start c = omega (arith, used (c .before .before .before .before .before .before .before .before .before .before))
+part-move-pebbles-start c = omega (arith, used (c .before .before .before .before .before .before .before .before .before))
 
 part-move-pebbles-end : tie.Need-part-move-pebbles-end Inv-loop μ-loop
 part-move-pebbles-end c = omega arith
@@ -114,48 +109,46 @@ move-pebbles-requires : tie.Need-move-pebbles-requires Inv-loop μ-loop
 move-pebbles-requires c κs =
     let t = c .before .before in
     let d = t .before .before .before .before in
-    let i = d .before .before in
-    let l = i .before .before .before in
+    let l = d .before .before .before .before in
     let p = call l .pre in
     let z = here l (p .0) (p .1) in
     let e = marked-held (z .ready) (z .node) in
-    let q = d .before .choose-from .ensures _ (z .ready) (z .node) (start-for _ (l .loop .inv (p .0) (p .1) .starts) (i .either .ensures)) in
+    let q = d .before .choose-next .ensures _ (z .ready) (z .node) (start-for _ (l .loop .inv (p .0) (p .1) .starts)) in
     (_, turn-moves z e q (d .if1 .left) (t .turn-start .ensures _ (turn-asked z e q (d .if1 .left))))
 
 -- one turn more, of one move at least
 stepped : (c : tie.After-move-pebbles Inv-loop μ-loop) (y : Yard)
     → let t = c .before .before .before in
-    let l = t .before .before .before .before .before .before .before .before .before in
+    let l = t .before .before .before .before .before .before .before .before in
     let s = call l .args in
     AskedEven y (s .t .now) (s .s .now) (s .plan .now) (s .u) (s .height)
-    → Turned y (s .t .now) (s .u) (c .move-pebbles .last .1 .0) (s .plan .now) (back (l .loop .plan) (l .loop .k) (c .move-pebbles .last .1 .1 .0)) (l .loop .k + c .move-pebbles .result) (t .before .before .before .either2 .result) (t .before .before .either3 .result)
+    → Turned y (s .t .now) (s .u) (c .move-pebbles .last .1 .0) (s .plan .now) (back (l .loop .plan) (l .loop .k) (c .move-pebbles .last .1 .1 .0)) (l .loop .k + c .move-pebbles .result) (t .before .before .before .either .result) (t .before .before .either2 .result)
     × (0 < c .move-pebbles .result)
 stepped c y a =
     let t = c .before .before .before in
     let d = t .before .before .before .before in
-    let i = d .before .before in
-    let l = i .before .before .before in
+    let l = d .before .before .before .before in
     let w = l .loop .inv y a in
     let z = here l y a in
     let e = marked-held (z .ready) (z .node) in
-    let q = d .before .choose-from .ensures _ (z .ready) (z .node) (start-for _ (w .starts) (i .either .ensures)) in
+    let q = d .before .choose-next .ensures _ (z .ready) (z .node) (start-for _ (w .starts)) in
     let v = c .move-pebbles .ensures _ (turn-moves z e q (d .if1 .left) (t .turn-start .ensures _ (turn-asked z e q (d .if1 .left)))) in
     let g = turn-good z e q (d .if1 .left) (v .serves) in (
-      turn-more w (v .moves) (g .0) (v .made) (turn-settles z e q (d .if1 .left) (v .serves)) (starts-next (marked (l .loop .s) (call l .args .u)) (w .starts) (z .ready .tree) (g .0) q (d .if1 .left) (t .before .before .before .either2 .ensures) (t .before .before .either3 .ensures)),
+      turn-more w (v .moves) (g .0) (v .made) (turn-settles z e q (d .if1 .left) (v .serves)) (starts-next (marked (l .loop .s) (call l .args .u)) (w .starts) (z .ready .tree) (g .0) q (d .if1 .left) (t .before .before .before .either .ensures) (t .before .before .either2 .ensures)),
       omega (arith, g .1, v .made .counted),
     )
 
 add-k : tie.Need-add-k Inv-loop μ-loop
 add-k c =
     let m = c .before .before in
-    let p = call (m .before .before .before .before .before .before .before .before .before .before .before .before) in
+    let p = call (m .before .before .before .before .before .before .before .before .before .before .before) in
     let b = stepped m (p .pre .0) (p .pre .1) .0 .begun in
     omega (arith, within (b .good) (p .pre .1 .room) (b .made), p .good)
 
 loop-less : tie.Need-loop-less Inv-loop μ-loop
 loop-less c =
     let m = c .before .before in
-    let p = call (m .before .before .before .before .before .before .before .before .before .before .before .before) .pre in
+    let p = call (m .before .before .before .before .before .before .before .before .before .before .before) .pre in
     let b = stepped m (p .0) (p .1) in
     omega (arith, b .1, within (b .0 .begun .good) (p .1 .room) (b .0 .begun .made))
 
@@ -175,12 +168,11 @@ settle-spec =
     add-away
     mul-away
     element-copy-out-away
-    either-requires
-    choose-from-requires
+    choose-next-requires
     same-length
     returns
+    either-requires
     either-requires-2
-    either-requires-3
     turn-start-requires
     mul-move-pebbles
     sub-move-pebbles
