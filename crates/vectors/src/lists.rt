@@ -1,7 +1,6 @@
 // Numbers and lists as text. A list's items are parted by a space: `7` is an entry, `7*3` is 7 7 7, `3-6` is 3 4 5 6, and `^9` is what stands before
 // it in the list, over and over, up to 9 entries.
 ghost use Prim.Native.Nat.{_≤_, _<_};
-ghost use mathlib.Core.Path.{_≡_};
 ghost use lib.ListN.{length};
 ghost use Rattle.io.specs.Counts.{Counts};
 use crate::cases::bad;
