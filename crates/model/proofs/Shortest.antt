@@ -4,11 +4,11 @@ use mathlib.Core.Path.{_≡_, refl, ap, _∙_}
 use mathlib.Core.Logic.{_⊎_, inl, inr}
 use mathlib.Core.Bool.{Bool, true, false, not}
 use mathlib.Core.List.{List, [], _∷_, _++_}
-use Prim.Native.Nat.{ℕ, _+_, _≤_, _<_}
+use Prim.Native.Nat.{ℕ, _+_, _-_, _≤_, _<_}
 use native.Mathlib.Omega.{arith}
 use native.Mathlib.Decide.{decLt}
 use lib.ListN.{length, length-append}
-use Rattle.model.specs.Yard.{Yard, size, one, sum, inside, pebblesIn, lacking, surplus, imbalance, shortest}
+use Rattle.model.specs.Yard.{Yard, size, one, sum, inside, pebblesIn, targetsIn, lacking, surplus, imbalance, shortest}
 use Rattle.model.specs.Judge.{Tree}
 use Rattle.model.specs.Push.{Move, moved, after, run, accepted, Solved, ups, downs, crossedBy}
 use Rattle.model.proofs.Basics.{one-le}
@@ -21,6 +21,13 @@ use Rattle.model.proofs.Runs.{Obeys, obeys, run-tree, pebblesIn-run, cr
 abbrev pub Thrifty : Yard → List Move → Type 0
 Thrifty y ms = shortest y ≡ shortest (run y ms) + length (accepted y ms)
 
+-- q is p less a and more b. It is nearer to t than p by a + b at most; if by just so much, what t has above p fell by b, and what p has above t by a
+apart-le : (t p q a b : ℕ) → q + a ≡ p + b → (t - p) + (p - t) ≤ (t - q) + (q - t) + (a + b)
+apart-le t p q a b e = omega arith
+
+apart-parts : (t p q a b : ℕ) → q + a ≡ p + b → (t - p) + (p - t) ≡ (t - q) + (q - t) + (a + b) → (t - p ≡ t - q + b) × (p - t ≡ q - t + a)
+apart-parts t p q a b e f = (omega arith, omega arith)
+
 module _ (y : Yard) (t : Tree y) (ms : List Move) where
   o : Obeys y (accepted y ms) (run y ms)
   o = obeys ms y t
@@ -31,14 +38,14 @@ module _ (y : Yard) (t : Tree y) (ms : List Move) where
 
   pub shortest-run : shortest y ≤ shortest (run y ms) + length (accepted y ms)
   unfolding shortest
-  shortest-run = rw (← all) (sum-mono (size y) _ _ (λ v _. omega (arith, pebblesIn-run o v)))
+  shortest-run = rw (← all) (sum-mono (size y) _ _ (λ v _. apart-le (targetsIn y v) _ _ _ _ (pebblesIn-run o v)))
 
   pub shortest-least : Solved (run y ms) → shortest y ≤ length (accepted y ms)
   shortest-least h = omega (arith, shortest-run, solved-iff (run y ms) (run-tree o t) .0 h)
 
   pub thrifty-crosses : Thrifty y ms → (v : ℕ) → v < size y → (lacking y v ≡ lacking (run y ms) v + downs y ms v) × (surplus y v ≡ surplus (run y ms) v + ups y ms v)
   unfolding shortest
-  thrifty-crosses h v l = omega (arith, pebblesIn-run o v, sum-tight (size y) (imbalance y) after-all (λ v _. omega (arith, pebblesIn-run o v)) (omega (arith, all)) v l)
+  thrifty-crosses h v l = apart-parts (targetsIn y v) _ _ _ _ (pebblesIn-run o v) (sum-tight (size y) (imbalance y) after-all (λ v _. apart-le (targetsIn y v) _ _ _ _ (pebblesIn-run o v)) (omega (arith, all)) v l)
     where
       after-all : ℕ → ℕ
       after-all v = imbalance (run y ms) v + (ups y ms v + downs y ms v)
