@@ -1,4 +1,4 @@
--- `yard::scan::first_at_least` meets its contract: if the greatest entry is below the limit, each is.
+-- `judge::scan::first_at_least` meets its contract: if the greatest entry is below the limit, each is.
 use native.Mathlib.Omega.{arith}
 use lib.ListN.{getD}
 use borrow.Author.Needs.{needs}

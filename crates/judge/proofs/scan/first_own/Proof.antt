@@ -1,4 +1,4 @@
--- `yard::scan::first_own` meets its contract: no index before it, from `start` on, is its own entry, so the first one met is the lowest, and past
+-- `judge::scan::first_own` meets its contract: no index before it, from `start` on, is its own entry, so the first one met is the lowest, and past
 -- the end there is none.
 use Prim.Native.Nat.{ℕ, _-_, _<_, _≤_}
 use mathlib.Core.Path.{_≡_}

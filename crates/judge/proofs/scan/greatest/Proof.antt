@@ -1,4 +1,4 @@
--- `yard::scan::greatest` meets its contract: no entry before the index is above the number so far.
+-- `judge::scan::greatest` meets its contract: no entry before the index is above the number so far.
 use Prim.Native.Nat.{ℕ, _+_, _-_, _<_, _≤_}
 use mathlib.Core.Path.{_≡_}
 use native.Mathlib.Omega.{arith}

@@ -1,4 +1,4 @@
--- `yard::scan::look_for` meets its contract: every entry before the index is below the limit, so the first one met is the lowest, and past the
+-- `judge::scan::look_for` meets its contract: every entry before the index is below the limit, so the first one met is the lowest, and past the
 -- end there is none.
 use Prim.Native.Nat.{ℕ, _-_, _<_, _≤_}
 use mathlib.Core.Path.{_≡_, _∙_}

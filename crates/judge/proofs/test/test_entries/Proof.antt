@@ -1,4 +1,4 @@
--- `yard::test::test_entries` meets its contract: each search answers the lowest node that the next test refuses, or the number of nodes.
+-- `judge::test::test_entries` meets its contract: each search answers the lowest node that the next test refuses, or the number of nodes.
 use borrow.Author.Needs.{needs}
 use Rattle.model.proofs.Tests.{pebble-marked, target-marked, parent-outside, entries-pass}
 use Rattle.judge.proofs.test.test_entries.Statement.{statement}

@@ -1,4 +1,4 @@
--- `yard::test::test_shape` meets its contract: the searches answer the lowest root, the next one behind it, and the lowest node on or below a
+-- `judge::test::test_shape` meets its contract: the searches answer the lowest root, the next one behind it, and the lowest node on or below a
 -- circle, or else the number of nodes.
 use native.Mathlib.Omega.{arith}
 use borrow.Author.Needs.{needs}

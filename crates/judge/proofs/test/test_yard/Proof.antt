@@ -1,4 +1,4 @@
--- `yard::test::test_yard` meets its contract: the three groups of tests are made in order, and what one has passed is what the next requires.
+-- `judge::test::test_yard` meets its contract: the three groups of tests are made in order, and what one has passed is what the next requires.
 use mathlib.Core.Path.{sym, ap, _∙_}
 use borrow.Author.Needs.{needs}
 use Rattle.model.specs.Yard.{yardOf}

@@ -1,4 +1,4 @@
--- `planner::choose::choose` meets its contract: the scan may begin at the lowest child.
+-- `serve::choose::choose` meets its contract: the scan may begin at the lowest child.
 use native.Mathlib.Omega.{arith}
 use borrow.Author.Needs.{needs}
 use Rattle.serve.proofs.Looking.{node-small, start-first}

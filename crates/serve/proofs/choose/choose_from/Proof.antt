@@ -1,4 +1,4 @@
--- `planner::choose::choose_from` meets its contract: the scan goes through u's children in rising order, and leaves none behind that wants something
+-- `serve::choose::choose_from` meets its contract: the scan goes through u's children in rising order, and leaves none behind that wants something
 -- (the laws are in Looking).
 use native.Mathlib.Omega.{arith}
 use borrow.Author.Needs.{needs}

@@ -1,4 +1,4 @@
--- `planner::choose::wanted` meets its contract: each branch is a side of the test.
+-- `serve::choose::wanted` meets its contract: each branch is a side of the test.
 use borrow.Author.Needs.{needs}
 use Rattle.serve.proofs.choose.wanted.Statement.{statement}
 use Rattle.serve.proofs.choose.wanted.Tie as tie

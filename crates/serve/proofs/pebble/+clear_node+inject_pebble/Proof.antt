@@ -1,4 +1,4 @@
--- `planner::serve::clear_node` and `inject_pebble` meet their contracts: filling a free v begins at v, filling a full one where its clearing does, at
+-- `serve::pebble::clear_node` and `inject_pebble` meet their contracts: filling a free v begins at v, filling a full one where its clearing does, at
 -- the child that is chosen or below (the laws are in Serving). Of the calls, clearing falls below filling at the same height, and filling a child is
 -- at a lower one.
 use mathlib.Core.Bool.{true}

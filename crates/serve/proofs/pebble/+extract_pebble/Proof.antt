@@ -1,4 +1,4 @@
--- `planner::serve::extract_pebble` meets its contract: drawing from a held v begins at v, from an empty one where drawing from the child that is chosen
+-- `serve::pebble::extract_pebble` meets its contract: drawing from a held v begins at v, from an empty one where drawing from the child that is chosen
 -- does (the laws are in Serving), at a lower height.
 use mathlib.Core.Path.{_≡_, sym, _∙_}
 use mathlib.Core.Bool.{true, false}

@@ -1,4 +1,4 @@
--- `planner::serve::move_pebble` meets its contract: the demand in range changes by one, and the move is recorded with the parent that the table
+-- `serve::pebble::move_pebble` meets its contract: the demand in range changes by one, and the move is recorded with the parent that the table
 -- has.
 use mathlib.Core.Path.{_∙_}
 use native.Mathlib.Omega.{arith}

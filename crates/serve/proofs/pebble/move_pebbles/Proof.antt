@@ -1,4 +1,4 @@
--- `planner::serve::move_pebbles` meets its contract: the moves made on the way up the chain make way for the next one (the laws are in Serving).
+-- `serve::pebble::move_pebbles` meets its contract: the moves made on the way up the chain make way for the next one (the laws are in Serving).
 use mathlib.Core.Path.{_∙_}
 use native.Mathlib.Omega.{arith}
 use Prim.Native.Nat.{_-_, _*_}

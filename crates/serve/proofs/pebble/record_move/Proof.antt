@@ -1,4 +1,4 @@
--- `planner::serve::record_move` meets its contract: four stores, each in range.
+-- `serve::pebble::record_move` meets its contract: four stores, each in range.
 use mathlib.Core.Path.{refl}
 use native.Mathlib.Omega.{arith}
 use lib.ListN.{length-set}
