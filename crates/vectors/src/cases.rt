@@ -1,5 +1,5 @@
 // Cases as text, one to a line: a kind, a label, then lists and numbers, between bars. A line that begins with # is a comment.
-ghost use Prim.Native.Nat.{_≤_};
+ghost use Prim.Native.Nat.{_≤_, _<_};
 ghost use lib.ListN.{length};
 ghost use Rattle.io.specs.Counts.{Counts};
 use crate::print::text;
@@ -20,7 +20,7 @@ pub fn find(bytes: &[u8], from: usize, byte: u8) -> usize
     i
 }
 
-// What no case says and no program can take is told in the output, which then is not the stored one.
+// Tells in the output what cannot be read, so that it is not the stored one.
 pub fn bad(what: &[u8]) {
     text(b"BAD: ");
     text(what);
@@ -35,16 +35,36 @@ pub fn is_case(line: &[u8]) -> bool {
     line[0] != b'#'
 }
 
-// The place behind the next bar, or the end.
-fn behind_bar(line: &[u8], from: usize) -> usize
-    requires { ⌜ from ≤ length (now line) ⌝ }
-    ensures { λ r. ⌜ r ≤ length (now (line .entry)) ⌝ }
+// The place behind the next such byte, or the end.
+fn behind(bytes: &[u8], from: usize, byte: u8) -> usize
+    requires { ⌜ from ≤ length (now bytes) ⌝ }
+    ensures { λ r. ⌜ r ≤ length (now (bytes .entry)) ⌝ }
 {
-    let bar = find(line, from, b'|');
-    if bar < line.len() {
-        return bar + 1;
+    let at = find(bytes, from, byte);
+    if at < bytes.len() {
+        return at + 1;
     }
-    bar
+    at
+}
+
+// The line that begins at an index.
+pub fn line_at(text: &[u8], at: usize) -> &[u8]
+    requires { ⌜ at ≤ length (now text) ⌝ }
+{
+    let end = find(text, at, b'\n');
+    &text[at..end]
+}
+
+// Where the line behind it begins, or the end.
+pub fn next_line(text: &[u8], at: usize) -> usize
+    requires { ⌜ at < length (now text) ⌝ }
+    ensures { λ r. ⌜ at < r ⌝ }
+{
+    let end = find(text, at, b'\n');
+    if end < text.len() {
+        return end + 1;
+    }
+    end
 }
 
 // Where a field begins; the first field is 0.
@@ -54,7 +74,7 @@ fn start(line: &[u8], number: usize) -> usize
     let mut at = 0;
     let mut i = 0;
     while i < number {
-        at = behind_bar(line, at);
+        at = behind(line, at, b'|');
         i += 1;
     }
     at

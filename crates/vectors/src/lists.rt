@@ -1,14 +1,12 @@
 // Numbers and lists as text. A list's items are parted by a space: `7` is an entry, `7*3` is 7 7 7, `3-6` is 3 4 5 6, and `^9` is what stands before
 // it in the list, over and over, up to 9 entries.
-ghost use Prim.Native.Nat.{_≤_, _<_};
+ghost use Prim.Native.Nat.{_≤_};
 ghost use lib.ListN.{length};
-ghost use Rattle.io.specs.Counts.{Counts};
 use crate::cases::bad;
-use crate::cases::field;
 use crate::cases::find;
 
 // No number: above each that a text can say.
-pub const NONE: usize = 1_000_000;
+const NONE: usize = 1_000_000;
 
 fn digit(byte: u8) -> usize {
     if byte < b'0' {
@@ -32,7 +30,7 @@ fn joined(number: usize, digit: usize) -> usize {
 }
 
 // The number of up to six digits that a text is, or none.
-pub fn number(digits: &[u8]) -> usize {
+fn number(digits: &[u8]) -> usize {
     if digits.len() == 0 {
         return NONE;
     }
@@ -52,18 +50,6 @@ pub fn value(digits: &[u8]) -> usize {
         bad(digits);
     }
     n
-}
-
-// How many entries at a list's front a field says.
-pub fn part(digits: &[u8], list: &[u8]) -> usize
-    ensures { λ r. ⌜ Counts r (now (list .entry)) ⌝ }
-{
-    let n = number(digits);
-    if n <= list.len() {
-        return n;
-    }
-    bad(digits);
-    0
 }
 
 fn before(item: &[u8], sign: u8) -> &[u8] {
@@ -88,28 +74,35 @@ fn sum(entry: u8, step: u8) -> u8 {
     entry + step
 }
 
-// The entries from an index up to another: a first, then each a step above the one before.
-fn fill(list: &mut [u8], from: usize, to: usize, first: u8, step: u8)
-    requires { ⌜ to ≤ length (now list) ⌝ }
+// The entries from an index up to another: each a step above the one that stands `back` before it.
+fn repeat(list: &mut [u8], from: usize, to: usize, back: usize, step: u8)
+    requires { ⌜ (to ≤ length (now list)) × (back ≤ from) ⌝ }
 {
-    let mut entry = first;
     let mut i = from;
     while i < to {
-        list[i] = entry;
-        entry = sum(entry, step);
+        list[i] = sum(list[i - back], step);
         i += 1;
     }
 }
 
-// So many entries behind the first n; the new number of entries.
+fn put(list: &mut [u8], at: usize, entry: u8) {
+    if at < list.len() {
+        list[at] = entry;
+    }
+}
+
+// So many entries behind the first n, each a step above the one before; the new number of entries.
 fn extend(item: &[u8], list: &mut [u8], n: usize, count: usize, first: usize, step: u8) -> usize
     requires { ⌜ n ≤ length (now list) ⌝ }
     ensures { λ r. ⌜ r ≤ length (now (list .entry)) ⌝ }
 {
     if first <= 255 {
-        if count <= list.len() - n {
-            fill(list, n, n + count, first as u8, step);
-            return n + count;
+        if count > 0 {
+            if count <= list.len() - n {
+                put(list, n, first as u8);
+                repeat(list, n + 1, n + count, 1, step);
+                return n + count;
+            }
         }
     }
     bad(item);
@@ -117,23 +110,13 @@ fn extend(item: &[u8], list: &mut [u8], n: usize, count: usize, first: usize, st
 }
 
 // The first n entries over and over, up to an index.
-fn copy(list: &mut [u8], n: usize, to: usize)
-    requires { ⌜ to ≤ length (now list) ⌝ }
-{
-    let mut i = n;
-    while i < to {
-        list[i] = list[i - n];
-        i += 1;
-    }
-}
-
 fn again(item: &[u8], list: &mut [u8], n: usize, to: usize) -> usize
     ensures { λ r. ⌜ r ≤ length (now (list .entry)) ⌝ }
 {
     if n > 0 {
         if n <= to {
             if to <= list.len() {
-                copy(list, n, to);
+                repeat(list, n, to, n, 0);
                 return to;
             }
         }
@@ -158,9 +141,8 @@ fn item(item: &[u8], list: &mut [u8], n: usize) -> usize
     requires { ⌜ n ≤ length (now list) ⌝ }
     ensures { λ r. ⌜ r ≤ length (now (list .entry)) ⌝ }
 {
-    let all = number(behind(item, b'^'));
-    if all < NONE {
-        return again(item, list, n, all);
+    if before(item, b'^').len() == 0 {
+        return again(item, list, n, number(behind(item, b'^')));
     }
     let count = number(behind(item, b'*'));
     if count < NONE {
@@ -175,9 +157,7 @@ fn item(item: &[u8], list: &mut [u8], n: usize) -> usize
 }
 
 // The entries of a list into the front of another; how many.
-pub fn entries(items: &[u8], list: &mut [u8]) -> usize
-    ensures { λ r. ⌜ Counts r (now (list .exit)) ⌝ }
-{
+fn read(items: &[u8], list: &mut [u8]) -> usize {
     let mut n = 0;
     let mut at = 0;
     while at < items.len() {
@@ -191,25 +171,25 @@ pub fn entries(items: &[u8], list: &mut [u8]) -> usize
     n
 }
 
-// How many entries each list of a yard has.
-pub struct Sizes {
-    pub parents: usize,
-    pub pebbles: usize,
-    pub targets: usize,
+// The first entries of a list; all of it where it has no more.
+pub fn front(list: &mut [u8], count: usize) -> &mut [u8] {
+    if count < list.len() {
+        return &mut list[..count];
+    }
+    list
 }
 
-// The lists of a yard, which are the fields behind the label.
-pub fn yard_lists(line: &[u8], parents: &mut [u8], pebbles: &mut [u8], targets: &mut [u8]) -> Sizes
-    ensures { λ r. ⌜ Counts (r .parents) (now (parents .exit)) ⌝ }
-    ensures { λ r. ⌜ Counts (r .pebbles) (now (pebbles .exit)) ⌝ }
-    ensures { λ r. ⌜ Counts (r .targets) (now (targets .exit)) ⌝ }
-{
-    let n = entries(field(line, 2), parents);
-    let m = entries(field(line, 3), pebbles);
-    let k = entries(field(line, 4), targets);
-    Sizes {
-        parents: n,
-        pebbles: m,
-        targets: k,
+// The entries that a field says, in the front of a list.
+pub fn entries<'a>(items: &[u8], list: &'a mut [u8]) -> &'a mut [u8] {
+    let n = read(items, list);
+    front(list, n)
+}
+
+// As many of a list's first entries as a field says.
+pub fn part<'a>(digits: &[u8], list: &'a mut [u8]) -> &'a mut [u8] {
+    let n = number(digits);
+    if n > list.len() {
+        bad(digits);
     }
+    front(list, n)
 }

@@ -39,6 +39,6 @@ fn show(line: &[u8], parents: &[u8], pebbles: &mut [u8], targets: &[u8], plan: &
 
 pub fn case(line: &[u8], parents: &[u8], pebbles: &mut [u8], targets: &[u8]) {
     let mut plan = [0u8; 131072];
-    let count = entries(field(line, 5), &mut plan);
-    show(line, parents, pebbles, targets, &plan[..count]);
+    let plan = entries(field(line, 5), &mut plan);
+    show(line, parents, pebbles, targets, plan);
 }

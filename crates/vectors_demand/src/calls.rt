@@ -1,5 +1,4 @@
 // The account call, the bound and the displaced.
-ghost use Prim.Native.Nat.{_≤_};
 use crate::print::demands;
 use demand::call;
 use demand::call::displaced;
@@ -21,23 +20,26 @@ fn account(line: &[u8], parents: &[u8], pebbles: &[u8], targets: &[u8], list: &m
     end();
 }
 
-// How many entries the list of an account has.
-fn room(line: &[u8]) -> usize
-    ensures { λ r. ⌜ r ≤ 300 ⌝ }
-{
-    let n = value(field(line, 5));
-    if n <= 300 {
-        return n;
+// As many of a list's first entries as a field says.
+fn part<'a>(digits: &[u8], list: &'a mut [i16]) -> &'a mut [i16] {
+    let n = value(digits);
+    if n < list.len() {
+        return &mut list[..n];
     }
-    bad(line);
-    0
+    bad(digits);
+    list
 }
 
 // An account, whose list is full of 9 before it.
 fn account_of(line: &[u8], parents: &[u8], pebbles: &[u8], targets: &[u8]) {
     let mut list = [9i16; 300];
-    let n = room(line);
-    account(line, parents, pebbles, targets, &mut list[..n]);
+    account(
+        line,
+        parents,
+        pebbles,
+        targets,
+        part(field(line, 5), &mut list),
+    );
 }
 
 // An account of 256 nodes: the first two and the last two demands.

@@ -23,9 +23,8 @@ fn show(line: &[u8], parents: &[u8], pebbles: &[u8], targets: &[u8], bytes: &mut
 
 // The answer for the first bytes of the list, as many as a field says; then the first two and the last two moves of the list, and its digest.
 fn show_long(line: &[u8], parents: &[u8], pebbles: &[u8], targets: &[u8], bytes: &mut [u8]) {
-    let room = part(field(line, 6), bytes);
     label(field(line, 1));
-    counted(plan(parents, pebbles, targets, &mut bytes[..room]));
+    counted(plan(parents, pebbles, targets, part(field(line, 6), bytes)));
     first(b", first", bytes, 4);
     last(b", last", bytes, 4);
     digest(b", digest ", bytes);
@@ -46,6 +45,6 @@ fn planned(line: &[u8], parents: &[u8], pebbles: &[u8], targets: &[u8], bytes: &
 
 pub fn case(line: &[u8], parents: &[u8], pebbles: &[u8], targets: &[u8]) {
     let mut bytes = [0u8; 32768];
-    let count = entries(field(line, 5), &mut bytes);
-    planned(line, parents, pebbles, targets, &mut bytes[..count]);
+    let bytes = entries(field(line, 5), &mut bytes);
+    planned(line, parents, pebbles, targets, bytes);
 }

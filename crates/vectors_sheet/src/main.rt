@@ -3,20 +3,21 @@ mod reads;
 mod writes;
 
 use vectors::cases::bad;
-use vectors::cases::find;
 use vectors::cases::is;
 use vectors::cases::is_case;
+use vectors::cases::line_at;
+use vectors::cases::next_line;
 
 fn line(text: &[u8]) {
     if !is_case(text) {
         return;
     }
     if is(text, b"read", 2) {
-        reads::case(text);
+        reads::read(text);
         return;
     }
     if is(text, b"lists", 5) {
-        reads::case(text);
+        reads::read_to_lists(text);
         return;
     }
     writes::case(text);
@@ -25,12 +26,8 @@ fn line(text: &[u8]) {
 fn run(text: &[u8]) {
     let mut at = 0;
     while at < text.len() {
-        let end = find(text, at, b'\n');
-        line(&text[at..end]);
-        if end == text.len() {
-            return;
-        }
-        at = end + 1;
+        line(line_at(text, at));
+        at = next_line(text, at);
     }
 }
 

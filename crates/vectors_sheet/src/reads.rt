@@ -1,9 +1,8 @@
 // The reader on small sheets.
-ghost use Rattle.io.specs.Counts.{Counts};
 use reader::read::read_sheet;
 use vectors::cases::bad;
 use vectors::cases::field;
-use vectors::cases::is;
+use vectors::lists::front;
 use vectors::lists::part;
 use vectors::print::counted;
 use vectors::print::end;
@@ -20,10 +19,8 @@ fn meant(sign: u8) -> u8 {
     }
 }
 
-// The sheet that a field says, into the front of a list; how many bytes.
-fn spelled(signs: &[u8], sheet: &mut [u8]) -> usize
-    ensures { λ r. ⌜ Counts r (now (sheet .exit)) ⌝ }
-{
+// The bytes that signs are for, into the front of a list; how many.
+fn spell(signs: &[u8], sheet: &mut [u8]) -> usize {
     if signs.len() > sheet.len() {
         bad(signs);
         return 0;
@@ -36,8 +33,16 @@ fn spelled(signs: &[u8], sheet: &mut [u8]) -> usize
     i
 }
 
+// The sheet that a field says, in the front of a list.
+fn spelled<'a>(signs: &[u8], sheet: &'a mut [u8]) -> &'a mut [u8] {
+    let count = spell(signs, sheet);
+    front(sheet, count)
+}
+
 // After the answer come the first four entries of each list, which held 7 before.
-fn read(line: &[u8], sheet: &[u8]) {
+pub fn read(line: &[u8]) {
+    let mut sheet = [0u8; 300];
+    let sheet = spelled(field(line, 2), &mut sheet);
     let mut parents = [7u8; 256];
     let mut pebbles = [7u8; 256];
     let mut targets = [7u8; 256];
@@ -50,29 +55,16 @@ fn read(line: &[u8], sheet: &[u8]) {
 }
 
 // The answer for lists as long as the fields say.
-fn read_to_lists(line: &[u8], sheet: &[u8]) {
+pub fn read_to_lists(line: &[u8]) {
+    let mut sheet = [0u8; 300];
+    let sheet = spelled(field(line, 2), &mut sheet);
     let mut parents = [0u8; 300];
     let mut pebbles = [0u8; 300];
     let mut targets = [0u8; 300];
-    let n = part(field(line, 3), &parents);
-    let m = part(field(line, 4), &pebbles);
-    let k = part(field(line, 5), &targets);
+    let parents = part(field(line, 3), &mut parents);
+    let pebbles = part(field(line, 4), &mut pebbles);
+    let targets = part(field(line, 5), &mut targets);
     label(field(line, 1));
-    counted(read_sheet(
-        sheet,
-        &mut parents[..n],
-        &mut pebbles[..m],
-        &mut targets[..k],
-    ));
+    counted(read_sheet(sheet, parents, pebbles, targets));
     end();
-}
-
-pub fn case(line: &[u8]) {
-    let mut sheet = [0u8; 300];
-    let count = spelled(field(line, 2), &mut sheet);
-    if is(line, b"read", 2) {
-        read(line, &sheet[..count]);
-        return;
-    }
-    read_to_lists(line, &sheet[..count]);
 }

@@ -4,8 +4,8 @@ use sheet::writer::write_sheet;
 use vectors::cases::bad;
 use vectors::cases::field;
 use vectors::cases::is;
+use vectors::lists::entries;
 use vectors::lists::part;
-use vectors::lists::yard_lists;
 use vectors::print::counted;
 use vectors::print::digest;
 use vectors::print::end;
@@ -23,22 +23,21 @@ fn write(line: &[u8], parents: &[u8], pebbles: &[u8], targets: &[u8], sheet: &mu
 
 // The answer for the first bytes of the list, as many as a field says; then digests of the parents and of the list.
 fn write_long(line: &[u8], parents: &[u8], pebbles: &[u8], targets: &[u8], sheet: &mut [u8]) {
-    let room = part(field(line, 6), sheet);
     label(field(line, 1));
-    counted(write_sheet(parents, pebbles, targets, &mut sheet[..room]));
+    counted(write_sheet(parents, pebbles, targets, part(field(line, 6), sheet)));
     digest(b", values ", parents);
     digest(b", list ", sheet);
     end();
 }
 
 // What the first bytes of a sheet say, as many as a field says.
-fn read_back(line: &[u8], sheet: &[u8]) {
+fn read_back(line: &[u8], sheet: &mut [u8]) {
     let mut parents = [0u8; 256];
     let mut pebbles = [0u8; 256];
     let mut targets = [0u8; 256];
-    let room = part(field(line, 6), sheet);
+    let sheet = part(field(line, 6), sheet);
     label(field(line, 1));
-    counted(read_sheet(&sheet[..room], &mut parents, &mut pebbles, &mut targets));
+    counted(read_sheet(sheet, &mut parents, &mut pebbles, &mut targets));
     digest(b", parents ", &parents);
     digest(b", pebbles ", &pebbles);
     digest(b", targets ", &targets);
@@ -65,17 +64,16 @@ fn written(line: &[u8], parents: &[u8], pebbles: &[u8], targets: &[u8], sheet: &
 // A list of dots, as long as a field says.
 fn with_sheet(line: &[u8], parents: &[u8], pebbles: &[u8], targets: &[u8]) {
     let mut sheet = [b'.'; 4011];
-    let size = part(field(line, 5), &sheet);
-    written(line, parents, pebbles, targets, &mut sheet[..size]);
+    let sheet = part(field(line, 5), &mut sheet);
+    written(line, parents, pebbles, targets, sheet);
 }
 
 pub fn case(line: &[u8]) {
     let mut parents = [0u8; 300];
     let mut pebbles = [0u8; 300];
     let mut targets = [0u8; 300];
-    let sizes = yard_lists(line, &mut parents, &mut pebbles, &mut targets);
-    let n = sizes.parents;
-    let m = sizes.pebbles;
-    let k = sizes.targets;
-    with_sheet(line, &parents[..n], &pebbles[..m], &targets[..k]);
+    let parents = entries(field(line, 2), &mut parents);
+    let pebbles = entries(field(line, 3), &mut pebbles);
+    let targets = entries(field(line, 4), &mut targets);
+    with_sheet(line, parents, pebbles, targets);
 }

@@ -3,9 +3,11 @@ mod lists;
 mod state;
 
 use vectors::cases::bad;
-use vectors::cases::find;
+use vectors::cases::field;
 use vectors::cases::is_case;
-use vectors::lists::yard_lists;
+use vectors::cases::line_at;
+use vectors::cases::next_line;
+use vectors::lists::entries;
 use yard::state::Yard;
 
 // A line, with the yard of the case before it; the yard after it.
@@ -14,11 +16,10 @@ fn line(text: &[u8], yard: Yard) -> Yard {
         let mut parents = [0u8; 300];
         let mut pebbles = [0u8; 300];
         let mut targets = [0u8; 300];
-        let sizes = yard_lists(text, &mut parents, &mut pebbles, &mut targets);
-        let n = sizes.parents;
-        let m = sizes.pebbles;
-        let k = sizes.targets;
-        return state::case(text, yard, &parents[..n], &mut pebbles[..m], &targets[..k]);
+        let parents = entries(field(text, 2), &mut parents);
+        let pebbles = entries(field(text, 3), &mut pebbles);
+        let targets = entries(field(text, 4), &mut targets);
+        return state::case(text, yard, parents, pebbles, targets);
     }
     yard
 }
@@ -27,12 +28,8 @@ fn run(text: &[u8]) {
     let mut yard = Yard::new();
     let mut at = 0;
     while at < text.len() {
-        let end = find(text, at, b'\n');
-        yard = line(&text[at..end], yard);
-        if end == text.len() {
-            return;
-        }
-        at = end + 1;
+        yard = line(line_at(text, at), yard);
+        at = next_line(text, at);
     }
 }
 

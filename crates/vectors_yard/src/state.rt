@@ -2,8 +2,8 @@
 use crate::lists;
 use vectors::cases::field;
 use vectors::cases::is;
+use vectors::lists::entries;
 use vectors::lists::value;
-use vectors::lists::yard_lists;
 use vectors::print::done;
 use vectors::print::end;
 use vectors::print::figure;
@@ -36,7 +36,9 @@ fn state(line: &[u8]) -> Yard {
     let mut parents = [0u8; 256];
     let mut pebbles = [0u8; 256];
     let mut targets = [0u8; 256];
-    yard_lists(line, &mut parents, &mut pebbles, &mut targets);
+    entries(field(line, 2), &mut parents);
+    entries(field(line, 3), &mut pebbles);
+    entries(field(line, 4), &mut targets);
     let size = value(field(line, 5));
     Yard {
         parents,

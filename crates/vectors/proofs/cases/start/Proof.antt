@@ -14,8 +14,8 @@ abbrev μ-loop : tie.MeasureT-loop
 loop-holds : tie.Need-loop-holds Inv-loop μ-loop
 loop-holds c = search needs
 
-behind-bar-requires : tie.Need-behind-bar-requires Inv-loop μ-loop
-behind-bar-requires c κs = search needs
+behind-requires : tie.Need-behind-requires Inv-loop μ-loop
+behind-requires c κs = search needs
 
 add-i : tie.Need-add-i Inv-loop μ-loop
 add-i c = search needs
@@ -32,4 +32,4 @@ returns c = search needs
 pub start-spec : {M : Type 1} → statement M
 start-spec =
     tie.close
-    (tie.spec Inv-loop μ-loop loop-holds behind-bar-requires add-i loop-less loop-again returns)
+    (tie.spec Inv-loop μ-loop loop-holds behind-requires add-i loop-less loop-again returns)

@@ -1,11 +1,10 @@
 -- The loop's invariant: the list keeps its length, and no more than that is filled. The measure is what is left of the items.
 use Prim.Native.Nat.{_≤_, _-_}
-use mathlib.Core.Path.{_≡_, sym}
+use mathlib.Core.Path.{_≡_}
 use lib.ListN.{length}
-use lib.Seq.{length-take-le}
 use borrow.Author.Needs.{needs}
-use Rattle.vectors.proofs.lists.entries.Statement.{statement}
-use Rattle.vectors.proofs.lists.entries.Tie as tie
+use Rattle.vectors.proofs.lists.read.Statement.{statement}
+use Rattle.vectors.proofs.lists.read.Tie as tie
 
 abbrev Inv-loop : tie.InvT-loop
 Inv-loop items list₀ n₀ at₀ list n at = (length list ≡ length list₀) × (n ≤ length list)
@@ -35,7 +34,7 @@ same-length : tie.Need-same-length Inv-loop μ-loop
 same-length c = search needs
 
 returns : tie.Need-returns Inv-loop μ-loop
-returns c = (search needs, sym (length-take-le _ _ (search needs)))
+returns c = search needs
 
 add-at : tie.Need-add-at Inv-loop μ-loop
 add-at c = search needs
@@ -50,10 +49,10 @@ same-length-2 : tie.Need-same-length-2 Inv-loop μ-loop
 same-length-2 c = search needs
 
 returns-2 : tie.Need-returns-2 Inv-loop μ-loop
-returns-2 c = (search needs, sym (length-take-le _ _ (search needs)))
+returns-2 c = search needs
 
-pub entries-spec : {M : Type 1} → statement M
-entries-spec =
+pub read-spec : {M : Type 1} → statement M
+read-spec =
     tie.close
     (tie.spec
     Inv-loop

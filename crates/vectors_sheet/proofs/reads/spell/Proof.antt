@@ -1,11 +1,10 @@
 -- The loop's invariant: the list keeps its length, and `i` is at most the number of signs. The measure is what is left of these.
 use Prim.Native.Nat.{_≤_, _-_}
-use mathlib.Core.Path.{_≡_, sym}
+use mathlib.Core.Path.{_≡_}
 use lib.ListN.{length, length-set}
-use lib.Seq.{length-take-le}
 use borrow.Author.Needs.{needs}
-use Rattle.vectors_sheet.proofs.reads.spelled.Statement.{statement}
-use Rattle.vectors_sheet.proofs.reads.spelled.Tie as tie
+use Rattle.vectors_sheet.proofs.reads.spell.Statement.{statement}
+use Rattle.vectors_sheet.proofs.reads.spell.Tie as tie
 
 abbrev Inv-loop : tie.InvT-loop
 Inv-loop signs sheet₀ i₀ sheet i = (length sheet ≡ length sheet₀) × (i ≤ length signs)
@@ -44,10 +43,10 @@ same-length : tie.Need-same-length Inv-loop μ-loop
 same-length c = search needs
 
 returns-2 : tie.Need-returns-2 Inv-loop μ-loop
-returns-2 c = (search needs, sym (length-take-le _ _ (search needs)))
+returns-2 c = search needs
 
-pub spelled-spec : {M : Type 1} → statement M
-spelled-spec =
+pub spell-spec : {M : Type 1} → statement M
+spell-spec =
     tie.close
     (tie.spec
     Inv-loop

@@ -1,25 +1,31 @@
--- The loop's invariant: the list keeps its length. The measure is what is left to fill.
-use Prim.Native.Nat.{_-_}
+-- The loop's invariant: the list keeps its length, and `i` is `back` or more. The measure is what is left to fill.
+use Prim.Native.Nat.{_≤_, _-_}
 use mathlib.Core.Path.{_≡_}
 use lib.ListN.{length, length-set}
 use borrow.Author.Needs.{needs}
-use Rattle.vectors.proofs.lists.fill.Statement.{statement}
-use Rattle.vectors.proofs.lists.fill.Tie as tie
+use Rattle.vectors.proofs.lists.repeat.Statement.{statement}
+use Rattle.vectors.proofs.lists.repeat.Tie as tie
 
 abbrev Inv-loop : tie.InvT-loop
-Inv-loop list₀ from to first step entry₀ i₀ list entry i = length list ≡ length list₀
+Inv-loop list₀ from to back step i₀ list i = (length list ≡ length list₀) × (back ≤ i)
 
 abbrev μ-loop : tie.MeasureT-loop
-μ-loop list₀ from to first step entry₀ i₀ list entry i = to - i
+μ-loop list₀ from to back step i₀ list i = to - i
 
 loop-holds : tie.Need-loop-holds Inv-loop μ-loop
 loop-holds c = search needs
 
-slice-write-list : tie.Need-slice-write-list Inv-loop μ-loop
-slice-write-list c = search needs
+sub-sum : tie.Need-sub-sum Inv-loop μ-loop
+sub-sum c = search needs
+
+slice-read-sum : tie.Need-slice-read-sum Inv-loop μ-loop
+slice-read-sum c = search needs
 
 sum-requires : tie.Need-sum-requires Inv-loop μ-loop
 sum-requires c κs = search needs
+
+slice-write-list : tie.Need-slice-write-list Inv-loop μ-loop
+slice-write-list c = search needs
 
 add-i : tie.Need-add-i Inv-loop μ-loop
 add-i c = search needs
@@ -36,15 +42,17 @@ same-length c = search needs
 returns : tie.Need-returns Inv-loop μ-loop
 returns c = search needs
 
-pub fill-spec : {M : Type 1} → statement M
-fill-spec =
+pub repeat-spec : {M : Type 1} → statement M
+repeat-spec =
     tie.close
     (tie.spec
     Inv-loop
     μ-loop
     loop-holds
-    slice-write-list
+    sub-sum
+    slice-read-sum
     sum-requires
+    slice-write-list
     add-i
     loop-less
     loop-again
