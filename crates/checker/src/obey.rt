@@ -35,7 +35,7 @@ pub fn copy(from: &[u8], to: &mut [u8])
 
 // Obeys the first `count` moves of a plan on the pebbles of a tree. A refusal is that of the first move that is refused, with its number as
 // place; what the pebbles then are is left open, as every caller lends a copy.
-pub fn obey(parents: &[u8], pebbles: &mut [u8], targets: &[u8], plan: &[u8], count: usize) -> Done
+fn obey(parents: &[u8], pebbles: &mut [u8], targets: &[u8], plan: &[u8], count: usize) -> Done
     requires { ⌜ Tree (yardOf (now parents) (now pebbles) (now targets)) × (2 * count ≤ length (now plan)) ⌝ }
     ensures { λ r. ⌜ paperDone r ≡ movesFault 0 (yardOf (now (parents .entry)) (now (pebbles .entry)) (now (targets .entry))) (take count (movesOf (now (plan .entry)))) ⌝ }
     ensures { λ r. ⌜ (paperDone r ≡ none → now (pebbles .exit) ≡ after (yardOf (now (parents .entry)) (now (pebbles .entry)) (now (targets .entry))) (take count (movesOf (now (plan .entry))))) ⌝ }

@@ -4,15 +4,15 @@ use mathlib.Core.Path.{_≡_, refl, ap, _∙_}
 use mathlib.Core.Logic.{_↔_}
 use mathlib.Core.Bool.{Bool, true, not, _&&_}
 use mathlib.Core.List.{List, [], _∷_}
-use mathlib.Core.Option.{Option, none, some}
+use mathlib.Core.Option.{none}
 use Prim.Native.Nat.{ℕ, suc}
 use lib.Dec.{ltb}
 use Rattle.model.specs.Yard.{Yard, size, full, held}
-use Rattle.model.specs.Judge.{Fault, fault, firstOf, unless, Tree}
-use Rattle.model.specs.Push.{Move, adjacent, moveTests, moveFault, pushFault, isNone, legal, moved, pushed, after, run, accepted}
+use Rattle.model.specs.Judge.{fault, firstOf, unless, Tree}
+use Rattle.model.specs.Push.{Move, adjacent, moveTests, moveFault, pushFault, legal, moved, pushed, after, run, accepted}
 use Rattle.model.specs.Calls.{movesFault}
 use Rattle.model.proofs.Basics.{none-all, all-none, unless-none}
-use Rattle.model.proofs.Step.{step, legal-step, moved-tree}
+use Rattle.model.proofs.Step.{none-is, step, legal-step, moved-tree}
 use Rattle.model.proofs.Runs.{Obeys, obeys}
 
 -- moveFault
@@ -32,12 +32,8 @@ pub moveFault-legal : (y : Yard) → Tree y → (m : Move) (i : ℕ) → (moveFa
 unfolding legal pushFault
 moveFault-legal y t m i = (
   (λ e. rw (t, moveFault-place y m i 0 e)),
-  λ e. moveFault-place y m 0 i (alone (moveFault y m 0) (rw t at e)),
+  λ e. moveFault-place y m 0 i (none-all (moveFault y m 0 ∷ []) (none-is _ (rw t at e)) .0),
 )
-  where
-    alone : (f : Option Fault) → isNone (firstOf (f ∷ [])) ≡ true → f ≡ none
-    alone none e = refl
-    alone (some f) e = cc
 
 -- the first move, if it is legal
 module _ (y : Yard) (m : Move) (ms : List Move) (e : legal y m ≡ true) where

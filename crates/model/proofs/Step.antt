@@ -40,7 +40,28 @@ pub record Step (y : Yard) (m : Move) : Type 0 where
   pub holds : 0 < pebble y (m .from)
   pub room : pebble y (m .to) < capacity y (m .to)
 
-none-is : (r : Option Fault) → isNone r ≡ true → r ≡ none
+-- what is known of a move that meets none of its own tests
+pub record Free (y : Yard) (m : Move) : Type 0 where
+  pub from-lt : m .from < size y
+  pub to-lt : m .to < size y
+  pub near : adjacent y (m .from) (m .to) ≡ true
+  pub holds : 0 < pebble y (m .from)
+  pub room : pebble y (m .to) < capacity y (m .to)
+
+pub free : (y : Yard) (m : Move) (place : ℕ) → moveFault y m place ≡ none → Free y m
+unfolding moveFault
+free y m place e =
+    let p = none-all (moveTests y m place) e in
+    let known = and-eq-true-iff (ltb (m .from) (size y)) (ltb (m .to) (size y)) .0 (unless-none _ 10 place (p .0)) in
+    record {
+      from-lt = ltb-true _ _ (known .0);
+      to-lt = ltb-true _ _ (known .1);
+      near = unless-none _ 11 place (p .1 .0);
+      holds = ltb-true 0 (pebble y (m .from)) (unless-none _ 12 place (p .1 .1 .0));
+      room = leb-false (capacity y (m .to)) (pebble y (m .to)) (not-true _ (unless-none _ 13 place (p .1 .1 .1 .0)));
+    }
+
+pub none-is : (r : Option Fault) → isNone r ≡ true → r ≡ none
 none-is none e = refl
 none-is (some r) e = cc
 
@@ -83,13 +104,12 @@ module _ (y : Yard) (m : Move) where
           (true, m .to, tl, (λ x. d (sym e ∙ stuck (m .to) x)), ap (λ (a : ℕ). push a (m .to)) (sym e))
 
   pub step : legal y m ≡ true → Step y m
-  unfolding legal pushFault moveFault
+  unfolding legal pushFault
   step e =
       let whole = none-all (judge y ∷ moveFault y m 0 ∷ []) (none-is _ e) in
-      let p = none-all (moveTests y m 0) (whole .1 .0) in
-      let known = and-eq-true-iff (ltb (m .from) (size y)) (ltb (m .to) (size y)) .0 (unless-none _ 10 0 (p .0)) in
-      let near = and-eq-true-iff (not (eqb (m .from) (m .to))) ((eqb (parent y (m .from)) (m .to)) || (eqb (parent y (m .to)) (m .from))) .0 (unless-none _ 11 0 (p .1 .0)) in
-      let over = way (wood y (whole .0)) (ltb-true _ _ (known .0)) (ltb-true _ _ (known .1)) (eqb-false _ _ (not-true _ (near .0))) (near .1) in
+      let f = free y m 0 (whole .1 .0) in
+      let near = and-eq-true-iff (not (eqb (m .from) (m .to))) ((eqb (parent y (m .from)) (m .to)) || (eqb (parent y (m .to)) (m .from))) .0 (f .near) in
+      let over = way (wood y (whole .0)) (f .from-lt) (f .to-lt) (eqb-false _ _ (not-true _ (near .0))) (near .1) in
       record {
         tree = whole .0;
         away = over .0;
@@ -97,8 +117,8 @@ module _ (y : Yard) (m : Move) where
         node-lt = over .2;
         off-root = over .3;
         is = over .4;
-        holds = ltb-true 0 (pebble y (m .from)) (unless-none _ 12 0 (p .1 .1 .0));
-        room = leb-false (capacity y (m .to)) (pebble y (m .to)) (not-true _ (unless-none _ 13 0 (p .1 .1 .1 .0)));
+        holds = f .holds;
+        room = f .room;
       }
 
   module _ (s : Step y m) where

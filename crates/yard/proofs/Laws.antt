@@ -1,6 +1,6 @@
 -- The tests of a move; lists continued by zeros; and a push of the first entries of an array, said of the whole array.
 use mathlib.Core.Path.{_≡_, refl, sym, ap}
-use mathlib.Core.Bool.{Bool, true, false, not, cond, _&&_, and-eq-true-iff}
+use mathlib.Core.Bool.{Bool, true, false, not, cond, _&&_}
 use mathlib.Core.List.{List, [], _∷_, _++_}
 use mathlib.Core.Option.{Option, none, some}
 use Prim.Native.Nat.{ℕ, zero, suc, _+_, _-_, _≤_, _<_}
@@ -10,11 +10,11 @@ use native.Mathlib.Omega.{arith}
 use lib.ListN.{length, take, drop, set, getD, replicate, take-append-drop, length-take, length-append, length-replicate}
 use lib.Seq.{length-take-le, paste-suc, take-append-le, take-set-lt, drop-set-lt, getD-take}
 use lib.Dec.{leb, ltb, eqb}
-use borrow.Author.Tests.{ltb-true, leb-false, lt-ltb, lt-leb, eq-eqb, ne-eqb, not-true}
+use borrow.Author.Tests.{lt-ltb, lt-leb, eq-eqb, ne-eqb}
 use Rattle.model.specs.Yard.{Yard, yardOf, size, maxSize, parent, pebble, target, capacity, held, full, below, roots, root, climbs}
 use Rattle.model.specs.Judge.{Fault, fault, firstOf, unless, rootFault, tests, judge}
 use Rattle.model.specs.Push.{Move, adjacent, moveTests, moveFault, pushFault, isNone, legal, shifted}
-use Rattle.model.proofs.Basics.{none-all, unless-none, first-join}
+use Rattle.model.proofs.Basics.{first-join}
 use Rattle.model.proofs.Step.{step, ends}
 use Rattle.model.proofs.Calls.{Other, other-none, other-fault, other-unless, other-lowest, other-first}
 use Rattle.yard.specs.State.{padded, yardIn, stateAfter}
@@ -34,32 +34,6 @@ move-free y m place = go ((ltb (m .from) (size y)) && (ltb (m .to) (size y))) (a
     go true false true false = refl
     go true false false d = refl
     go false b c d = refl
-
--- a move that meets none: its nodes and their counts
-pub record Free (y : Yard) (m : Move) (place : ℕ) : Type 0 where
-  pub none : moveFault y m place ≡ none
-  pub from : m .from < size y
-  pub to : m .to < size y
-  pub holds : 0 < pebble y (m .from)
-  pub room : pebble y (m .to) < 1
-
-pub free-facts : (y : Yard) (m : Move) (place : ℕ) → isNone (moveFault y m place) ≡ true → Free y m place
-unfolding moveFault
-free-facts y m place e =
-    let n : moveFault y m place ≡ none = alone (moveFault y m place) e in
-    let p = none-all (moveTests y m place) n in
-    let known = and-eq-true-iff (ltb (m .from) (size y)) (ltb (m .to) (size y)) .0 (unless-none _ 10 place (p .0)) in
-    record {
-      none = n;
-      from = ltb-true _ _ (known .0);
-      to = ltb-true _ _ (known .1);
-      holds = ltb-true 0 (pebble y (m .from)) (unless-none _ 12 place (p .1 .1 .0));
-      room = leb-false 1 (pebble y (m .to)) (not-true _ (unless-none _ 13 place (p .1 .1 .1 .0)));
-    }
-  where
-    alone : (f : Option Fault) → isNone f ≡ true → f ≡ none
-    alone none h = refl
-    alone (some r) h = cc
 
 -- a last test that something meets is met
 pub last-met : (b : Bool) (n p : ℕ) → isNone (firstOf (unless b (fault n p) ∷ [])) ≡ false → firstOf (unless b (fault n p) ∷ []) ≡ fault n p

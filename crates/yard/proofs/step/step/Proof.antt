@@ -1,18 +1,23 @@
 -- `step` refuses what is not free, by the fault that meets it. Both counts are read before either is written, so the pebbles are the shifted ones.
-use mathlib.Core.Path.{refl, sym, _∙_}
+use mathlib.Core.Path.{_≡_, refl, sym, _∙_}
 use mathlib.Core.List.{[]}
+use mathlib.Core.Option.{none}
 use native.Mathlib.Omega.{arith}
 use lib.ListN.{length-set}
 use borrow.Author.Needs.{needs}
 use borrow.Author.Tests.{not-true, not-false}
 use Rattle.model.specs.Yard.{yardOf}
-use Rattle.model.specs.Push.{push, shifted}
-use Rattle.yard.proofs.Laws.{Free, free-facts, refuses}
+use Rattle.model.specs.Push.{push, moveFault, shifted}
+use Rattle.model.proofs.Step.{Free, free, none-is}
+use Rattle.yard.proofs.Laws.{refuses}
 use Rattle.yard.proofs.step.step.Statement.{statement}
 use Rattle.yard.proofs.step.step.Tie as tie
 
-met : (c : tie.Else1) → let a = c .before .before .before .before .before .args in Free (yardOf (a .parents .now) (a .pebbles .now) []) (push (a .from) (a .to)) (a .place)
-met c = free-facts _ _ _ (sym (c .before .free .ensures _) ∙ not-false _ (c .if1 .left))
+passed : (c : tie.Else1) → let a = c .before .before .before .before .before .args in moveFault (yardOf (a .parents .now) (a .pebbles .now) []) (push (a .from) (a .to)) (a .place) ≡ none
+passed c = none-is _ (sym (c .before .free .ensures _) ∙ not-false _ (c .if1 .left))
+
+met : (c : tie.Else1) → let a = c .before .before .before .before .before .args in Free (yardOf (a .parents .now) (a .pebbles .now) []) (push (a .from) (a .to))
+met c = free _ _ _ (passed c)
 
 free-requires : tie.Need-free-requires
 free-requires c κs = search needs
@@ -27,29 +32,29 @@ returns : tie.Need-returns
 returns c = refuses _ _ (c .fault .ensures)
 
 slice-read-first : tie.Need-slice-read-first
-slice-read-first c = omega (arith, met (c .before) .from, c .before .before .before .before .before .before .pre)
+slice-read-first c = omega (arith, met (c .before) .from-lt, c .before .before .before .before .before .before .pre)
 
 slice-read-second : tie.Need-slice-read-second
-slice-read-second c = omega (arith, met (c .before .before) .to, c .before .before .before .before .before .before .before .pre)
+slice-read-second c = omega (arith, met (c .before .before) .to-lt, c .before .before .before .before .before .before .before .pre)
 
 sub-pebbles : tie.Need-sub-pebbles
 sub-pebbles c = omega (arith, met (c .before .before) .holds)
 
 slice-write-pebbles : tie.Need-slice-write-pebbles
-slice-write-pebbles c = omega (arith, met (c .before .before) .from, c .before .before .before .before .before .before .before .pre)
+slice-write-pebbles c = omega (arith, met (c .before .before) .from-lt, c .before .before .before .before .before .before .before .pre)
 
 add-pebbles : tie.Need-add-pebbles
 add-pebbles c = record { fits = omega (arith, met (c .before .before) .room) }
 
 slice-write-pebbles-2 : tie.Need-slice-write-pebbles-2
-slice-write-pebbles-2 c = simp length-set (omega (arith, met (c .before .before) .to, c .before .before .before .before .before .before .before .pre))
+slice-write-pebbles-2 c = simp length-set (omega (arith, met (c .before .before) .to-lt, c .before .before .before .before .before .before .before .pre))
 
 same-length-2 : tie.Need-same-length-2
 same-length-2 c = search needs
 
 returns-2 : tie.Need-returns-2
 unfolding shifted
-returns-2 c = rw (met (c .before .before) .none) (refl, refl)
+returns-2 c = rw (passed (c .before .before)) (refl, refl)
 
 pub step-spec : {M : Type 1} → statement M
 step-spec =
