@@ -35,6 +35,8 @@ data Input : Type 0 where
   planInto : ℕ → Yard → Input
   checkOf : List ℕ → Yard → Input
   trialOf : List ℕ → ℕ → Yard → Input
+  -- pushes, one after another, each on the yard that the one before gave back
+  pushesOf : List Move → Yard → Input
   printOf : String → Input
 
 data Outcome : Type 0 where
@@ -45,6 +47,7 @@ data Outcome : Type 0 where
   planned : Answer ℕ → List ℕ → Outcome
   checked : Answer Verdict → Outcome
   tried : Answer Trial → List ℕ → Outcome
+  left : List ℕ → Outcome
   printed : List ℕ → Outcome
 
 outcome : Input → Outcome
@@ -56,6 +59,7 @@ outcome (openingOf y) = moves (take 1 (plan y))
 outcome (planInto n y) = planned (planAnswer y (replicate n 9)) (planList y (replicate n 9))
 outcome (checkOf bs y) = checked (checkAnswer y bs)
 outcome (trialOf bs budget y) = tried (trialAnswer y bs budget) (trialPebbles y bs budget)
+outcome (pushesOf ms y) = left (after y ms)
 outcome (printOf sheet) = printed (program (text sheet))
 
 record Case : Type 0 where
@@ -104,6 +108,9 @@ cases =
     ∷ (trialOf planB 3 yardB gives tried (answered (record { taken = 2; planEnded = true })) (0 ∷ 1 ∷ 1 ∷ []))
     -- G
     ∷ (checkOf (0 ∷ 1 ∷ []) yardB gives checked (refused (row 13 0)))
+    -- pushes in a list: a refused one gives back the yard, and the next goes on from it
+    ∷ (pushesOf (push 0 1 ∷ push 1 2 ∷ push 0 1 ∷ []) yardB gives left (0 ∷ 1 ∷ 1 ∷ []))
+    ∷ (pushesOf (push 1 2 ∷ push 0 2 ∷ push 7 300 ∷ []) yardB gives left (1 ∷ 0 ∷ 1 ∷ []))
     -- H, and 5 with no root
     ∷ (testOf (yard (1 ∷ 0 ∷ []) [] []) gives refusal (fault 5 0))
     ∷ (testOf (yard (0 ∷ 1 ∷ []) [] []) gives refusal (fault 5 1))
