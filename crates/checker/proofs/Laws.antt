@@ -18,7 +18,7 @@ use Rattle.model.proofs.Basics.{none-all}
 use Rattle.model.proofs.Calls.{movesOf-half, totals-none}
 use Rattle.model.proofs.Step.{step, moved-tree}
 use Rattle.model.proofs.Moves.{moveFault-legal, after-legal, movesFault-legal}
-use Rattle.model.proofs.Demand2.{demand-2}
+use Rattle.model.proofs.Demand2.{check-excess}
 use Rattle.model.proofs.Trial.{take-again}
 
 -- the move at a place, and the first of those that are left of the front of a plan
@@ -123,7 +123,7 @@ module _ (y : Yard) (bs : List ℕ) (e : checkFault y bs ≡ none) where
   pub check-long : shortest y ≤ length bs / 2
   check-long =
       let v : Verdict = record { moves = length (movesOf bs); excess = length (movesOf bs) - shortest y } in
-      omega (arith, moves-half bs, demand-2 y (check-fit .0) (check-fit .1) .excess bs v (rw e))
+      omega (arith, moves-half bs, check-excess y (check-fit .0) (check-fit .1) bs v (rw e))
 
   pub check-answered : (x : ℕ) → x ≡ length bs / 2 - shortest y → answered (record { moves = length bs / 2; excess = x }) ≡ checkAnswer y bs
   check-answered x l = rw (e, l, moves-half bs)

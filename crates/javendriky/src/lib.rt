@@ -6,10 +6,10 @@ ghost use Prim.Native.Nat.{_+_, _*_};
 ghost use Rattle.model.specs.Yard.{Yard, yardOf};
 ghost use Rattle.model.specs.Judge.{judge};
 ghost use Rattle.model.specs.Push.{push, pushFault, legal, shifted};
-ghost use Rattle.model.specs.Calls.{inC, zeroInC, trialInC, answer, mapAnswer, demandsFault, demandsList, planAnswer, planList, checkFault, checkAnswer, trialAnswer, trialPebbles, boundAnswer, displacedAnswer};
+ghost use Rattle.model.specs.Calls.{inC, told, zeroInC, trialInC, answer, mapAnswer, demandsFault, demandsList, planAnswer, planList, checkFault, checkAnswer, trialAnswer, trialPebbles, boundAnswer, displacedAnswer};
 ghost use Rattle.model.specs.Paper.{paper, paperDone, paperCounted, paperTried};
-ghost use Rattle.planner.specs.Promise.{Promised};
 ghost use Rattle.model.specs.Sheets.{reader, readAnswer, filled, writeAnswer, writeList};
+ghost use Rattle.model.specs.Demand3.{Demand3};
 ghost use Rattle.model.proofs.Places.{Row, Small};
 use checker::check::check;
 use checker::check::test_plan;
@@ -89,7 +89,7 @@ pub extern "C" fn javendriky_plan(
 ) -> u32
     ensures { λ r. ⌜ r ≡ inC (planAnswer (yardOf (now (parents .entry)) (now (pebbles .entry)) (now (targets .entry))) (now (plan .entry))) ⌝ }
     ensures { λ r. ⌜ now (plan .exit) ≡ planList (yardOf (now (parents .entry)) (now (pebbles .entry)) (now (targets .entry))) (now (plan .entry)) ⌝ }
-    ensures { λ r. ⌜ Promised (yardOf (now (parents .entry)) (now (pebbles .entry)) (now (targets .entry))) (now (plan .entry)) (planAnswer (yardOf (now (parents .entry)) (now (pebbles .entry)) (now (targets .entry))) (now (plan .entry))) (now (plan .exit)) ⌝ }
+    ensures { λ r. ⌜ Demand3 (yardOf (now (parents .entry)) (now (pebbles .entry)) (now (targets .entry))) (now (plan .entry)) (told r) (now (plan .exit)) ⌝ }
 {
     counted(planner::plan::plan(parents, pebbles, targets, plan))
 }

@@ -2,9 +2,9 @@
 ghost use mathlib.Core.Path.{_≡_};
 ghost use mathlib.Core.List.{[]};
 ghost use Prim.Native.Nat.{ℕ, _<_, _≤_};
-ghost use lib.ListN.{length, take, drop};
+ghost use lib.ListN.{length};
 ghost use Rattle.model.specs.Yard.{yardOf, up};
-ghost use Rattle.model.specs.Judge.{firstOf, tests, judge};
+ghost use Rattle.model.specs.Judge.{firstOf, lengthTests, entryTests, shapeTests, judge};
 ghost use Rattle.model.specs.Paper.{paperDone};
 use crate::circle::first_circle;
 use crate::scan::first_at_least;
@@ -14,7 +14,7 @@ use model::Refusal;
 
 // Refusals 1 and 2.
 pub fn test_lengths(parents: &[u8], pebbles: &[u8], targets: &[u8]) -> Done
-    ensures { λ r. ⌜ paperDone r ≡ firstOf (take 2 (tests (yardOf (now (parents .entry)) (now (pebbles .entry)) (now (targets .entry))))) ⌝ }
+    ensures { λ r. ⌜ paperDone r ≡ firstOf (lengthTests (yardOf (now (parents .entry)) (now (pebbles .entry)) (now (targets .entry)))) ⌝ }
 {
     let n = parents.len();
     if n == 0 {
@@ -35,7 +35,7 @@ pub fn test_lengths(parents: &[u8], pebbles: &[u8], targets: &[u8]) -> Done
 // Refusals 3 and 4, of lists of one length.
 fn test_entries(parents: &[u8], pebbles: &[u8], targets: &[u8]) -> Done
     requires { ⌜ (length (now pebbles) ≡ length (now parents)) × (length (now targets) ≡ length (now parents)) ⌝ }
-    ensures { λ r. ⌜ paperDone r ≡ firstOf (take 3 (drop 2 (tests (yardOf (now (parents .entry)) (now (pebbles .entry)) (now (targets .entry)))))) ⌝ }
+    ensures { λ r. ⌜ paperDone r ≡ firstOf (entryTests (yardOf (now (parents .entry)) (now (pebbles .entry)) (now (targets .entry)))) ⌝ }
 {
     let n = parents.len();
     let pebble = first_at_least(pebbles, 2);
@@ -56,7 +56,7 @@ fn test_entries(parents: &[u8], pebbles: &[u8], targets: &[u8]) -> Done
 // Refusals 5 and 6, of parents that are nodes.
 fn test_shape(parents: &[u8]) -> Done
     requires { ⌜ (length (now parents) ≤ 256) × ((v : ℕ) → v < length (now parents) → up (now parents) v < length (now parents)) ⌝ }
-    ensures { λ r. ⌜ paperDone r ≡ firstOf (drop 5 (tests (yardOf (now (parents .entry)) [] []))) ⌝ }
+    ensures { λ r. ⌜ paperDone r ≡ firstOf (shapeTests (yardOf (now (parents .entry)) [] [])) ⌝ }
 {
     let n = parents.len();
     let root = first_own(parents, 0);

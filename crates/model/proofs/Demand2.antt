@@ -7,7 +7,7 @@ use mathlib.Core.Logic.{_≢_, _↔_, _⊎_, inl, inr}
 use mathlib.Core.Bool.{Bool, true, false, not, _&&_, _||_, or-true, and-eq-true-iff}
 use mathlib.Core.List.{List, []}
 use mathlib.Core.Option.{none}
-use Prim.Native.Nat.{ℕ, zero, suc, _-_, _*_, _%_, _≤_, _<_}
+use Prim.Native.Nat.{ℕ, zero, suc, _+_, _-_, _*_, _%_, _≤_, _<_}
 use native.Mathlib.Nat.{sub-self, mul-mod-right}
 use native.Mathlib.Omega.{arith}
 use lib.ListN.{length, drop, getD, set}
@@ -18,7 +18,7 @@ use Rattle.model.specs.Yard.{Yard, size, parent, pebble, target, held, h
 use Rattle.model.specs.Judge.{row, atLowest, Tree}
 use Rattle.model.specs.Push.{Move, push, adjacent, moveTests, moveFault, shifted, run, accepted, Solved}
 use Rattle.model.specs.Plan.{plan}
-use Rattle.model.specs.Calls.{refused, bytes, movesOf, planAnswer, maxPlanBytes, bytesFault, endFault, Verdict, checkTests, checkFault, checkAnswer, figureFault, boundAnswer, displacedAnswer}
+use Rattle.model.specs.Calls.{answered, refused, bytes, movesOf, planAnswer, maxPlanBytes, bytesFault, endFault, Verdict, checkTests, checkFault, checkAnswer, figureFault, boundAnswer, displacedAnswer}
 use Rattle.model.specs.Demand2.{Carries, Demand2}
 use Rattle.model.proofs.Basics.{below-none, none-below, none-all, all-none, atLowest-none}
 use Rattle.model.proofs.Sums.{sum-cong, sum-tight, length-below}
@@ -107,6 +107,23 @@ module _ (y : Yard) (t : Tree y) (m : Matched y) where
         λ h. all-none (checkTests y bs) (t, (totals-none y .1 m, (h .0, (moves .1 (h .1), (end .1 (h .2), tt))))),
       )
 
+  -- the excess: what the moves are more than the shortest length, which is never less than none
+  pub check-excess : (bs : List ℕ) (v : Verdict) → checkAnswer y bs ≡ answered v → (v .moves ≡ length (movesOf bs)) × (v .moves ≡ shortest y + v .excess)
+  check-excess bs v e =
+      let a = answer-answered (checkFault y bs) _ v e in
+      let h = checkFault-none bs .0 (a .0) in
+      rw (← (a .1)) (refl, omega (arith, rw (h .1) at (shortest-least y t (movesOf bs) (h .2))))
+
+  -- none for whatever list of the shortest length is accepted and solves the yard, the plan among them
+  pub check-shortest : (ms : List Move) → accepted y ms ≡ ms → Solved (run y ms) → length ms ≡ shortest y → checkAnswer y (bytes ms) ≡ answered (record { moves = length ms; excess = 0 })
+  check-shortest ms o h l =
+      let e = movesOf-bytes ms in
+      let b = bytesFault-even (bytes ms) (length ms) (length-bytes ms) (omega (arith, shortest-fits y t m)) in
+      rw (checkFault-none (bytes ms) .1 (b, rw e o, rw e h), e, l, sub-self)
+
+  pub check-plan : checkAnswer y (bytes (plan y)) ≡ answered (record { moves = length (plan y); excess = 0 })
+  check-plan = check-shortest (plan y) (plan-good y t m .obeyed) (plan-solves y t m) (plan-length y t m)
+
   pub demand-2 : Demand2 y
   demand-2 = record {
     planner = λ list h.
@@ -118,14 +135,6 @@ module _ (y : Yard) (t : Tree y) (m : Matched y) where
           let h = carries-solved y t (movesOf bs) .1 c in
           (verdict (movesOf bs), rw (checkFault-none bs .1 (bytesFault-even bs k e l, h .0, h .1))),
     );
-    excess = λ bs v e.
-        let a = answer-answered (checkFault y bs) (verdict (movesOf bs)) v e in
-        let h = checkFault-none bs .0 (a .0) in
-        rw (← (a .1)) (refl, omega (arith, rw (h .1) at (shortest-least y t (movesOf bs) (h .2))));
-    spare-none =
-        let e = movesOf-bytes (plan y) in
-        let b = bytesFault-even (bytes (plan y)) (length (plan y)) (length-bytes (plan y)) (omega (arith, plan-length y t m, shortest-fits y t m)) in
-        rw (checkFault-none (bytes (plan y)) .1 (b, rw e (plan-good y t m .obeyed), rw e (plan-solves y t m)), e, plan-length y t m, sub-self);
   }
     where
       verdict : List Move → Verdict

@@ -9,16 +9,19 @@ use lib.ListN.{length, take, drop}
 use lib.Dec.{leb}
 use Rattle.model.specs.Yard.{Yard, size, pebble, target, shortest, pebbleCount, Matched}
 use Rattle.model.specs.Judge.{row, Tree}
-use Rattle.model.specs.Push.{Move, run, Solved}
+use Rattle.model.specs.Push.{Move, run, accepted, Solved}
 use Rattle.model.specs.Plan.{plan}
+use Rattle.model.specs.Follow.{lifo}
 use Rattle.model.specs.Calls.{answered, refused, bytes, movesOf, planTests, planFault, planAnswer, planList}
 use Rattle.model.specs.Sheets.{programPlanBytes}
 use Rattle.model.specs.Demand3.{Optimal, Demand3}
 use Rattle.model.proofs.Sums.{sum-cong}
 use Rattle.model.proofs.Demands.{even-solved, solved-iff}
 use Rattle.model.proofs.Bounds.{shortest-bound, shortest-max, shortest-fits}
-use Rattle.model.proofs.Runs.{obeys, run-tree, pebbleCount-run}
-use Rattle.model.proofs.Shortest.{shortest-least, thrifty-crosses, thrifty-once, good-tree, good-thrifty}
+use Rattle.model.proofs.Runs.{pebbleCount-run}
+use Rattle.model.proofs.Shortest.{shortest-least, thrifty-crosses, good-tree, good-thrifty}
+use Rattle.model.proofs.Follow.{follows-simple}
+use Rattle.model.proofs.LastIn.{lifo-follows}
 use Rattle.model.proofs.Balance.{plan-good, plan-even}
 use Rattle.model.proofs.Calls.{answer-answered, movesOf-bytes, length-bytes, take-overwrite, plan-none, other-unless, seven}
 
@@ -51,7 +54,8 @@ module _ (y : Yard) (t : Tree y) where
       solves = plan-solves;
       crossed = λ v l. omega (arith, thrifty-crosses y t (plan y) (good-thrifty y t (plan y) (plan-good y t m)) v l, plan-even y t m v l);
       least = λ ps h. omega (arith, plan-length, shortest-least y t ps h);
-      simple = λ ps h e s _ _ v l. omega (arith, thrifty-once y t ps (omega (arith, e, plan-length, solved-iff (run y ps) (run-tree (obeys ps y t) t) .0 h)) s v l);
+      followed = λ ps. let r = lifo-follows y t ps in (lifo y (accepted y ps), r .0, r .1);
+      simple = λ ps h e f. follows-simple y t ps f h (e ∙ plan-length);
     }
 
 module _ (y : Yard) (list : List ℕ) where
@@ -65,7 +69,7 @@ module _ (y : Yard) (list : List ℕ) where
   unfolding planFault
   plan-seven t = seven y t (length (plan y)) (drop 2 (planTests y (length list))) (other-unless 7 8 (length (plan y)) (omega arith) (leb (2 * length (plan y)) (length list)), tt)
 
-  pub demand-3 : Demand3 y list
+  pub demand-3 : Demand3 y list (planAnswer y list) (planList y list)
   demand-3 = record {
     accepts = ((λ a. n .0 (answer-answered (planFault y (length list)) (length (plan y)) (a .0) (a .1) .0)), λ h. (length (plan y), rw (n .1 h)));
     planned = λ m e.

@@ -1,17 +1,17 @@
 -- What a yard is that no test of refusals 1 to 6 refuses: a tree, with no more pebbles or targets at a node than it has room for.
-use mathlib.Core.Path.{_≡_, refl, sym, subst}
+use mathlib.Core.Path.{_≡_, refl, sym, ap, subst}
 use mathlib.Core.Logic.{_↔_}
 use mathlib.Core.Bool.{Bool, true, false, not, and-eq-true-iff}
 use mathlib.Core.List.{List, [], _∷_}
 use mathlib.Core.Option.{none}
 use Prim.Native.Nat.{ℕ, _≤_, _<_}
 use native.Mathlib.Omega.{arith}
-use lib.ListN.{length, take}
+use lib.ListN.{length, getD}
 use lib.Dec.{leb, ltb, eqb}
-use borrow.Author.Tests.{ltb-true, ltb-false, leb-true, leb-false, eqb-true, eq-eqb, not-false}
-use Rattle.model.specs.Yard.{Yard, size, parent, pebble, target, capacity, below, headOr, roots, root, climbs, inside}
-use Rattle.model.specs.Judge.{firstOf, atLowest, rootFault, tests, judge, Tree}
-use Rattle.model.proofs.Basics.{All, all-below, below-all, below-none, none-all, all-none, unless-none, atLowest-none}
+use borrow.Author.Tests.{ltb-true, ltb-false, leb-true, leb-false, eqb-true, eq-eqb, le-ltb, not-false}
+use Rattle.model.specs.Yard.{Yard, yardOf, size, parent, pebble, target, capacity, below, headOr, roots, root, climbs, inside}
+use Rattle.model.specs.Judge.{firstOf, atLowest, rootFault, entryTests, tests, judge, Tree}
+use Rattle.model.proofs.Basics.{All, none-below, all-below, below-all, below-none, none-all, all-none, unless-none, atLowest-none}
 use Rattle.model.proofs.Climb.{never}
 use Rattle.model.proofs.Trees.{Wood}
 
@@ -32,6 +32,22 @@ pub record Facts (y : Yard) : Type 0 where
   pub capacity-pos : (v : ℕ) → v < size y → 0 < capacity y v
   pub pebble-le : (v : ℕ) → v < size y → pebble y v ≤ capacity y v
   pub target-le : (v : ℕ) → v < size y → target y v ≤ capacity y v
+
+-- the same nodes with other counts, none above their capacities, are a tree
+pub counted-tree : (y : Yard) → Tree y → (ps ts : List ℕ) → length ps ≡ size y → length ts ≡ size y
+    → ((u : ℕ) → u < size y → getD ps u 0 ≤ capacity y u) → ((u : ℕ) → u < size y → getD ts u 0 ≤ capacity y u) → Tree (yardOf (y .parents) ps ts)
+counted-tree y t ps ts lp lt hp ht =
+    let p = passed y t in
+    tree (yardOf (y .parents) ps ts) (
+      p .0,
+      (
+        rw (eq-eqb _ _ lp, eq-eqb _ _ lt),
+        (
+          ap (atLowest 3) (none-below (size y) _ (λ u l. le-ltb _ _ (hp u l))),
+          (ap (atLowest 3) (none-below (size y) _ (λ u l. le-ltb _ _ (ht u l))), p .1 .1 .1 .1),
+        ),
+      ),
+    )
 
 one-root : (l : List ℕ) → rootFault l ≡ none → l ≡ headOr 0 l ∷ []
 one-root [] e = cc
@@ -77,10 +93,10 @@ facts y t = record {
     own : All (λ v. (v < size y) × (parent y v ≡ v)) (root y ∷ [])
     own = subst (All (λ v. (v < size y) × (parent y v ≡ v))) single (all-below (λ v. (v < size y) × (parent y v ≡ v)) isRoot (size y) (λ v l e. (l, eqb-true (parent y v) v e)))
 
--- of a yard past refusals 1 to 5, refusal 6's test by as many steps as there are nodes says that no number of steps reaches the root
-pub never-root : (y : Yard) → firstOf (take 6 (tests y)) ≡ none → (v : ℕ) → v < size y
+-- of a yard past refusal 4, refusal 6's test by as many steps as there are nodes says that no number of steps reaches the root
+pub never-root : (y : Yard) → firstOf (entryTests y) ≡ none → (v : ℕ) → v < size y
     → (climbs (size y) (y .parents) v (root y) ≡ false) ↔ ((k : ℕ) → climbs k (y .parents) v (root y) ≡ false)
-never-root y p = never (y .parents) (parents-in y (none-all (take 6 (tests y)) p .1 .1 .1 .1 .0)) (root y)
+never-root y p = never (y .parents) (parents-in y (none-all (entryTests y) p .1 .1 .0)) (root y)
 
 pub wood : (y : Yard) → Tree y → Wood (y .parents) (root y)
 wood y t = facts y t .wood

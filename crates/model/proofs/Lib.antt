@@ -12,11 +12,14 @@ pub mod Step
 pub mod Signed
 pub mod Runs
 pub mod Shortest
+pub mod Follow
+pub mod LastIn
 pub mod Choice
 pub mod Plan
 pub mod Serve
 pub mod Balance
 pub mod Calls
+pub mod Yards
 pub mod Demand3
 pub mod Moves
 pub mod Demand2

@@ -5,18 +5,18 @@ use mathlib.Core.Path.{_≡_, refl, ap}
 use mathlib.Core.Bool.{Bool, true, false, not, cond, _&&_, and-eq-true-iff}
 use mathlib.Core.List.{List, [], _∷_}
 use mathlib.Core.Option.{Option, none, some}
-use Prim.Native.Nat.{ℕ, suc, _+_, _-_, _*_, _%_, _≤_, _<_}
+use Prim.Native.Nat.{ℕ, suc, _+_, _-_, _*_, _/_, _%_, _≤_, _<_}
 use native.Mathlib.Nat.{mul-le-mul}
 use native.Mathlib.Omega.{arith}
 use lib.ListN.{length, drop, length-take}
 use lib.IntN.{ℤ}
 use lib.Dec.{leb, ltb, eqb}
-use borrow.Author.Tests.{leb-true, le-leb}
+use borrow.Author.Tests.{leb-true, le-leb, lt-ltb, le-ltb}
 use Rattle.model.specs.Yard.{Yard, size, maxSize, parent, pebble, target, full, held, below, roots, pebbleCount, targetCount, Matched}
 use Rattle.model.specs.Judge.{Fault, row, fault, firstOf, unless, atLowest, sizeFault, lengthFault, rootFault, tests, judge, Tree}
 use Rattle.model.specs.Push.{Move, adjacent, moveTests, moveFault, pushFault, pushed}
 use Rattle.model.specs.Plan.{plan}
-use Rattle.model.specs.Calls.{Answer, answered, refused, inC, answer, mapAnswer, demandsTests, demandsFault, totalsFault, planTests, planFault, maxPlanBytes, bytesFault, movesOf, movesFault, Verdict, checkTests, checkFault, checkAnswer, within, trialTests, trialFault, trialAnswer, trialInC, figureTests, figureFault, boundAnswer, displacedAnswer}
+use Rattle.model.specs.Calls.{Answer, answered, refused, inC, told, answer, mapAnswer, demandsTests, demandsFault, totalsFault, planTests, planFault, maxPlanBytes, bytesFault, movesOf, movesFault, Verdict, checkTests, checkFault, checkAnswer, within, trialTests, trialFault, trialAnswer, trialInC, figureTests, figureFault, boundAnswer, displacedAnswer}
 use Rattle.model.specs.Sheets.{maxSheetBytes, yardSheet, readYard, reader, readAnswer, writeTests, writeFault, writeAnswer}
 use Rattle.model.proofs.Basics.{All, all-below, none-all, unless-none}
 use Rattle.model.proofs.Sums.{sum-mono, sum-le}
@@ -49,14 +49,14 @@ small n Low.passes h = h refl
 small n (Low.refuses l) h = l
 
 -- the number tells the answer
-pub tells : (a b : Answer ℕ) → Small a → Small b → inC a ≡ inC b → a ≡ b
-tells (answered m) (answered n) h k e = ap answered e
-tells (answered m) (refused g) h k e = absurd (omega arith)
-tells (refused f) (answered n) h k e = absurd (omega arith)
-tells (refused f) (refused g) h k e =
-    let p : f .number ≡ g .number = omega arith in
-    let q : f .place ≡ g .place = omega arith in
-    rw (p, q)
+pub tells : (a : Answer ℕ) → Small a → told (inC a) ≡ a
+tells (answered n) h = rw (lt-ltb n 1_000_000 h)
+tells (refused f) h =
+    let l = h .placed in
+    let r = f .number * 1_000_000 + f .place in
+    let p : r / 1_000_000 ≡ f .number = omega arith in
+    let q : r % 1_000_000 ≡ f .place = omega arith in
+    rw (le-ltb r 1_000_000 (omega (arith, h .numbered)), p, q)
 
 -- a value worked out of an answer
 pub map-answer : {A B : Type 0} (g : A → B) (f : Option Fault) (a : A) → mapAnswer g (answer f a) ≡ answer f (g a)

@@ -2,19 +2,16 @@
 use mathlib.Core.Path.{_≡_, refl, ap, _∙_}
 use mathlib.Core.Bool.{Bool, true, false, cond}
 use mathlib.Core.List.{List, [], _∷_, _++_}
-use Prim.Native.Nat.{ℕ, _+_, _*_, _≤_}
+use Prim.Native.Nat.{ℕ, _+_}
 use native.Mathlib.Omega.{arith}
 use lib.ListN.{length}
-use lib.Dec.{eqb}
-use borrow.Author.Tests.{eqb-true}
-use Rattle.model.specs.Yard.{Yard, size, pebble, holding, one, sum, root, inside, pebblesIn, pebbleCount}
+use Rattle.model.specs.Yard.{Yard, size, pebble, holding, one, sum, root, pebblesIn, pebbleCount}
 use Rattle.model.specs.Judge.{Tree}
-use Rattle.model.specs.Push.{Move, legal, shifted, moved, pushed, after, run, accepted, isUp, isDown, count, journey}
-use Rattle.model.proofs.Basics.{one-le}
+use Rattle.model.specs.Push.{Move, legal, shifted, moved, pushed, after, run, accepted, isUp, isDown, count}
 use Rattle.model.proofs.Sums.{sum-cong, sum-add, sum-zero}
 use Rattle.model.proofs.Judged.{wood}
 use Rattle.model.proofs.Demands.{root-subtotal}
-use Rattle.model.proofs.Step.{Step, step, moved-tree, inside-ends, pebblesIn-moved, one-edge, root-uncrossed}
+use Rattle.model.proofs.Step.{Step, step, moved-tree, pebblesIn-moved, one-edge, root-uncrossed}
 
 -- a list of legal pushes from y to z
 pub data Obeys : Yard → List Move → Yard → Type 0 where
@@ -55,31 +52,12 @@ pebbleCount-run y t ms =
     omega (arith, pebblesIn-run o (root y), root-run o, root-subtotal (wood y t) (pebble y), root-subtotal (wood y t) (pebble (run y ms)))
 
 -- each push crosses one edge
-pub crossings : {y z : Yard} {ms : List Move} → Obeys y ms z → sum (size y) (λ v. count (isUp y v) ms + count (isDown y v) ms) ≡ length ms
+pub crossings-length : {y z : Yard} {ms : List Move} → Obeys y ms z → sum (size y) (λ v. count (isUp y v) ms + count (isDown y v) ms) ≡ length ms
 unfolding count
-crossings (done {y}) = sum-zero (size y) _ (λ v _. refl)
-crossings (next {y} {m = m} {ms = ms} s o) =
+crossings-length (done {y}) = sum-zero (size y) _ (λ v _. refl)
+crossings-length (next {y} {m = m} {ms = ms} s o) =
     sum-cong (size y) _ (λ v. (one (isUp y v m) + one (isDown y v m)) + (count (isUp y v) ms + count (isDown y v) ms)) (λ v _. omega arith)
-    ∙ sum-add (size y) _ _ ∙ omega (arith, one-edge y m s, crossings o)
-
--- how often the pebble that stands at s crosses the edge of v in a list of accepted moves
-abbrev pub crossing-count : Yard → List Move → ℕ → ℕ → ℕ
-crossing-count y ms s v = count (isUp y v) (journey s ms) + count (isDown y v) (journey s ms)
-
-abbrev Followed : Yard → List Move → ℕ → ℕ → Type 0
-Followed y ms s v =
-    (crossing-count y ms s v ≤ one (inside (y .parents) v s) + 2 * count (isDown y v) ms)
-    × (crossing-count y ms s v + one (inside (y .parents) v s) ≤ 1 + 2 * count (isUp y v) ms)
-
--- a pebble crosses an edge towards the root from inside only, and away from it from outside only: so twice only if others go both ways
-pub followed-le : {y z : Yard} {ms : List Move} → Obeys y ms z → (s v : ℕ) → Followed y ms s v
-unfolding count journey
-followed-le (done {y}) s v = omega (arith, one-le (inside (y .parents) v s))
-followed-le (next {y} {m = m} {ms = ms} p o) s v = go (eqb (m .from) s) refl (followed-le o)
-  where
-    go : (b : Bool) → eqb (m .from) s ≡ b → ((s v : ℕ) → Followed (moved y m) ms s v) → Followed y (m ∷ ms) s v
-    go true e ih = rw (e, ← (eqb-true (m .from) s e)) (omega (arith, ih (m .to) v, inside-ends y m p v))
-    go false e ih = rw e (omega (arith, ih s v))
+    ∙ sum-add (size y) _ _ ∙ omega (arith, one-edge y m s, crossings-length o)
 
 -- two lists, one after the other
 pub after-append : (ms ns : List Move) (y : Yard) → after y (ms ++ ns) ≡ after (run y ms) ns

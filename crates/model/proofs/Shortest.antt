@@ -1,5 +1,5 @@
 -- The shortest length falls by one at most with each accepted push, as each changes one demand by one. A list by which it falls with each
--- crosses every edge one way only, as its demand says, so with it no pebble crosses a edge twice.
+-- crosses every edge one way only, as its demand says.
 use mathlib.Core.Path.{_≡_, refl, ap, _∙_}
 use mathlib.Core.Logic.{_⊎_, inl, inr}
 use mathlib.Core.Bool.{Bool, true, false, not}
@@ -8,14 +8,13 @@ use Prim.Native.Nat.{ℕ, _+_, _-_, _≤_, _<_}
 use native.Mathlib.Omega.{arith}
 use native.Mathlib.Decide.{decLt}
 use lib.ListN.{length, length-append}
-use Rattle.model.specs.Yard.{Yard, size, one, sum, inside, pebblesIn, targetsIn, lacking, surplus, imbalance, shortest}
+use Rattle.model.specs.Yard.{Yard, size, one, sum, pebblesIn, targetsIn, lacking, surplus, imbalance, shortest}
 use Rattle.model.specs.Judge.{Tree}
-use Rattle.model.specs.Push.{Move, moved, after, run, accepted, Solved, ups, downs, crossedBy}
-use Rattle.model.proofs.Basics.{one-le}
+use Rattle.model.specs.Push.{Move, moved, after, run, accepted, Solved, ups, downs}
 use Rattle.model.proofs.Sums.{sum-mono, sum-add, sum-tight, sum-by-one}
 use Rattle.model.proofs.Demands.{solved-iff}
 use Rattle.model.proofs.Step.{need, Step, legal-step, pebblesIn-node, pebblesIn-other}
-use Rattle.model.proofs.Runs.{Obeys, obeys, run-tree, pebblesIn-run, crossings, followed-le, after-append, accepted-append, run-one}
+use Rattle.model.proofs.Runs.{Obeys, obeys, run-tree, pebblesIn-run, crossings-length, after-append, accepted-append, run-one}
 
 -- the accepted pushes of a list each lower the shortest length
 abbrev pub Thrifty : Yard → List Move → Type 0
@@ -34,7 +33,7 @@ module _ (y : Yard) (t : Tree y) (ms : List Move) where
 
   all : sum (size y) (λ v. imbalance (run y ms) v + (ups y ms v + downs y ms v)) ≡ shortest (run y ms) + length (accepted y ms)
   unfolding shortest
-  all = sum-add (size y) _ _ ∙ ap (λ (x : ℕ). shortest (run y ms) + x) (crossings o)
+  all = sum-add (size y) _ _ ∙ ap (λ (x : ℕ). shortest (run y ms) + x) (crossings-length o)
 
   pub shortest-run : shortest y ≤ shortest (run y ms) + length (accepted y ms)
   unfolding shortest
@@ -49,10 +48,6 @@ module _ (y : Yard) (t : Tree y) (ms : List Move) where
     where
       after-all : ℕ → ℕ
       after-all v = imbalance (run y ms) v + (ups y ms v + downs y ms v)
-
-  -- one of the two parts of a demand is 0, so the pushes over a edge all go one way
-  pub thrifty-once : Thrifty y ms → (s v : ℕ) → v < size y → crossedBy y ms s v ≤ 1
-  thrifty-once h s v l = omega (arith, thrifty-crosses h v l, followed-le o s v, one-le (inside (y .parents) v s))
 
 -- a list of pushes all of which are accepted and lower the shortest length
 pub record Good (y : Yard) (ms : List Move) : Type 0 where

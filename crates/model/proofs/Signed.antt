@@ -9,7 +9,7 @@ use native.Mathlib.Nat.{add-zero, add-suc, one-mul, zero-mul}
 use lib.Dec.{ltb}
 use lib.IntN.{ℤ, pos, negsuc, natAbs, subℕ, sucℤ, predℤ, _+ℤ_, suc-pred, +ℤ-sucℤ, +ℤ-predℤ, sucℤ-+ℤ, +ℤ-idl, +ℤ-idr, +ℤ-assoc}
 use borrow.Author.Tests.{ltb-true, ltb-false, lt-ltb, le-ltb}
-use Rattle.model.specs.Yard.{Yard, size, maxSize, pebble, target, one, sum, below, isChild, children, targetsIn, pebblesIn, demand, lacking, surplus, imbalance, shortest}
+use Rattle.model.specs.Yard.{Yard, size, maxSize, maxDemand, pebble, target, one, sum, below, isChild, children, targetsIn, pebblesIn, demand, lacking, surplus, imbalance, shortest}
 use Rattle.model.specs.Judge.{Tree}
 use Rattle.model.specs.Push.{Move, moved, Solved}
 use Rattle.model.proofs.Sums.{sum-mono, sum-scale, sum-le}
@@ -52,7 +52,7 @@ pub demand-size : (y : Yard) (v : ℕ) → natAbs (demand y v) ≡ imbalance y v
 demand-size y v = parts-size (demand y v) ∙ rw (demand-parts y v .0, demand-parts y v .1)
 
 -- it lies from −256 to 256, whatever the totals: no subtree has more nodes, and no node more than one pebble or target
-pub demand-range : (y : Yard) → Tree y → (v : ℕ) → natAbs (demand y v) ≤ maxSize
+pub demand-range : (y : Yard) → Tree y → (v : ℕ) → natAbs (demand y v) ≤ maxDemand
 demand-range y t v = rw (demand-size y v) (omega (
   arith,
   facts y t .few,

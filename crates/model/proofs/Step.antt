@@ -10,14 +10,14 @@ use native.Mathlib.Decide.{ℕ-discrete}
 use lib.ListN.{length, getD, set, length-set}
 use lib.Seq.{getD-set-same, getD-set-other}
 use lib.Dec.{ltb, eqb}
-use borrow.Author.Tests.{ltb-true, leb-false, eqb-true, eqb-false, lt-ltb, le-ltb, lt-leb, eq-eqb, ne-eqb, not-true}
+use borrow.Author.Tests.{ltb-true, leb-false, eqb-true, eqb-false, lt-ltb, lt-leb, eq-eqb, ne-eqb, not-true}
 use Rattle.model.specs.Yard.{Yard, size, up, parent, pebble, capacity, one, sum, root, inside, subtotal, pebblesIn, lacking, surplus}
-use Rattle.model.specs.Judge.{Fault, atLowest, judge, Tree}
+use Rattle.model.specs.Judge.{Fault, judge, Tree}
 use Rattle.model.specs.Push.{Move, push, adjacent, moveTests, moveFault, pushFault, isNone, legal, shifted, moved, isUp, isDown}
-use Rattle.model.proofs.Basics.{not-so, eqb-sym, none-below, none-all, all-none, unless-none}
+use Rattle.model.proofs.Basics.{not-so, eqb-sym, none-all, all-none, unless-none}
 use Rattle.model.proofs.Sums.{sum-cong, sum-pick, sum-shift}
 use Rattle.model.proofs.Trees.{Wood, one-step, no-pair}
-use Rattle.model.proofs.Judged.{passed, tree, facts, wood}
+use Rattle.model.proofs.Judged.{facts, wood, counted-tree}
 
 -- the push over the edge of c, away from the root or towards it
 abbrev pub crossing : List ℕ → Bool → ℕ → Move
@@ -189,9 +189,7 @@ module _ (y : Yard) (m : Move) where
 
     pub moved-tree : Tree (moved y m)
     unfolding shifted
-    moved-tree =
-        let p = passed y (s .tree) in
-        tree (moved y m) (p .0, (rw (eq-eqb _ _ long, eq-eqb _ _ (facts y (s .tree) .targets-size)), (ap (atLowest 3) (none-below (size y) _ (λ v l. le-ltb _ _ (small v l))), p .1 .1 .1)))
+    moved-tree = counted-tree y (s .tree) (shifted (y .pebbles) m) (y .targets) long (facts y (s .tree) .targets-size) small (facts y (s .tree) .target-le)
       where
         long : length (shifted (y .pebbles) m) ≡ size y
         long = simp length-set (facts y (s .tree) .pebbles-size)

@@ -2,15 +2,15 @@
 use mathlib.Core.Path.{_≡_, sym, ap, _∙_}
 use mathlib.Core.Logic.{_≢_}
 use mathlib.Core.Bool.{Bool, not, _&&_, and-eq-true-iff}
-use mathlib.Core.List.{List, [], _∷_}
+use mathlib.Core.List.{List, [], _∷_, _++_}
 use mathlib.Core.Option.{Option, none, some}
 use Prim.Native.Nat.{ℕ, _+_, _≤_, _<_}
 use native.Mathlib.Omega.{arith}
-use lib.ListN.{length, getD, take, drop}
+use lib.ListN.{length, getD}
 use lib.Dec.{leb, ltb, eqb, leb·zero}
 use borrow.Author.Tests.{ltb-true, leb-true, eqb-true, lt-ltb, le-leb, lt-leb, leb-false, eq-eqb, ne-eqb}
 use Rattle.model.specs.Yard.{Yard, yardOf, maxSize, up, below, climbs, roots, headOr}
-use Rattle.model.specs.Judge.{Fault, fault, firstOf, sizeFault, rootFault, tests, judge}
+use Rattle.model.specs.Judge.{Fault, fault, firstOf, sizeFault, rootFault, lengthTests, entryTests, shapeTests, judge}
 use Rattle.model.proofs.Basics.{first-refused, first-passed, below-none, none-all, unless-none, atLowest-none}
 use Rattle.model.proofs.Found.{lowest-fault, lowest-none, lowest-is, below-rest, below-cong}
 
@@ -19,28 +19,28 @@ module _ (ps qs ts : List ℕ) where
   abbrev y : Yard
   y = yardOf ps qs ts
 
-  pub size-zero : length ps ≡ 0 → fault 1 0 ≡ firstOf (take 2 (tests y))
+  pub size-zero : length ps ≡ 0 → fault 1 0 ≡ firstOf (lengthTests y)
   size-zero e = rw e
 
-  pub size-large : maxSize < length ps → fault 1 0 ≡ firstOf (take 2 (tests y))
+  pub size-large : maxSize < length ps → fault 1 0 ≡ firstOf (lengthTests y)
   size-large l = rw (lt-ltb 0 (length ps) (omega arith), lt-leb (length ps) maxSize l)
 
   module _ (l : 0 < length ps) (m : length ps ≤ maxSize) where
     size-fits : sizeFault y ≡ none
     size-fits = rw (lt-ltb 0 (length ps) l, le-leb (length ps) maxSize m)
 
-    pub pebbles-length : length qs ≢ length ps → fault 2 0 ≡ firstOf (take 2 (tests y))
+    pub pebbles-length : length qs ≢ length ps → fault 2 0 ≡ firstOf (lengthTests y)
     pebbles-length d = rw (size-fits, ne-eqb (length qs) (length ps) d)
 
-    pub targets-length : length qs ≡ length ps → length ts ≢ length ps → fault 2 0 ≡ firstOf (take 2 (tests y))
+    pub targets-length : length qs ≡ length ps → length ts ≢ length ps → fault 2 0 ≡ firstOf (lengthTests y)
     targets-length e d = rw (size-fits, eq-eqb (length qs) (length ps) e, ne-eqb (length ts) (length ps) d)
 
-    pub lengths-pass : length qs ≡ length ps → length ts ≡ length ps → none ≡ firstOf (take 2 (tests y))
+    pub lengths-pass : length qs ≡ length ps → length ts ≡ length ps → none ≡ firstOf (lengthTests y)
     lengths-pass e f = rw (size-fits, eq-eqb (length qs) (length ps) e, eq-eqb (length ts) (length ps) f)
 
-  pub passed-lengths : none ≡ firstOf (take 2 (tests y)) → (0 < length ps) × (length ps ≤ maxSize) × (length qs ≡ length ps) × (length ts ≡ length ps)
+  pub passed-lengths : none ≡ firstOf (lengthTests y) → (0 < length ps) × (length ps ≤ maxSize) × (length qs ≡ length ps) × (length ts ≡ length ps)
   passed-lengths e =
-      let a = none-all (take 2 (tests y)) (sym e) in
+      let a = none-all (lengthTests y) (sym e) in
       let n = and-eq-true-iff (ltb 0 (length ps)) (leb (length ps) maxSize) .0 (unless-none _ 1 0 (a .0)) in
       let l = and-eq-true-iff (eqb (length qs) (length ps)) (eqb (length ts) (length ps)) .0 (unless-none _ 2 0 (a .1 .0)) in
       (ltb-true 0 (length ps) (n .0), leb-true (length ps) maxSize (n .1), eqb-true (length qs) (length ps) (l .0), eqb-true (length ts) (length ps) (l .1))
@@ -53,29 +53,29 @@ module _ (ps qs ts : List ℕ) where
   abbrev outside : ℕ → Bool
   outside v = leb (length ps) (getD ps v 0)
 
-  pub pebble-marked : (r : ℕ) → r ≡ headOr (length ps) (below (length ps) (above1 qs)) → r < length ps → fault 3 r ≡ firstOf (take 3 (drop 2 (tests (yardOf ps qs ts))))
+  pub pebble-marked : (r : ℕ) → r ≡ headOr (length ps) (below (length ps) (above1 qs)) → r < length ps → fault 3 r ≡ firstOf (entryTests (yardOf ps qs ts))
   pebble-marked r e l = rw (lowest-fault (length ps) (above1 qs) 3 r e l)
 
   module _ (p : ℕ) (e : p ≡ headOr (length ps) (below (length ps) (above1 qs))) (l : length ps ≤ p) where
-    pub target-marked : (r : ℕ) → r ≡ headOr (length ps) (below (length ps) (above1 ts)) → r < length ps → fault 3 r ≡ firstOf (take 3 (drop 2 (tests (yardOf ps qs ts))))
+    pub target-marked : (r : ℕ) → r ≡ headOr (length ps) (below (length ps) (above1 ts)) → r < length ps → fault 3 r ≡ firstOf (entryTests (yardOf ps qs ts))
     target-marked r f m = rw (lowest-none (length ps) (above1 qs) p e l, lowest-fault (length ps) (above1 ts) 3 r f m)
 
     module _ (t : ℕ) (f : t ≡ headOr (length ps) (below (length ps) (above1 ts))) (m : length ps ≤ t) where
-      pub parent-outside : (r : ℕ) → r ≡ headOr (length ps) (below (length ps) outside) → r < length ps → fault 4 r ≡ firstOf (take 3 (drop 2 (tests (yardOf ps qs ts))))
+      pub parent-outside : (r : ℕ) → r ≡ headOr (length ps) (below (length ps) outside) → r < length ps → fault 4 r ≡ firstOf (entryTests (yardOf ps qs ts))
       parent-outside r g n = rw (lowest-none (length ps) (above1 qs) p e l, lowest-none (length ps) (above1 ts) t f m, lowest-fault (length ps) outside 4 r g n)
 
-      pub entries-pass : (r : ℕ) → r ≡ headOr (length ps) (below (length ps) outside) → length ps ≤ r → none ≡ firstOf (take 3 (drop 2 (tests (yardOf ps qs ts))))
+      pub entries-pass : (r : ℕ) → r ≡ headOr (length ps) (below (length ps) outside) → length ps ≤ r → none ≡ firstOf (entryTests (yardOf ps qs ts))
       entries-pass r g n = rw (lowest-none (length ps) (above1 qs) p e l, lowest-none (length ps) (above1 ts) t f m, lowest-none (length ps) outside r g n)
 
-  pub passed-parents : none ≡ firstOf (take 3 (drop 2 (tests (yardOf ps qs ts)))) → (v : ℕ) → v < length ps → up ps v < length ps
+  pub passed-parents : none ≡ firstOf (entryTests (yardOf ps qs ts)) → (v : ℕ) → v < length ps → up ps v < length ps
   passed-parents e v l =
-      let a = none-all (take 3 (drop 2 (tests (yardOf ps qs ts)))) (sym e) in
+      let a = none-all (entryTests (yardOf ps qs ts)) (sym e) in
       leb-false (length ps) (up ps v) (below-none (length ps) outside (atLowest-none 4 (below (length ps) outside) (a .1 .1 .0)) v l)
 
 -- 5 and 6, by what the searches for a root, for a second one behind it and for a circle answer
 module _ (ps : List ℕ) where
   abbrev shape : List (Option Fault)
-  shape = drop 5 (tests (yardOf ps [] []))
+  shape = shapeTests (yardOf ps [] [])
 
   abbrev own : ℕ → ℕ → Bool
   own start v = (leb start v) && (eqb (up ps v) v)
@@ -116,15 +116,15 @@ module _ (ps : List ℕ) where
 
 -- all six, by the three groups
 module _ (y : Yard) where
-  pub judge-lengths : (f : Fault) → some f ≡ firstOf (take 2 (tests y)) → some f ≡ judge y
+  pub judge-lengths : (f : Fault) → some f ≡ firstOf (lengthTests y) → some f ≡ judge y
   unfolding judge
-  judge-lengths f e = sym (first-refused (take 2 (tests y)) (drop 2 (tests y)) f (sym e))
+  judge-lengths f e = sym (first-refused (lengthTests y) (entryTests y ++ shapeTests y) f (sym e))
 
-  module _ (p : none ≡ firstOf (take 2 (tests y))) where
-    pub judge-entries : (f : Fault) → some f ≡ firstOf (take 3 (drop 2 (tests y))) → some f ≡ judge y
+  module _ (p : none ≡ firstOf (lengthTests y)) where
+    pub judge-entries : (f : Fault) → some f ≡ firstOf (entryTests y) → some f ≡ judge y
     unfolding judge
-    judge-entries f e = sym (first-passed (take 2 (tests y)) (drop 2 (tests y)) (sym p) ∙ first-refused (take 3 (drop 2 (tests y))) (drop 5 (tests y)) f (sym e))
+    judge-entries f e = sym (first-passed (lengthTests y) (entryTests y ++ shapeTests y) (sym p) ∙ first-refused (entryTests y) (shapeTests y) f (sym e))
 
-    pub judge-shape : none ≡ firstOf (take 3 (drop 2 (tests y))) → firstOf (drop 5 (tests y)) ≡ judge y
+    pub judge-shape : none ≡ firstOf (entryTests y) → firstOf (shapeTests y) ≡ judge y
     unfolding judge
-    judge-shape e = sym (first-passed (take 2 (tests y)) (drop 2 (tests y)) (sym p) ∙ first-passed (take 3 (drop 2 (tests y))) (drop 5 (tests y)) (sym e))
+    judge-shape e = sym (first-passed (lengthTests y) (entryTests y ++ shapeTests y) (sym p) ∙ first-passed (entryTests y) (shapeTests y) (sym e))

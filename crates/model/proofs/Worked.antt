@@ -6,23 +6,17 @@ use mathlib.Core.List.{List, [], _∷_, map}
 use mathlib.Core.Option.{Option}
 use Prim.Native.Nat.{ℕ}
 use Prim.Native.String.{String}
-use lib.ListN.{length, take, set, replicate}
+use native.Mathlib.Omega.{arith}
+use lib.ListN.{take, replicate}
 use lib.IntN.{ℤ, pos, negsuc}
 use Rattle.model.specs.Yard.{Yard, yardOf, sum, below, roots, climbs, inside, subtotal, shortest}
 use Rattle.model.specs.Judge.{Fault, row, fault, judge}
 use Rattle.model.specs.Push.{Move, push, moveFault, pushFault, legal, shifted, after}
 use Rattle.model.specs.Plan.{needy, choice, inject, extract, turn, settle, each, balance, planWithin, plan}
+use Rattle.model.specs.Follow.{placed, starts, At, Follows, route}
 use Rattle.model.specs.Calls.{Answer, answered, refused, range, demandsFault, demandsList, bytes, movesOf, planFault, planAnswer, planList, movesFault, Verdict, checkFault, checkAnswer, Trial, trialFault, trialAnswer, trialPebbles}
 use Rattle.model.specs.Sheets.{text, digits, decimal, line, lines, header, cut, same, value, field, nodeLine, readNodes, readYard, moveSheet, refusalSheet, program}
-
--- a list of n marks with a 1 at some nodes
-marks : ℕ → List ℕ → List ℕ
-marks n [] = replicate n 0
-marks n (v ∷ vs) = set (marks n vs) v 1
-
--- a yard by its parents, the nodes that hold a pebble and the target nodes
-yard : List ℕ → List ℕ → List ℕ → Yard
-yard parents pebbles targets = yardOf parents (marks (length parents) pebbles) (marks (length parents) targets)
+use Rattle.model.proofs.Yards.{marks, yard, yardA, yardB, planB}
 
 data Input : Type 0 where
   demandsOf : Yard → Input
@@ -38,6 +32,8 @@ data Input : Type 0 where
   -- pushes, one after another, each on the yard that the one before gave back
   pushesOf : List Move → Yard → Input
   printOf : String → Input
+  -- where the pebbles start
+  startsOf : Yard → Input
 
 data Outcome : Type 0 where
   demands : List ℤ → Outcome
@@ -61,6 +57,7 @@ outcome (checkOf bs y) = checked (checkAnswer y bs)
 outcome (trialOf bs budget y) = tried (trialAnswer y bs budget) (trialPebbles y bs budget)
 outcome (pushesOf ms y) = left (after y ms)
 outcome (printOf sheet) = printed (program (text sheet))
+outcome (startsOf y) = left (starts y)
 
 record Case : Type 0 where
   input : Input
@@ -70,14 +67,9 @@ infix 1 _gives_
 _gives_ : Input → Outcome → Case
 i gives o = record { input = i; expected = o }
 
-yardA : Yard
-yardA = yard (0 ∷ 0 ∷ 0 ∷ 1 ∷ 1 ∷ []) (1 ∷ 3 ∷ []) (2 ∷ 4 ∷ [])
-
-yardB : Yard
-yardB = yard (0 ∷ 0 ∷ 1 ∷ []) (0 ∷ 1 ∷ []) (1 ∷ 2 ∷ [])
-
-planB : List ℕ
-planB = 1 ∷ 2 ∷ 0 ∷ 1 ∷ []
+-- two pebbles at node 1 and one at node 2
+siding : Yard
+siding = yardOf (0 ∷ 0 ∷ 0 ∷ []) (0 ∷ 2 ∷ 1 ∷ []) (1 ∷ 1 ∷ 1 ∷ [])
 
 cases : List Case
 cases =
@@ -151,8 +143,27 @@ cases =
     ∷ (openingOf (yard (0 ∷ 0 ∷ 0 ∷ 2 ∷ 0 ∷ 4 ∷ 5 ∷ []) (1 ∷ 2 ∷ 3 ∷ []) (4 ∷ 5 ∷ 6 ∷ [])) gives moves (push 1 0 ∷ []))
     -- the root is not 0, and parents have higher numbers than their children
     ∷ (planOf (yard (3 ∷ 3 ∷ 3 ∷ 4 ∷ 4 ∷ []) (0 ∷ 1 ∷ []) (2 ∷ 4 ∷ [])) gives moves (push 0 3 ∷ push 3 4 ∷ push 1 3 ∷ push 3 2 ∷ []))
+    -- pebbles 0 and 1 start at node 1, pebble 2 at node 2
+    ∷ (startsOf siding gives left (1 ∷ 1 ∷ 2 ∷ []))
     ∷ []
 
 worked : map (λ (c : Case). outcome (c .input)) cases ≡ map (λ (c : Case). c .expected) cases
-unfolding cases _gives_ outcome yard marks yardA yardB planB sum below roots climbs inside subtotal shortest judge moveFault pushFault legal shifted after needy choice inject extract turn settle each balance planWithin plan range demandsFault bytes movesOf planFault movesFault checkFault trialFault text digits decimal line lines header cut same value field nodeLine readNodes readYard moveSheet refusalSheet program
+unfolding siding placed cases _gives_ outcome yard marks yardA yardB planB sum below roots climbs inside subtotal shortest judge moveFault pushFault legal shifted after needy choice inject extract turn settle each balance planWithin plan range demandsFault bytes movesOf planFault movesFault checkFault trialFault text digits decimal line lines header cut same value field nodeLine readNodes readYard moveSheet refusalSheet program
 worked = refl
+
+-- two pebbles start at node 1, and one at node 2: whichever is taken, pebble 1 may go the second time, and each has its own route
+either : Follows (1 ∷ 1 ∷ 2 ∷ []) (push 1 0 ∷ push 0 1 ∷ push 1 0 ∷ []) (0 ∷ 0 ∷ 1 ∷ []) (1 ∷ 0 ∷ 2 ∷ [])
+either = Follows.next first (Follows.next second (Follows.next third Follows.done))
+  where
+    first : At (1 ∷ 1 ∷ 2 ∷ []) 0 1
+    first = (omega arith, refl)
+
+    second : At (0 ∷ 1 ∷ 2 ∷ []) 0 0
+    second = (omega arith, refl)
+
+    third : At (1 ∷ 1 ∷ 2 ∷ []) 1 1
+    third = (omega arith, refl)
+
+routes : map (λ (i : ℕ). route i (push 1 0 ∷ push 0 1 ∷ push 1 0 ∷ []) (0 ∷ 0 ∷ 1 ∷ [])) (0 ∷ 1 ∷ 2 ∷ []) ≡ (push 1 0 ∷ push 0 1 ∷ []) ∷ (push 1 0 ∷ []) ∷ [] ∷ []
+unfolding route
+routes = refl

@@ -2,7 +2,7 @@
 use mathlib.Core.Bool.{Bool, cond, _&&_}
 use mathlib.Core.List.{List, [], _∷_, _++_, map}
 use mathlib.Core.Option.{Option, none, some}
-use Prim.Native.Nat.{ℕ, zero, suc, _+_, _-_, _*_, _%_}
+use Prim.Native.Nat.{ℕ, zero, suc, _+_, _-_, _*_, _/_, _%_}
 use lib.ListN.{length, take, drop}
 use lib.Dec.{leb, ltb, eqb}
 use lib.IntN.{ℤ}
@@ -146,6 +146,10 @@ displacedAnswer y = answer (figureFault y) (sum (size y) (λ v. pebble y v - tar
 abbrev pub inC : Answer ℕ → ℕ
 inC (answered n) = n
 inC (refused f) = f .number * 1_000_000 + f .place
+
+-- the answer that such a number tells
+abbrev pub told : ℕ → Answer ℕ
+told r = cond (ltb r 1_000_000) (answered r) (refused (record { number = r / 1_000_000; place = r % 1_000_000 }))
 
 -- an accepted call with no value of its own answers 0, the checker among them
 abbrev pub zeroInC : Option Fault → ℕ

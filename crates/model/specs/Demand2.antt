@@ -2,9 +2,9 @@
 use mathlib.Core.Path.{_≡_}
 use mathlib.Core.List.{List, [], _∷_}
 use mathlib.Core.Logic.{_≢_, _↔_, _⊎_}
-use Prim.Native.Nat.{ℕ, _+_, _*_, _≤_, _<_}
+use Prim.Native.Nat.{ℕ, _*_, _≤_, _<_}
 use lib.ListN.{length, getD, set, take}
-use Rattle.model.specs.Yard.{Yard, up, shortest}
+use Rattle.model.specs.Yard.{Yard, up}
 use Rattle.model.specs.Push.{Move, push}
 use Rattle.model.specs.Plan.{plan}
 use Rattle.model.specs.Calls.{answered, bytes, movesOf, planAnswer, planList, Verdict, checkAnswer}
@@ -30,6 +30,3 @@ pub record Demand2 (y : Yard) : Type 0 where
   -- the checker accepts at most 65,535 whole moves exactly if each carries a pebble and they end on exactly the targets
   pub checker : (bs : List ℕ) (m : ℕ) → length bs ≡ 2 * m → m ≤ 65_535
       → ((v : Verdict) × (checkAnswer y bs ≡ answered v)) ↔ Carries (y .parents) (y .pebbles) (movesOf bs) (y .targets)
-  -- its excess is what the moves are more than the shortest length, which is never less than none, and none for the plan
-  pub excess : (bs : List ℕ) (v : Verdict) → checkAnswer y bs ≡ answered v → (v .moves ≡ length (movesOf bs)) × (v .moves ≡ shortest y + v .excess)
-  pub spare-none : checkAnswer y (bytes (plan y)) ≡ answered (record { moves = length (plan y); excess = 0 })

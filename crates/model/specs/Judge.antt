@@ -1,7 +1,7 @@
 -- Refusals 1 to 6 of document 01 ('Refusals with an example each'): the first that meets a yard, with its place, or none.
 use mathlib.Core.Path.{_≡_}
 use mathlib.Core.Bool.{Bool, true, false, not, _&&_}
-use mathlib.Core.List.{List, [], _∷_}
+use mathlib.Core.List.{List, [], _∷_, _++_}
 use mathlib.Core.Option.{Option, none, some}
 use Prim.Native.Nat.{ℕ}
 use lib.ListN.{length}
@@ -49,18 +49,25 @@ rootFault [] = fault 5 0
 rootFault (r ∷ []) = none
 rootFault (r ∷ s ∷ rs) = fault 5 s
 
--- refusals 1 to 6, in their order: 3 is a mark above 1, at the lowest such node, all pebbles before targets; 4 a parent of n or more, at
--- the lowest such node; 6 a circle, at the lowest node from which climbing does not reach the root (in n steps: so in none, `never-root`)
-abbrev pub tests : Yard → List (Option Fault)
-tests y =
-    sizeFault y
-    ∷ lengthFault y
-    ∷ atLowest 3 (below (size y) (λ v. ltb (capacity y v) (pebble y v)))
+-- refusals 1 to 6, in three groups. The lengths: 1 and 2
+abbrev pub lengthTests : Yard → List (Option Fault)
+lengthTests y = sizeFault y ∷ lengthFault y ∷ []
+
+-- the entries: 3 is a mark above 1, at the lowest such node, all pebbles before targets; 4 a parent of n or more, at the lowest such node
+abbrev pub entryTests : Yard → List (Option Fault)
+entryTests y =
+    atLowest 3 (below (size y) (λ v. ltb (capacity y v) (pebble y v)))
     ∷ atLowest 3 (below (size y) (λ v. ltb (capacity y v) (target y v)))
     ∷ atLowest 4 (below (size y) (λ v. leb (size y) (parent y v)))
-    ∷ rootFault (roots (y .parents))
-    ∷ atLowest 6 (below (size y) (λ v. not (climbs (size y) (y .parents) v (root y))))
     ∷ []
+
+-- the shape: 5, and 6, a circle, at the lowest node from which climbing does not reach the root (in n steps: so in none, `never-root`)
+abbrev pub shapeTests : Yard → List (Option Fault)
+shapeTests y = rootFault (roots (y .parents)) ∷ atLowest 6 (below (size y) (λ v. not (climbs (size y) (y .parents) v (root y)))) ∷ []
+
+-- all of them, in their order
+abbrev pub tests : Yard → List (Option Fault)
+tests y = lengthTests y ++ (entryTests y ++ shapeTests y)
 
 unfoldable pub judge : Yard → Option Fault
 judge y = firstOf (tests y)

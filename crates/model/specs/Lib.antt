@@ -3,6 +3,7 @@ pub mod Yard
 pub mod Judge
 pub mod Push
 pub mod Plan
+pub mod Follow
 pub mod Calls
 pub mod Sheets
 pub mod Paper

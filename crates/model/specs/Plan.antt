@@ -1,6 +1,6 @@
 -- The plan of the source's Algorithms 1 to 4, with document 01's choices ('The planner'). Each step reads the yard as it then is, so demands
--- follow every move (Algorithm 4). The numbers k, t and d bound the depth of calls, the turns of a loop and the depth of the tree: `enough`
--- never runs out on a tree, and a larger one changes nothing (`plan-within`).
+-- follow every move (Algorithm 4). The numbers k, t and d bound the depth of calls, the turns of a loop and the depth of the tree: on a tree
+-- with as many pebbles as targets `enough` never runs out, and a larger one changes nothing (`plan-within`).
 use mathlib.Core.Bool.{true, false, _&&_}
 use mathlib.Core.List.{List, [], _∷_, _++_}
 use Prim.Native.Nat.{ℕ, zero, suc, _+_}

@@ -1,5 +1,4 @@
--- One push, lists of pushes, the edges (tracks) that they cross, and the pebbles followed through them ('What the yard is', 'The words of
--- demand 3').
+-- One push, lists of pushes, and the edges (tracks) that they cross ('What the yard is', 'The words of demand 3').
 use mathlib.Core.Path.{_≡_}
 use mathlib.Core.Bool.{Bool, true, false, not, cond, _&&_, _||_}
 use mathlib.Core.List.{List, [], _∷_}
@@ -50,12 +49,16 @@ legal y m = isNone (pushFault y m)
 unfoldable pub shifted : List ℕ → Move → List ℕ
 shifted ps m = set (set ps (m .from) (getD ps (m .from) 0 - 1)) (m .to) (getD ps (m .to) 0 + 1)
 
+-- what a push leaves in a list of pebbles: a refused one leaves it as it was
+abbrev pub pushedPebbles : Yard → Move → List ℕ
+pushedPebbles y m = cond (legal y m) (shifted (y .pebbles) m) (y .pebbles)
+
 -- the yard after a legal push, and after any: a refused one gives back the yard unchanged
 abbrev pub moved : Yard → Move → Yard
 moved y m = holding y (shifted (y .pebbles) m)
 
 abbrev pub pushed : Yard → Move → Yard
-pushed y m = holding y (cond (legal y m) (shifted (y .pebbles) m) (y .pebbles))
+pushed y m = holding y (pushedPebbles y m)
 
 -- the pebbles, and the yard, after a list of pushes: each gets the yard that the one before gave back, after a refusal too
 unfoldable pub after : Yard → List Move → List ℕ
@@ -91,12 +94,3 @@ ups y ms v = count (isUp y v) (accepted y ms)
 
 abbrev pub downs : Yard → List Move → ℕ → ℕ
 downs y ms v = count (isDown y v) (accepted y ms)
-
--- the moves of a list of accepted ones in which the pebble that stands at s takes part: the one that leaves s next, and so on from where it goes
-unfoldable pub journey : ℕ → List Move → List Move
-journey s [] = []
-journey s (m ∷ ms) = cond (eqb (m .from) s) (m ∷ journey (m .to) ms) (journey s ms)
-
--- how often the pebble that starts at s crosses the edge of v, either way
-abbrev pub crossedBy : Yard → List Move → ℕ → ℕ → ℕ
-crossedBy y ms s v = count (isUp y v) (journey s (accepted y ms)) + count (isDown y v) (journey s (accepted y ms))

@@ -25,6 +25,10 @@ size y = length (y .parents)
 abbrev pub maxSize : ℕ
 maxSize = 256
 
+-- the largest demand, its sign dropped: demands lie from −256 to 256
+abbrev pub maxDemand : ℕ
+maxDemand = 256
+
 -- a fresh yard state: one node, its own parent, with no pebble and no target
 abbrev pub fresh : Yard
 fresh = yardOf (0 ∷ []) (0 ∷ []) (0 ∷ [])

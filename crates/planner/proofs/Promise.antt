@@ -9,14 +9,15 @@ use Rattle.model.specs.Judge.{Fault}
 use Rattle.model.specs.Calls.{Answer, refused, planAnswer, planList, figureFault}
 use Rattle.model.proofs.Calls.{plan-figure}
 use Rattle.model.proofs.Demand3.{demand-3}
-use Rattle.planner.specs.Promise.{Promised}
+use Rattle.model.specs.Demand3.{Demand3}
 
-abbrev Kept : (y : Yard) (before after : List ℕ) → Answer ℕ → Type 0
-Kept y before after a = (a ≡ planAnswer y before) × ((after ≡ planList y before) × Promised y before a after)
+-- what the call's contract says of its answer and of the list that it leaves
+abbrev Promises : (y : Yard) (before after : List ℕ) → Answer ℕ → Type 0
+Promises y before after a = (a ≡ planAnswer y before) × ((after ≡ planList y before) × Demand3 y before a after)
 
-pub kept : (y : Yard) (before after : List ℕ) (a : Answer ℕ) → a ≡ planAnswer y before → after ≡ planList y before → Kept y before after a
-kept y before after a e f = (e, (f, (let d = demand-3 y before in rw (e, f) (record { accepts = d .accepts; planned = d .planned; no-plan = d .no-plan }))))
+pub promises : (y : Yard) (before after : List ℕ) (a : Answer ℕ) → a ≡ planAnswer y before → after ≡ planList y before → Promises y before after a
+promises y before after a e f = (e, (f, rw (e, f) (demand-3 y before)))
 
 -- also where the yard has no plan
-pub kept-refused : (y : Yard) (before : List ℕ) (r : Fault) → figureFault y ≡ some r → Kept y before before (refused r)
-kept-refused y before r e = let f = plan-figure y r e (length before) in kept y before before (refused r) (rw f) (rw f)
+pub promises-refused : (y : Yard) (before : List ℕ) (r : Fault) → figureFault y ≡ some r → Promises y before before (refused r)
+promises-refused y before r e = let f = plan-figure y r e (length before) in promises y before before (refused r) (rw f) (rw f)

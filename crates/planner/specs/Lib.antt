@@ -1,3 +1,2 @@
--- What the planner promises, and what its helpers promise one another.
+-- What the planner's helpers promise one another.
 pub mod Balancing
-pub mod Promise

@@ -4,7 +4,7 @@ ghost use Rattle.model.specs.Yard.{yardOf, Matched};
 ghost use Rattle.model.specs.Judge.{Tree};
 ghost use Rattle.model.specs.Calls.{planAnswer, planList};
 ghost use Rattle.model.specs.Paper.{paperCounted};
-ghost use Rattle.planner.specs.Promise.{Promised};
+ghost use Rattle.model.specs.Demand3.{Demand3};
 use crate::balance::balance_subtrees;
 use crate::state::write_state;
 use demand::call::test_matched;
@@ -36,11 +36,11 @@ fn plan_matched(parents: &[u8], pebbles: &[u8], targets: &[u8], plan: &mut [u8])
 }
 
 // The planner: the plan of Algorithms 1 to 4 at the front of the lent list, the bytes behind it untouched; answers the number of moves. Refusals 1
-// to 7, then 8 with the moves needed as place; a refusal leaves the list as it was. No move is spare (Promised: demand 3).
+// to 7, then 8 with the moves needed as place; a refusal leaves the list as it was. No move is spare (`Demand3`).
 pub fn plan(parents: &[u8], pebbles: &[u8], targets: &[u8], list: &mut [u8]) -> Counted
     ensures { λ r. ⌜ paperCounted r ≡ planAnswer (yardOf (now (parents .entry)) (now (pebbles .entry)) (now (targets .entry))) (now (list .entry)) ⌝ }
     ensures { λ r. ⌜ now (list .exit) ≡ planList (yardOf (now (parents .entry)) (now (pebbles .entry)) (now (targets .entry))) (now (list .entry)) ⌝ }
-    ensures { λ r. ⌜ Promised (yardOf (now (parents .entry)) (now (pebbles .entry)) (now (targets .entry))) (now (list .entry)) (paperCounted r) (now (list .exit)) ⌝ }
+    ensures { λ r. ⌜ Demand3 (yardOf (now (parents .entry)) (now (pebbles .entry)) (now (targets .entry))) (now (list .entry)) (paperCounted r) (now (list .exit)) ⌝ }
 {
     let tested = test_matched(parents, pebbles, targets);
     if let Done::Refused(r) = tested {

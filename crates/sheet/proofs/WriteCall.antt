@@ -3,11 +3,11 @@ use mathlib.Core.Path.{_≡_, _∙_}
 use mathlib.Core.Option.{none, some}
 use mathlib.Core.List.{List, [], _∷_}
 use Prim.Native.Nat.{ℕ, _≤_, _<_}
-use lib.ListN.{length, take}
+use lib.ListN.{length}
 use lib.Dec.{leb}
 use borrow.Author.Tests.{le-leb, lt-leb}
 use Rattle.model.specs.Yard.{Yard}
-use Rattle.model.specs.Judge.{Fault, row, fault, firstOf, unless, tests}
+use Rattle.model.specs.Judge.{Fault, row, fault, firstOf, unless, lengthTests}
 use Rattle.model.specs.Calls.{answered, refused}
 use Rattle.model.specs.Sheets.{yardSheet, writeFault, writeAnswer, writeList}
 use Rattle.model.proofs.Basics.{first-refused, first-passed}
@@ -21,14 +21,14 @@ module _ (y : Yard) (list : List ℕ) where
   fails : (f : Fault) → writeFault y (length list) ≡ some f → Fails f
   fails f e = (rw e, rw e)
 
-  pub write-lengths : {f : Fault} → firstOf (take 2 (tests y)) ≡ some f → Fails f
+  pub write-lengths : {f : Fault} → firstOf (lengthTests y) ≡ some f → Fails f
   unfolding writeFault
-  write-lengths {f} e = fails f (first-refused (take 2 (tests y)) (unless (leb (length (yardSheet y)) (length list)) (fault 8 (length (yardSheet y))) ∷ []) f e)
+  write-lengths {f} e = fails f (first-refused (lengthTests y) (unless (leb (length (yardSheet y)) (length list)) (fault 8 (length (yardSheet y))) ∷ []) f e)
 
-  module _ (p : firstOf (take 2 (tests y)) ≡ none) where
+  module _ (p : firstOf (lengthTests y) ≡ none) where
     room : writeFault y (length list) ≡ firstOf (unless (leb (length (yardSheet y)) (length list)) (fault 8 (length (yardSheet y))) ∷ [])
     unfolding writeFault
-    room = first-passed (take 2 (tests y)) (unless (leb (length (yardSheet y)) (length list)) (fault 8 (length (yardSheet y))) ∷ []) p
+    room = first-passed (lengthTests y) (unless (leb (length (yardSheet y)) (length list)) (fault 8 (length (yardSheet y))) ∷ []) p
 
     pub write-short : {n : ℕ} → n ≡ length (yardSheet y) → length list < n → Fails (row 8 n)
     write-short {n} e h = fails (row 8 n) (room ∙ rw (← e, lt-leb n (length list) h))

@@ -1,7 +1,7 @@
--- `planner::plan::plan` meets its contract: refused as a yard with no plan is, or planned; and what it answers and leaves keeps demand 3.
+-- `planner::plan::plan` meets its contract: refused as a yard with no plan is, or planned; and what it answers and leaves meets demand 3.
 use borrow.Author.Needs.{needs}
 use Rattle.model.proofs.Calls.{figure-matched, sees}
-use Rattle.planner.proofs.Promise.{kept, kept-refused}
+use Rattle.planner.proofs.Promise.{promises, promises-refused}
 use Rattle.planner.proofs.plan.plan.Statement.{statement}
 use Rattle.planner.proofs.plan.plan.Tie as tie
 
@@ -14,7 +14,7 @@ enum-known-tested c = search needs
 returns : tie.Need-returns
 returns c =
     let t = c .before .before .before in
-    kept-refused _ _ _ (sees (t .test-matched .ensures) (c .before .tested .given .1))
+    promises-refused _ _ _ (sees (t .test-matched .ensures) (c .before .tested .given .1))
 
 enum-told : tie.Need-enum-told
 enum-told c = search needs
@@ -28,7 +28,7 @@ same-length : tie.Need-same-length
 same-length c = search needs
 
 returns-2 : tie.Need-returns-2
-returns-2 c = let p = c .before .before .plan-matched in kept _ _ _ _ (p .ensures .0) (p .ensures .1)
+returns-2 c = let p = c .before .before .plan-matched in promises _ _ _ _ (p .ensures .0) (p .ensures .1)
 
 pub plan-spec : {M : Type 1} → statement M
 plan-spec =

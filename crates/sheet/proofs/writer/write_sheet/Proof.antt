@@ -4,10 +4,10 @@ use mathlib.Core.Path.{_≡_, sym}
 use mathlib.Core.Option.{none}
 use Prim.Native.Nat.{_≤_}
 use native.Mathlib.Omega.{arith}
-use lib.ListN.{length, take}
+use lib.ListN.{length}
 use borrow.Author.Needs.{needs}
 use Rattle.model.specs.Yard.{Yard, yardOf, size, maxSize}
-use Rattle.model.specs.Judge.{firstOf, tests}
+use Rattle.model.specs.Judge.{firstOf, lengthTests}
 use Rattle.model.proofs.Tests.{passed-lengths}
 use Rattle.model.proofs.Calls.{sees}
 use Rattle.sheet.proofs.WriteCall.{write-lengths, write-short, write-whole}
@@ -18,7 +18,7 @@ abbrev yard : tie.Start → Yard
 yard s = yardOf (s .args .parents .now) (s .args .pebbles .now) (s .args .targets .now)
 
 -- where the lengths are not refused
-told : (c : tie.After-enum-told) → firstOf (take 2 (tests (yard (c .before .before .before .before .before .before .before)))) ≡ none
+told : (c : tie.After-enum-told) → firstOf (lengthTests (yard (c .before .before .before .before .before .before .before))) ≡ none
 told c = sees (c .before .before .test-lengths .ensures) (c .enum-told .given .1)
 
 sizes : (c : tie.After-enum-told) → let y = yard (c .before .before .before .before .before .before .before) in (size y ≤ maxSize) × (length (y .pebbles) ≡ size y) × (length (y .targets) ≡ size y)

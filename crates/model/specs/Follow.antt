@@ -1,0 +1,55 @@
+-- Pebbles followed from their starts ('The words of demand 3'): an accepted push takes one pebble that stands at its
+-- first node to the second, and every other stays.
+use mathlib.Core.Path.{_≡_}
+use mathlib.Core.Bool.{true, cond}
+use mathlib.Core.List.{List, [], _∷_, _++_}
+use Prim.Native.Nat.{ℕ, zero, suc, _+_, _<_}
+use lib.ListN.{length, getD, set, replicate}
+use lib.Dec.{eqb}
+use Rattle.model.specs.Yard.{Yard, size, pebble, one, below}
+use Rattle.model.specs.Push.{Move, isUp, isDown, count}
+
+-- where each pebble stands: at the start the nodes in rising number, each as often as it holds pebbles
+unfoldable pub placed : ℕ → (ℕ → ℕ) → List ℕ
+placed zero f = []
+placed (suc n) f = placed n f ++ replicate (f n) n
+
+abbrev pub starts : Yard → List ℕ
+starts y = placed (size y) (pebble y)
+
+-- how often a number occurs in a list: the pebbles that stand at a node, the moves that a pebble takes part in
+unfoldable pub occurs : ℕ → List ℕ → ℕ
+occurs v [] = 0
+occurs v (p ∷ ps) = one (eqb v p) + occurs v ps
+
+-- pebble i stands at a
+abbrev pub At : List ℕ → ℕ → ℕ → Type 0
+At ps i a = (i < length ps) × (getD ps i 0 ≡ a)
+
+-- moves followed from some positions to others, with the pebble that each takes: one that stands at the move's first node, whichever
+pub data Follows : List ℕ → List Move → List ℕ → List ℕ → Type 0 where
+  done : {ps : List ℕ} → Follows ps [] [] ps
+  next : {ps qs is : List ℕ} {m : Move} {ms : List Move} {i : ℕ} → At ps i (m .from) → Follows (set ps i (m .to)) ms is qs → Follows ps (m ∷ ms) (i ∷ is) qs
+
+-- the moves in which pebble i takes part
+unfoldable pub route : ℕ → List Move → List ℕ → List Move
+route i [] js = []
+route i (m ∷ ms) [] = []
+route i (m ∷ ms) (j ∷ js) = cond (eqb i j) (m ∷ route i ms js) (route i ms js)
+
+-- how often moves cross the edge of v, either way
+abbrev pub crossings : Yard → List Move → ℕ → ℕ
+crossings y ms v = count (isUp y v) ms + count (isDown y v) ms
+
+-- one way to follow, computed: each move takes the first that stands there in a list of all pebbles, the last that moved in front (where it
+-- stood before stays behind), so the last in leaves first
+unfoldable pub firstAt : List ℕ → ℕ → List ℕ → ℕ
+firstAt ps a [] = 0
+firstAt ps a (i ∷ is) = cond (eqb (getD ps i 0) a) i (firstAt ps a is)
+
+unfoldable pub lastIn : List ℕ → List ℕ → List Move → List ℕ
+lastIn order ps [] = []
+lastIn order ps (m ∷ ms) = let i = firstAt ps (m .from) order in i ∷ lastIn (i ∷ order) (set ps i (m .to)) ms
+
+abbrev pub lifo : Yard → List Move → List ℕ
+lifo y ms = lastIn (below (length (starts y)) (λ _. true)) (starts y) ms
