@@ -3,7 +3,8 @@ ghost use mathlib.Core.Path.{_≡_};
 ghost use mathlib.Core.List.{[], _∷_};
 ghost use lib.ListN.{length, getD};
 ghost use lib.Dec.{ltb};
-ghost use Rattle.model.specs.Yard.{yardOf, below, headOr, Matched};
+ghost use Rattle.model.specs.Yard.{below, headOr, Matched};
+ghost use Rattle.model.specs.Given.{given, handed};
 ghost use Rattle.model.specs.Judge.{firstOf, Tree};
 ghost use Rattle.model.specs.Push.{run};
 ghost use Rattle.model.specs.Calls.{movesOf, movesFault, endFault, checkFault, checkAnswer};
@@ -33,8 +34,8 @@ fn first_empty(pebbles: &[u8], targets: &[u8]) -> usize
 
 // Obeys a whole plan on a copy of the pebbles of a tree: refusals 10 to 13 move by move, then 14.
 fn obey_to_end(parents: &[u8], pebbles: &[u8], targets: &[u8], plan: &[u8]) -> Done
-    requires { ⌜ Tree (yardOf (now parents) (now pebbles) (now targets)) ⌝ }
-    ensures { λ r. ⌜ paperDone r ≡ firstOf (movesFault 0 (yardOf (now (parents .entry)) (now (pebbles .entry)) (now (targets .entry))) (movesOf (now (plan .entry))) ∷ endFault (run (yardOf (now (parents .entry)) (now (pebbles .entry)) (now (targets .entry))) (movesOf (now (plan .entry)))) ∷ []) ⌝ }
+    requires { ⌜ Tree (handed parents pebbles targets) ⌝ }
+    ensures { λ r. ⌜ paperDone r ≡ firstOf (movesFault 0 (given parents pebbles targets) (movesOf (now (plan .entry))) ∷ endFault (run (given parents pebbles targets) (movesOf (now (plan .entry)))) ∷ []) ⌝ }
 {
     let n = parents.len();
     let mut marks = [0u8; 256];
@@ -58,8 +59,8 @@ fn obey_to_end(parents: &[u8], pebbles: &[u8], targets: &[u8], plan: &[u8]) -> D
 
 // Judges a plan for a tree with as many pebbles as targets: refusals 9, 10 to 13 move by move, 14.
 fn test_matched_plan(parents: &[u8], pebbles: &[u8], targets: &[u8], plan: &[u8]) -> Done
-    requires { ⌜ Tree (yardOf (now parents) (now pebbles) (now targets)) × Matched (yardOf (now parents) (now pebbles) (now targets)) ⌝ }
-    ensures { λ r. ⌜ paperDone r ≡ checkFault (yardOf (now (parents .entry)) (now (pebbles .entry)) (now (targets .entry))) (now (plan .entry)) ⌝ }
+    requires { ⌜ Tree (handed parents pebbles targets) × Matched (handed parents pebbles targets) ⌝ }
+    ensures { λ r. ⌜ paperDone r ≡ checkFault (given parents pebbles targets) (now (plan .entry)) ⌝ }
 {
     if !whole_plan(plan) {
         return Done::Refused(Refusal::PlanLength);
@@ -70,7 +71,7 @@ fn test_matched_plan(parents: &[u8], pebbles: &[u8], targets: &[u8], plan: &[u8]
 // The checker without its figures: refusals 1 to 6, 7, 9, 10 to 13 for each move in turn with its number as place, then 14 with the lowest empty
 // target. A plan need not be shortest.
 pub fn test_plan(parents: &[u8], pebbles: &[u8], targets: &[u8], plan: &[u8]) -> Done
-    ensures { λ r. ⌜ paperDone r ≡ checkFault (yardOf (now (parents .entry)) (now (pebbles .entry)) (now (targets .entry))) (now (plan .entry)) ⌝ }
+    ensures { λ r. ⌜ paperDone r ≡ checkFault (given parents pebbles targets) (now (plan .entry)) ⌝ }
 {
     let tested = test_matched(parents, pebbles, targets);
     if let Done::Refused(fault) = tested {
@@ -81,7 +82,7 @@ pub fn test_plan(parents: &[u8], pebbles: &[u8], targets: &[u8], plan: &[u8]) ->
 
 // The checker: refused as above, else the number of moves and the excess (spare), moves minus shortest length.
 pub fn check(parents: &[u8], pebbles: &[u8], targets: &[u8], plan: &[u8]) -> Checked
-    ensures { λ r. ⌜ paperChecked r ≡ checkAnswer (yardOf (now (parents .entry)) (now (pebbles .entry)) (now (targets .entry))) (now (plan .entry)) ⌝ }
+    ensures { λ r. ⌜ paperChecked r ≡ checkAnswer (given parents pebbles targets) (now (plan .entry)) ⌝ }
 {
     let tested = test_plan(parents, pebbles, targets, plan);
     if let Done::Refused(r) = tested {

@@ -3,7 +3,7 @@ ghost use mathlib.Core.Path.{_≡_};
 ghost use mathlib.Core.Option.{none};
 ghost use Prim.Native.Nat.{_*_, _≤_};
 ghost use lib.ListN.{length, take};
-ghost use Rattle.model.specs.Yard.{yardOf};
+ghost use Rattle.model.specs.Given.{given, handed};
 ghost use Rattle.model.specs.Judge.{fault, unless, Tree};
 ghost use Rattle.model.specs.Push.{after};
 ghost use Rattle.model.specs.Calls.{movesOf, bytesFault, movesFault};
@@ -36,9 +36,9 @@ pub fn copy(from: &[u8], to: &mut [u8])
 // Obeys the first `count` moves of a plan on the pebbles of a tree. A refusal is that of the first move that is refused, with its number as
 // place; what the pebbles then are is left open, as every caller lends a copy.
 fn obey(parents: &[u8], pebbles: &mut [u8], targets: &[u8], plan: &[u8], count: usize) -> Done
-    requires { ⌜ Tree (yardOf (now parents) (now pebbles) (now targets)) × (2 * count ≤ length (now plan)) ⌝ }
-    ensures { λ r. ⌜ paperDone r ≡ movesFault 0 (yardOf (now (parents .entry)) (now (pebbles .entry)) (now (targets .entry))) (take count (movesOf (now (plan .entry)))) ⌝ }
-    ensures { λ r. ⌜ (paperDone r ≡ none → now (pebbles .exit) ≡ after (yardOf (now (parents .entry)) (now (pebbles .entry)) (now (targets .entry))) (take count (movesOf (now (plan .entry))))) ⌝ }
+    requires { ⌜ Tree (handed parents pebbles targets) × (2 * count ≤ length (now plan)) ⌝ }
+    ensures { λ r. ⌜ paperDone r ≡ movesFault 0 (given parents pebbles targets) (take count (movesOf (now (plan .entry)))) ⌝ }
+    ensures { λ r. ⌜ (paperDone r ≡ none → now (pebbles .exit) ≡ after (given parents pebbles targets) (take count (movesOf (now (plan .entry))))) ⌝ }
 {
     let mut i = 0;
     while i < count {
@@ -62,9 +62,9 @@ pub fn obey_copy(
     plan: &[u8],
     count: usize,
 ) -> Done
-    requires { ⌜ Tree (yardOf (now parents) (now pebbles) (now targets)) × (2 * count ≤ length (now plan)) × (length (now marks) ≡ length (now pebbles)) ⌝ }
-    ensures { λ r. ⌜ paperDone r ≡ movesFault 0 (yardOf (now (parents .entry)) (now (pebbles .entry)) (now (targets .entry))) (take count (movesOf (now (plan .entry)))) ⌝ }
-    ensures { λ r. ⌜ (paperDone r ≡ none → now (marks .exit) ≡ after (yardOf (now (parents .entry)) (now (pebbles .entry)) (now (targets .entry))) (take count (movesOf (now (plan .entry))))) ⌝ }
+    requires { ⌜ Tree (handed parents pebbles targets) × (2 * count ≤ length (now plan)) × (length (now marks) ≡ length (now pebbles)) ⌝ }
+    ensures { λ r. ⌜ paperDone r ≡ movesFault 0 (given parents pebbles targets) (take count (movesOf (now (plan .entry)))) ⌝ }
+    ensures { λ r. ⌜ (paperDone r ≡ none → now (marks .exit) ≡ after (given parents pebbles targets) (take count (movesOf (now (plan .entry))))) ⌝ }
 {
     copy(pebbles, marks);
     obey(parents, marks, targets, plan, count)

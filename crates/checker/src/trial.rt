@@ -2,7 +2,7 @@
 ghost use mathlib.Core.Path.{_≡_};
 ghost use Prim.Native.Nat.{_*_, _≤_, min};
 ghost use lib.ListN.{length, take};
-ghost use Rattle.model.specs.Yard.{yardOf};
+ghost use Rattle.model.specs.Given.{given, handed};
 ghost use Rattle.model.specs.Judge.{Tree};
 ghost use Rattle.model.specs.Push.{after};
 ghost use Rattle.model.specs.Calls.{movesOf, lent, movesFault, trialAnswer, trialPebbles};
@@ -33,9 +33,9 @@ fn obey_or_leave(
     plan: &[u8],
     count: usize,
 ) -> Done
-    requires { ⌜ Tree (yardOf (now parents) (now pebbles) (now targets)) × (2 * count ≤ length (now plan)) ⌝ }
-    ensures { λ r. ⌜ paperDone r ≡ movesFault 0 (yardOf (now (parents .entry)) (now (pebbles .entry)) (now (targets .entry))) (take count (movesOf (now (plan .entry)))) ⌝ }
-    ensures { λ r. ⌜ now (pebbles .exit) ≡ lent (paperDone r) (after (yardOf (now (parents .entry)) (now (pebbles .entry)) (now (targets .entry))) (take count (movesOf (now (plan .entry))))) (now (pebbles .entry)) ⌝ }
+    requires { ⌜ Tree (handed parents pebbles targets) × (2 * count ≤ length (now plan)) ⌝ }
+    ensures { λ r. ⌜ paperDone r ≡ movesFault 0 (given parents pebbles targets) (take count (movesOf (now (plan .entry)))) ⌝ }
+    ensures { λ r. ⌜ now (pebbles .exit) ≡ lent (paperDone r) (after (given parents pebbles targets) (take count (movesOf (now (plan .entry))))) (now (pebbles .entry)) ⌝ }
 {
     let n = parents.len();
     let mut marks = [0u8; 256];
@@ -50,8 +50,8 @@ fn obey_or_leave(
 // Refusals 1 to 6, 9, then 10 to 13 on the moves obeyed; it writes the new marks, and answers the moves taken and which of the two ended it
 // (together: the plan). Moves past the budget are not examined, totals may differ, and a refusal leaves the marks as they were.
 pub fn trial(parents: &[u8], pebbles: &mut [u8], targets: &[u8], plan: &[u8], budget: u16) -> Tried
-    ensures { λ r. ⌜ paperTried r ≡ trialAnswer (yardOf (now (parents .entry)) (now (pebbles .entry)) (now (targets .entry))) (now (plan .entry)) budget ⌝ }
-    ensures { λ r. ⌜ now (pebbles .exit) ≡ trialPebbles (yardOf (now (parents .entry)) (now (pebbles .entry)) (now (targets .entry))) (now (plan .entry)) budget ⌝ }
+    ensures { λ r. ⌜ paperTried r ≡ trialAnswer (given parents pebbles targets) (now (plan .entry)) budget ⌝ }
+    ensures { λ r. ⌜ now (pebbles .exit) ≡ trialPebbles (given parents pebbles targets) (now (plan .entry)) budget ⌝ }
 {
     let tested = test_yard(parents, pebbles, targets);
     if let Done::Refused(r) = tested {

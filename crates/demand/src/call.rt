@@ -2,7 +2,8 @@
 ghost use mathlib.Core.Path.{_≡_};
 ghost use Prim.Native.Nat.{_-_, _≤_};
 ghost use lib.ListN.{length, getD};
-ghost use Rattle.model.specs.Yard.{yardOf, sum, maxSize, shortest};
+ghost use Rattle.model.specs.Yard.{sum, maxSize, shortest};
+ghost use Rattle.model.specs.Given.{given, handed};
 ghost use Rattle.model.specs.Judge.{Tree};
 ghost use Rattle.model.specs.Calls.{demandsFault, demandsList, figureFault, boundAnswer, displacedAnswer};
 ghost use Rattle.model.specs.Paper.{paperDone, paperCounted};
@@ -16,8 +17,8 @@ use model::Refusal;
 // The account call: the demands of all nodes into a list of exactly one entry a node. Refusals 1 to 6, then 2 for a list of another length;
 // unequal totals are no fault. Linear work.
 pub fn demands(parents: &[u8], pebbles: &[u8], targets: &[u8], list: &mut [i16]) -> Done
-    ensures { λ r. ⌜ paperDone r ≡ demandsFault (yardOf (now (parents .entry)) (now (pebbles .entry)) (now (targets .entry))) (now (list .entry)) ⌝ }
-    ensures { λ r. ⌜ now (list .exit) ≡ demandsList (yardOf (now (parents .entry)) (now (pebbles .entry)) (now (targets .entry))) (now (list .entry)) ⌝ }
+    ensures { λ r. ⌜ paperDone r ≡ demandsFault (given parents pebbles targets) (now (list .entry)) ⌝ }
+    ensures { λ r. ⌜ now (list .exit) ≡ demandsList (given parents pebbles targets) (now (list .entry)) ⌝ }
 {
     let tested = test_yard(parents, pebbles, targets);
     if let Done::Refused(r) = tested {
@@ -46,7 +47,7 @@ fn total(list: &[u8]) -> usize
 
 // Refusals 1 to 7: three lists of a tree with as many pebbles as targets.
 pub fn test_matched(parents: &[u8], pebbles: &[u8], targets: &[u8]) -> Done
-    ensures { λ r. ⌜ paperDone r ≡ figureFault (yardOf (now (parents .entry)) (now (pebbles .entry)) (now (targets .entry))) ⌝ }
+    ensures { λ r. ⌜ paperDone r ≡ figureFault (given parents pebbles targets) ⌝ }
 {
     let tested = test_yard(parents, pebbles, targets);
     if let Done::Refused(r) = tested {
@@ -62,8 +63,8 @@ pub fn test_matched(parents: &[u8], pebbles: &[u8], targets: &[u8]) -> Done
 
 // The shortest length of a tree: the sum of the sizes of its demands.
 pub fn shortest_length(parents: &[u8], pebbles: &[u8], targets: &[u8]) -> usize
-    requires { ⌜ Tree (yardOf (now parents) (now pebbles) (now targets)) ⌝ }
-    ensures { λ r. ⌜ r ≡ shortest (yardOf (now (parents .entry)) (now (pebbles .entry)) (now (targets .entry))) ⌝ }
+    requires { ⌜ Tree (handed parents pebbles targets) ⌝ }
+    ensures { λ r. ⌜ r ≡ shortest (given parents pebbles targets) ⌝ }
 {
     let n = parents.len();
     let mut list = [0i16; 256];
@@ -73,7 +74,7 @@ pub fn shortest_length(parents: &[u8], pebbles: &[u8], targets: &[u8]) -> usize
 
 // Bound: k × (n − 1) moves for k pebbles. Refusals 1 to 7.
 pub fn length_bound(parents: &[u8], pebbles: &[u8], targets: &[u8]) -> Counted
-    ensures { λ r. ⌜ paperCounted r ≡ boundAnswer (yardOf (now (parents .entry)) (now (pebbles .entry)) (now (targets .entry))) ⌝ }
+    ensures { λ r. ⌜ paperCounted r ≡ boundAnswer (given parents pebbles targets) ⌝ }
 {
     let tested = test_matched(parents, pebbles, targets);
     if let Done::Refused(r) = tested {
@@ -110,7 +111,7 @@ fn excess_marks(pebbles: &[u8], targets: &[u8]) -> usize
 
 // Displaced (disturbed): the starting nodes that are not targets. Refusals 1 to 7.
 pub fn displaced(parents: &[u8], pebbles: &[u8], targets: &[u8]) -> Counted
-    ensures { λ r. ⌜ paperCounted r ≡ displacedAnswer (yardOf (now (parents .entry)) (now (pebbles .entry)) (now (targets .entry))) ⌝ }
+    ensures { λ r. ⌜ paperCounted r ≡ displacedAnswer (given parents pebbles targets) ⌝ }
 {
     let tested = test_matched(parents, pebbles, targets);
     if let Done::Refused(r) = tested {

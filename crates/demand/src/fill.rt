@@ -5,7 +5,8 @@ ghost use Prim.Native.Nat.{ℕ, _+_, _<_, _≤_};
 ghost use lib.ListN.{length, getD};
 ghost use lib.Dec.{eqb};
 ghost use lib.IntN.{pos, subℕ};
-ghost use Rattle.model.specs.Yard.{yardOf, up, one, sum, demand};
+ghost use Rattle.model.specs.Yard.{up, one, sum, demand};
+ghost use Rattle.model.specs.Given.{given, handed};
 ghost use Rattle.model.specs.Judge.{Tree};
 ghost use Rattle.model.specs.Calls.{range};
 use crate::signed::difference;
@@ -15,8 +16,8 @@ use crate::signed::plus;
 // parent, and 1 for each node whose parent it is and that is not added yet: at 1 all its children are added. Adding it may make its parent
 // ready, and so on up, so that each node is added once. The root, its own parent, is never ready.
 pub fn fill(parents: &[u8], pebbles: &[u8], targets: &[u8], list: &mut [i16])
-    requires { ⌜ Tree (yardOf (now parents) (now pebbles) (now targets)) × (length (now list) ≡ length (now parents)) ⌝ }
-    ensures { λ _. ⌜ now (list .exit) ≡ map (demand (yardOf (now (parents .entry)) (now (pebbles .entry)) (now (targets .entry)))) (range 0 (length (now (parents .entry)))) ⌝ }
+    requires { ⌜ Tree (handed parents pebbles targets) × (length (now list) ≡ length (now parents)) ⌝ }
+    ensures { λ _. ⌜ now (list .exit) ≡ map (demand (given parents pebbles targets)) (range 0 (length (now (parents .entry)))) ⌝ }
 {
     let n = parents.len();
     own(pebbles, targets, list);

@@ -3,7 +3,8 @@
 ghost use mathlib.Core.Path.{_≡_};
 ghost use mathlib.Core.Bool.{cond};
 ghost use Prim.Native.Nat.{_+_, _*_};
-ghost use Rattle.model.specs.Yard.{Yard, yardOf};
+ghost use Rattle.model.specs.Yard.{Yard};
+ghost use Rattle.model.specs.Given.{given};
 ghost use Rattle.model.specs.Judge.{judge};
 ghost use Rattle.model.specs.Push.{push, pushFault, legal, shifted};
 ghost use Rattle.model.specs.Calls.{inC, told, zeroInC, trialInC, answer, mapAnswer, demandsFault, demandsList, planAnswer, planList, checkFault, checkAnswer, trialAnswer, trialPebbles, boundAnswer, displacedAnswer};
@@ -74,7 +75,7 @@ fn tried(a: Tried) -> u32
 // Whether three lists are a tree: refusals 1 to 6, or 0.
 #[no_mangle]
 pub extern "C" fn javendriky_test_yard(parents: &[u8], pebbles: &[u8], targets: &[u8]) -> u32
-    ensures { λ r. ⌜ r ≡ zeroInC (judge (yardOf (now (parents .entry)) (now (pebbles .entry)) (now (targets .entry)))) ⌝ }
+    ensures { λ r. ⌜ r ≡ zeroInC (judge (given parents pebbles targets)) ⌝ }
 {
     done(test_yard(parents, pebbles, targets))
 }
@@ -87,9 +88,9 @@ pub extern "C" fn javendriky_plan(
     targets: &[u8],
     plan: &mut [u8],
 ) -> u32
-    ensures { λ r. ⌜ r ≡ inC (planAnswer (yardOf (now (parents .entry)) (now (pebbles .entry)) (now (targets .entry))) (now (plan .entry))) ⌝ }
-    ensures { λ r. ⌜ now (plan .exit) ≡ planList (yardOf (now (parents .entry)) (now (pebbles .entry)) (now (targets .entry))) (now (plan .entry)) ⌝ }
-    ensures { λ r. ⌜ Demand3 (yardOf (now (parents .entry)) (now (pebbles .entry)) (now (targets .entry))) (now (plan .entry)) (told r) (now (plan .exit)) ⌝ }
+    ensures { λ r. ⌜ r ≡ inC (planAnswer (given parents pebbles targets) (now (plan .entry))) ⌝ }
+    ensures { λ r. ⌜ now (plan .exit) ≡ planList (given parents pebbles targets) (now (plan .entry)) ⌝ }
+    ensures { λ r. ⌜ Demand3 (given parents pebbles targets) (now (plan .entry)) (told r) (now (plan .exit)) ⌝ }
 {
     counted(planner::plan::plan(parents, pebbles, targets, plan))
 }
@@ -102,7 +103,7 @@ pub extern "C" fn javendriky_check(
     targets: &[u8],
     plan: &[u8],
 ) -> u32
-    ensures { λ r. ⌜ r ≡ zeroInC (checkFault (yardOf (now (parents .entry)) (now (pebbles .entry)) (now (targets .entry))) (now (plan .entry))) ⌝ }
+    ensures { λ r. ⌜ r ≡ zeroInC (checkFault (given parents pebbles targets) (now (plan .entry))) ⌝ }
 {
     done(test_plan(parents, pebbles, targets, plan))
 }
@@ -117,8 +118,8 @@ pub extern "C" fn javendriky_trial(
     plan: &[u8],
     budget: u16,
 ) -> u32
-    ensures { λ r. ⌜ r ≡ inC (mapAnswer trialInC (trialAnswer (yardOf (now (parents .entry)) (now (pebbles .entry)) (now (targets .entry))) (now (plan .entry)) budget)) ⌝ }
-    ensures { λ r. ⌜ now (pebbles .exit) ≡ trialPebbles (yardOf (now (parents .entry)) (now (pebbles .entry)) (now (targets .entry))) (now (plan .entry)) budget ⌝ }
+    ensures { λ r. ⌜ r ≡ inC (mapAnswer trialInC (trialAnswer (given parents pebbles targets) (now (plan .entry)) budget)) ⌝ }
+    ensures { λ r. ⌜ now (pebbles .exit) ≡ trialPebbles (given parents pebbles targets) (now (plan .entry)) budget ⌝ }
 {
     tried(trial(parents, pebbles, targets, plan, budget))
 }
@@ -132,8 +133,8 @@ pub extern "C" fn javendriky_push(
     from: usize,
     to: usize,
 ) -> u32
-    ensures { λ r. ⌜ r ≡ zeroInC (pushFault (yardOf (now (parents .entry)) (now (pebbles .entry)) (now (targets .entry))) (push from to)) ⌝ }
-    ensures { λ r. ⌜ now (pebbles .exit) ≡ cond (legal (yardOf (now (parents .entry)) (now (pebbles .entry)) (now (targets .entry))) (push from to)) (shifted (now (pebbles .entry)) (push from to)) (now (pebbles .entry)) ⌝ }
+    ensures { λ r. ⌜ r ≡ zeroInC (pushFault (given parents pebbles targets) (push from to)) ⌝ }
+    ensures { λ r. ⌜ now (pebbles .exit) ≡ cond (legal (given parents pebbles targets) (push from to)) (shifted (now (pebbles .entry)) (push from to)) (now (pebbles .entry)) ⌝ }
 {
     done(push_lists(parents, pebbles, targets, from, to))
 }
@@ -146,8 +147,8 @@ pub extern "C" fn javendriky_demands(
     targets: &[u8],
     list: &mut [i16],
 ) -> u32
-    ensures { λ r. ⌜ r ≡ zeroInC (demandsFault (yardOf (now (parents .entry)) (now (pebbles .entry)) (now (targets .entry))) (now (list .entry))) ⌝ }
-    ensures { λ r. ⌜ now (list .exit) ≡ demandsList (yardOf (now (parents .entry)) (now (pebbles .entry)) (now (targets .entry))) (now (list .entry)) ⌝ }
+    ensures { λ r. ⌜ r ≡ zeroInC (demandsFault (given parents pebbles targets) (now (list .entry))) ⌝ }
+    ensures { λ r. ⌜ now (list .exit) ≡ demandsList (given parents pebbles targets) (now (list .entry)) ⌝ }
 {
     done(demands(parents, pebbles, targets, list))
 }
@@ -155,7 +156,7 @@ pub extern "C" fn javendriky_demands(
 // Bound: k × (n − 1) for k pebbles on n nodes. Refusals 1 to 7.
 #[no_mangle]
 pub extern "C" fn javendriky_length_bound(parents: &[u8], pebbles: &[u8], targets: &[u8]) -> u32
-    ensures { λ r. ⌜ r ≡ inC (boundAnswer (yardOf (now (parents .entry)) (now (pebbles .entry)) (now (targets .entry)))) ⌝ }
+    ensures { λ r. ⌜ r ≡ inC (boundAnswer (given parents pebbles targets)) ⌝ }
 {
     counted(length_bound(parents, pebbles, targets))
 }
@@ -163,7 +164,7 @@ pub extern "C" fn javendriky_length_bound(parents: &[u8], pebbles: &[u8], target
 // Displaced: the starting nodes that are not targets. Refusals 1 to 7.
 #[no_mangle]
 pub extern "C" fn javendriky_displaced(parents: &[u8], pebbles: &[u8], targets: &[u8]) -> u32
-    ensures { λ r. ⌜ r ≡ inC (displacedAnswer (yardOf (now (parents .entry)) (now (pebbles .entry)) (now (targets .entry)))) ⌝ }
+    ensures { λ r. ⌜ r ≡ inC (displacedAnswer (given parents pebbles targets)) ⌝ }
 {
     counted(displaced(parents, pebbles, targets))
 }
@@ -176,7 +177,7 @@ pub extern "C" fn javendriky_excess(
     targets: &[u8],
     plan: &[u8],
 ) -> u32
-    ensures { λ r. ⌜ r ≡ inC (mapAnswer (λ v. v .excess) (checkAnswer (yardOf (now (parents .entry)) (now (pebbles .entry)) (now (targets .entry))) (now (plan .entry)))) ⌝ }
+    ensures { λ r. ⌜ r ≡ inC (mapAnswer (λ v. v .excess) (checkAnswer (given parents pebbles targets) (now (plan .entry)))) ⌝ }
 {
     match check(parents, pebbles, targets, plan) {
         Checked::Accepted(_, excess) => excess as u32,
@@ -208,8 +209,8 @@ pub extern "C" fn javendriky_write_sheet(
     targets: &[u8],
     sheet: &mut [u8],
 ) -> u32
-    ensures { λ r. ⌜ r ≡ inC (writeAnswer (yardOf (now (parents .entry)) (now (pebbles .entry)) (now (targets .entry))) (now (sheet .entry))) ⌝ }
-    ensures { λ r. ⌜ now (sheet .exit) ≡ writeList (yardOf (now (parents .entry)) (now (pebbles .entry)) (now (targets .entry))) (now (sheet .entry)) ⌝ }
+    ensures { λ r. ⌜ r ≡ inC (writeAnswer (given parents pebbles targets) (now (sheet .entry))) ⌝ }
+    ensures { λ r. ⌜ now (sheet .exit) ≡ writeList (given parents pebbles targets) (now (sheet .entry)) ⌝ }
 {
     counted(write_sheet(parents, pebbles, targets, sheet))
 }

@@ -4,6 +4,7 @@ ghost use mathlib.Core.List.{[]};
 ghost use Prim.Native.Nat.{ℕ, _<_, _≤_};
 ghost use lib.ListN.{length};
 ghost use Rattle.model.specs.Yard.{yardOf, up};
+ghost use Rattle.model.specs.Given.{given};
 ghost use Rattle.model.specs.Judge.{firstOf, lengthTests, entryTests, shapeTests, judge};
 ghost use Rattle.model.specs.Paper.{paperDone};
 use crate::circle::first_circle;
@@ -14,7 +15,7 @@ use model::Refusal;
 
 // Refusals 1 and 2.
 pub fn test_lengths(parents: &[u8], pebbles: &[u8], targets: &[u8]) -> Done
-    ensures { λ r. ⌜ paperDone r ≡ firstOf (lengthTests (yardOf (now (parents .entry)) (now (pebbles .entry)) (now (targets .entry)))) ⌝ }
+    ensures { λ r. ⌜ paperDone r ≡ firstOf (lengthTests (given parents pebbles targets)) ⌝ }
 {
     let n = parents.len();
     if n == 0 {
@@ -35,7 +36,7 @@ pub fn test_lengths(parents: &[u8], pebbles: &[u8], targets: &[u8]) -> Done
 // Refusals 3 and 4, of lists of one length.
 fn test_entries(parents: &[u8], pebbles: &[u8], targets: &[u8]) -> Done
     requires { ⌜ (length (now pebbles) ≡ length (now parents)) × (length (now targets) ≡ length (now parents)) ⌝ }
-    ensures { λ r. ⌜ paperDone r ≡ firstOf (entryTests (yardOf (now (parents .entry)) (now (pebbles .entry)) (now (targets .entry)))) ⌝ }
+    ensures { λ r. ⌜ paperDone r ≡ firstOf (entryTests (given parents pebbles targets)) ⌝ }
 {
     let n = parents.len();
     let pebble = first_at_least(pebbles, 2);
@@ -76,7 +77,7 @@ fn test_shape(parents: &[u8]) -> Done
 
 // Whether three lists are a yard's, and a tree: refusals 1 to 6.
 pub fn test_yard(parents: &[u8], pebbles: &[u8], targets: &[u8]) -> Done
-    ensures { λ r. ⌜ paperDone r ≡ judge (yardOf (now (parents .entry)) (now (pebbles .entry)) (now (targets .entry))) ⌝ }
+    ensures { λ r. ⌜ paperDone r ≡ judge (given parents pebbles targets) ⌝ }
 {
     let lengths = test_lengths(parents, pebbles, targets);
     if let Done::Refused(r) = lengths {

@@ -9,3 +9,4 @@ pub mod Sheets
 pub mod Paper
 pub mod Demand2
 pub mod Demand3
+pub mod Given

@@ -1,7 +1,7 @@
 // From the bytes of a yard sheet to the bytes that are printed.
 ghost use Prim.Native.Nat.{_≤_};
 ghost use lib.ListN.{length};
-ghost use Rattle.model.specs.Yard.{yardOf};
+ghost use Rattle.model.specs.Given.{given};
 ghost use Rattle.model.specs.Calls.{answered};
 ghost use Rattle.model.specs.Sheets as Sheets;
 ghost use Rattle.model.specs.Sheets.{refusalSheet, planOf, sheetOf};
@@ -33,7 +33,7 @@ fn put_refused(r: Refusal, out: &mut [u8]) -> usize
 // The move sheet of three lists, or what refuses them. The plan's list has room for every plan.
 fn put_plan(parents: &[u8], pebbles: &[u8], targets: &[u8], out: &mut [u8]) -> usize
     requires { ⌜ 131_080 ≤ length (now out) ⌝ }
-    ensures { λ n. ⌜ Printed (sheetOf (planOf (answered (yardOf (now (parents .entry)) (now (pebbles .entry)) (now (targets .entry)))))) n (now (out .exit)) ⌝ }
+    ensures { λ n. ⌜ Printed (sheetOf (planOf (answered (given parents pebbles targets)))) n (now (out .exit)) ⌝ }
 {
     let mut list = [0u8; 32768];
     match plan(parents, pebbles, targets, &mut list) {

@@ -4,7 +4,8 @@ ghost use mathlib.Core.List.{[]};
 ghost use mathlib.Core.Bool.{cond};
 ghost use Prim.Native.Nat.{_≤_};
 ghost use lib.ListN.{length};
-ghost use Rattle.model.specs.Yard.{yardOf, maxSize, fresh};
+ghost use Rattle.model.specs.Yard.{maxSize, fresh};
+ghost use Rattle.model.specs.Given.{given};
 ghost use Rattle.model.specs.Judge.{judge};
 ghost use Rattle.model.specs.Push.{push, pushFault, isNone, legal, shifted};
 ghost use Rattle.model.specs.Paper.{paperDone};
@@ -51,8 +52,8 @@ pub fn push_lists(
     from: usize,
     to: usize,
 ) -> Done
-    ensures { λ r. ⌜ paperDone r ≡ pushFault (yardOf (now (parents .entry)) (now (pebbles .entry)) (now (targets .entry))) (push from to) ⌝ }
-    ensures { λ r. ⌜ now (pebbles .exit) ≡ cond (legal (yardOf (now (parents .entry)) (now (pebbles .entry)) (now (targets .entry))) (push from to)) (shifted (now (pebbles .entry)) (push from to)) (now (pebbles .entry)) ⌝ }
+    ensures { λ r. ⌜ paperDone r ≡ pushFault (given parents pebbles targets) (push from to) ⌝ }
+    ensures { λ r. ⌜ now (pebbles .exit) ≡ cond (legal (given parents pebbles targets) (push from to)) (shifted (now (pebbles .entry)) (push from to)) (now (pebbles .entry)) ⌝ }
 {
     let tested = test_yard(parents, pebbles, targets);
     if let Done::Refused(r) = tested {
@@ -80,8 +81,8 @@ impl Yard {
 
     // The yard of three lists, refused as they are (1 to 6), and then a fresh one.
     pub fn from_lists(parents: &[u8], pebbles: &[u8], targets: &[u8]) -> Answered
-        ensures { λ r. ⌜ paperDone (r .answer) ≡ judge (yardOf (now (parents .entry)) (now (pebbles .entry)) (now (targets .entry))) ⌝ }
-        ensures { λ r. ⌜ r .yard ≡ cond (isNone (judge (yardOf (now (parents .entry)) (now (pebbles .entry)) (now (targets .entry))))) (stateOf (now (parents .entry)) (now (pebbles .entry)) (now (targets .entry)) (length (now (parents .entry)))) (stateOf [] [] [] 1) ⌝ }
+        ensures { λ r. ⌜ paperDone (r .answer) ≡ judge (given parents pebbles targets) ⌝ }
+        ensures { λ r. ⌜ r .yard ≡ cond (isNone (judge (given parents pebbles targets))) (stateOf (now (parents .entry)) (now (pebbles .entry)) (now (targets .entry)) (length (now (parents .entry)))) (stateOf [] [] [] 1) ⌝ }
     {
         let answer = test_yard(parents, pebbles, targets);
         if let Done::Refused(r) = answer {

@@ -1,0 +1,14 @@
+-- The yard of three lent lists, in one word for contracts.
+use mathlib.Core.List.{List}
+use Prim.Native.Nat.{ℕ}
+use denote.Ref.{RefT, now}
+use denote.Triple.Both.{Both}
+use Rattle.model.specs.Yard.{Yard, yardOf}
+
+-- as the call found them, for an `ensures`
+abbrev pub given : {X Y Z : Type 0} → Both (RefT (List ℕ)) X → Both (RefT (List ℕ)) Y → Both (RefT (List ℕ)) Z → Yard
+given parents pebbles targets = yardOf (now (parents .entry)) (now (pebbles .entry)) (now (targets .entry))
+
+-- as they are, for a `requires`
+abbrev pub handed : RefT (List ℕ) → RefT (List ℕ) → RefT (List ℕ) → Yard
+handed parents pebbles targets = yardOf (now parents) (now pebbles) (now targets)
