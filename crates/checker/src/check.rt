@@ -1,9 +1,7 @@
 // The checker.
 ghost use mathlib.Core.Path.{_≡_};
 ghost use mathlib.Core.List.{[], _∷_};
-ghost use lib.ListN.{length, getD};
-ghost use lib.Dec.{ltb};
-ghost use Rattle.model.specs.Yard.{below, headOr, Matched};
+ghost use Rattle.model.specs.Yard.{Matched};
 ghost use Rattle.model.specs.Given.{given, handed};
 ghost use Rattle.model.specs.Judge.{firstOf, Tree};
 ghost use Rattle.model.specs.Push.{run};
@@ -12,25 +10,11 @@ ghost use Rattle.model.specs.Paper.{paperDone, paperChecked};
 use crate::obey::obey_copy;
 use crate::obey::whole_plan;
 use demand::call::shortest_length;
-use demand::call::test_matched;
+use judge::totals::test_matched;
+use lists::find::first_below;
 use model::Checked;
 use model::Done;
 use model::Refusal;
-
-// The lowest node with more targets than pebbles, or the number of nodes.
-fn first_empty(pebbles: &[u8], targets: &[u8]) -> usize
-    requires { ⌜ length (now targets) ≡ length (now pebbles) ⌝ }
-    ensures { λ r. ⌜ r ≡ headOr (length (now (pebbles .entry))) (below (length (now (pebbles .entry))) (λ v. ltb (getD (now (pebbles .entry)) v 0) (getD (now (targets .entry)) v 0))) ⌝ }
-{
-    let mut i = 0;
-    while i < pebbles.len() {
-        if pebbles[i] < targets[i] {
-            return i;
-        }
-        i += 1;
-    }
-    i
-}
 
 // Obeys a whole plan on a copy of the pebbles of a tree: refusals 10 to 13 move by move, then 14.
 fn obey_to_end(parents: &[u8], pebbles: &[u8], targets: &[u8], plan: &[u8]) -> Done
@@ -50,7 +34,7 @@ fn obey_to_end(parents: &[u8], pebbles: &[u8], targets: &[u8], plan: &[u8]) -> D
     if let Done::Refused(r) = done {
         return Done::Refused(r);
     }
-    let empty = first_empty(&marks[..n], targets);
+    let empty = first_below(&marks[..n], targets);
     if empty < n {
         return Done::Refused(Refusal::TargetEmpty(empty));
     }

@@ -1,4 +1,4 @@
-// What the checker and the trial share: the test of a plan's length, a copy of marks, and the moves of a plan's front obeyed one by one.
+// What the checker and the trial share: the test of a plan's length, and the moves of a plan's front obeyed one by one.
 ghost use mathlib.Core.Path.{_≡_};
 ghost use mathlib.Core.Option.{none};
 ghost use Prim.Native.Nat.{_*_, _≤_};
@@ -8,6 +8,7 @@ ghost use Rattle.model.specs.Judge.{fault, unless, Tree};
 ghost use Rattle.model.specs.Push.{after};
 ghost use Rattle.model.specs.Calls.{movesOf, bytesFault, movesFault};
 ghost use Rattle.model.specs.Paper.{paperDone};
+use lists::copy::copy;
 use model::Done;
 use yard::step::step;
 
@@ -19,18 +20,6 @@ pub fn whole_plan(plan: &[u8]) -> bool
         return false;
     }
     plan.len() <= 131070
-}
-
-// Copies a list over another of the same length.
-pub fn copy(from: &[u8], to: &mut [u8])
-    requires { ⌜ length (now to) ≡ length (now from) ⌝ }
-    ensures { λ _. ⌜ now (to .exit) ≡ now (from .entry) ⌝ }
-{
-    let mut i = 0;
-    while i < from.len() {
-        to[i] = from[i];
-        i += 1;
-    }
 }
 
 // Obeys the first `count` moves of a plan on the pebbles of a tree. A refusal is that of the first move that is refused, with its number as

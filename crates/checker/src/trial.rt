@@ -1,29 +1,20 @@
 // The trial: a plan obeyed until a budget or the plan ends.
 ghost use mathlib.Core.Path.{_≡_};
-ghost use Prim.Native.Nat.{_*_, _≤_, min};
+ghost use Prim.Native.Nat.{_*_, _≤_};
 ghost use lib.ListN.{length, take};
 ghost use Rattle.model.specs.Given.{given, handed};
 ghost use Rattle.model.specs.Judge.{Tree};
 ghost use Rattle.model.specs.Push.{after};
 ghost use Rattle.model.specs.Calls.{movesOf, lent, movesFault, trialAnswer, trialPebbles};
 ghost use Rattle.model.specs.Paper.{paperDone, paperTried};
-use crate::obey::copy;
 use crate::obey::obey_copy;
 use crate::obey::whole_plan;
 use judge::test::test_yard;
+use lists::copy::copy;
+use lists::numbers::smaller;
 use model::Done;
 use model::Refusal;
 use model::Tried;
-
-// The smaller of two numbers.
-fn smaller(a: usize, b: usize) -> usize
-    ensures { λ r. ⌜ r ≡ min a b ⌝ }
-{
-    if a <= b {
-        return a;
-    }
-    b
-}
 
 // Obeys the first `count` moves of a plan on a copy of the pebbles of a tree, and writes the new marks if none is refused.
 fn obey_or_leave(

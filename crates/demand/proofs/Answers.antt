@@ -41,23 +41,6 @@ module _ (y : Yard) where
     unfolding demandsFault
     demands-none t e = rw (t, eq-eqb (length list) (size y) e)
 
-  -- the figures
-  pub figure-refused : {f : Fault} → judge y ≡ some f → figureFault y ≡ some f
-  unfolding figureFault
-  figure-refused e = rw e
-
-  pub figure-totals : Tree y → (Matched y → ⊥) → figureFault y ≡ fault 7 0
-  unfolding figureFault
-  figure-totals t d = rw (t, totals-differ y .1 d)
-
-  pub figure-none : Tree y → Matched y → figureFault y ≡ none
-  unfolding figureFault
-  figure-none t m = rw (t, totals-none y .1 m)
-
-  pub figure-tree : figureFault y ≡ none → Tree y
-  unfolding figureFault
-  figure-tree e = none-all (figureTests y) e .0
-
   module _ (t : Tree y) where
     -- a list of all demands
     pub demands-small : {list : List ℤ} → list ≡ map (demand y) (range 0 (size y)) → (length list ≤ maxSize) × ((v : ℕ) → natAbs (getD list v (pos 0)) ≤ maxSize)

@@ -1,15 +1,17 @@
-// The account call, the totals' test, and the figures.
+// The account call and the figures.
 ghost use mathlib.Core.Path.{_≡_};
 ghost use Prim.Native.Nat.{_-_, _≤_};
 ghost use lib.ListN.{length, getD};
 ghost use Rattle.model.specs.Yard.{sum, maxSize, shortest};
 ghost use Rattle.model.specs.Given.{given, handed};
 ghost use Rattle.model.specs.Judge.{Tree};
-ghost use Rattle.model.specs.Calls.{demandsFault, demandsList, figureFault, boundAnswer, displacedAnswer};
+ghost use Rattle.model.specs.Calls.{demandsFault, demandsList, boundAnswer, displacedAnswer};
 ghost use Rattle.model.specs.Paper.{paperDone, paperCounted};
 use crate::fill::fill;
 use crate::signed::sizes;
 use judge::test::test_yard;
+use judge::totals::test_matched;
+use lists::total::total;
 use model::Counted;
 use model::Done;
 use model::Refusal;
@@ -28,36 +30,6 @@ pub fn demands(parents: &[u8], pebbles: &[u8], targets: &[u8], list: &mut [i16])
         return Done::Refused(Refusal::ListLength);
     }
     fill(parents, pebbles, targets, list);
-    Done::Accepted
-}
-
-// The sum of a list of marks.
-fn total(list: &[u8]) -> usize
-    requires { ⌜ length (now list) ≤ maxSize ⌝ }
-    ensures { λ r. ⌜ r ≡ sum (length (now (list .entry))) (λ v. getD (now (list .entry)) v 0) ⌝ }
-{
-    let mut count = 0;
-    let mut i = 0;
-    while i < list.len() {
-        count += list[i] as usize;
-        i += 1;
-    }
-    count
-}
-
-// Refusals 1 to 7: three lists of a tree with as many pebbles as targets.
-pub fn test_matched(parents: &[u8], pebbles: &[u8], targets: &[u8]) -> Done
-    ensures { λ r. ⌜ paperDone r ≡ figureFault (given parents pebbles targets) ⌝ }
-{
-    let tested = test_yard(parents, pebbles, targets);
-    if let Done::Refused(r) = tested {
-        return Done::Refused(r);
-    }
-    let pebble_count = total(pebbles);
-    let target_count = total(targets);
-    if pebble_count != target_count {
-        return Done::Refused(Refusal::Totals);
-    }
     Done::Accepted
 }
 

@@ -25,9 +25,9 @@ use model::Done;
 use model::Refusal;
 use model::Tried;
 use reader::read::read_sheet;
+use refusal::number;
+use refusal::place;
 use sheet::writer::write_sheet;
-use yard::refusal::number;
-use yard::refusal::place;
 use yard::state::push_lists;
 
 // A refusal as one number.

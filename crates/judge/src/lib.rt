@@ -1,4 +1,4 @@
-// The test of three lists: refusals 1 to 6.
+// The test of three lists: refusals 1 to 6, and 7.
 pub mod circle;
-pub mod scan;
 pub mod test;
+pub mod totals;

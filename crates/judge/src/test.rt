@@ -8,8 +8,8 @@ ghost use Rattle.model.specs.Given.{given};
 ghost use Rattle.model.specs.Judge.{firstOf, lengthTests, entryTests, shapeTests, judge};
 ghost use Rattle.model.specs.Paper.{paperDone};
 use crate::circle::first_circle;
-use crate::scan::first_at_least;
-use crate::scan::first_own;
+use lists::find::first_at_least;
+use lists::find::first_own;
 use model::Done;
 use model::Refusal;
 

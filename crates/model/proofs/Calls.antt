@@ -117,6 +117,18 @@ seven y t a fs o = (
 
 -- the calls that begin with refusals 1 to 7
 module _ (y : Yard) where
+  pub figure-refused : {f : Fault} → judge y ≡ some f → figureFault y ≡ some f
+  unfolding figureFault
+  figure-refused e = rw e
+
+  pub figure-totals : Tree y → (Matched y → ⊥) → figureFault y ≡ fault 7 0
+  unfolding figureFault
+  figure-totals t d = rw (t, totals-differ y .1 d)
+
+  pub figure-none : Tree y → Matched y → figureFault y ≡ none
+  unfolding figureFault
+  figure-none t m = rw (t, totals-none y .1 m)
+
   pub figure-matched : figureFault y ≡ none → Tree y × Matched y
   unfolding figureFault
   figure-matched e = let a = none-all (figureTests y) e in (a .0, totals-none y .0 (a .1 .0))

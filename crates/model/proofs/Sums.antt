@@ -1,4 +1,4 @@
--- Laws of `sum`, each by induction on the number of terms.
+-- Laws of `sum` and `most`, each by induction on the number of terms.
 use mathlib.Core.Path.{_≡_, refl, sym, ap, _∙_}
 use mathlib.Core.Logic.{_≢_}
 use mathlib.Core.Bool.{Bool, true, false, cond}
@@ -10,7 +10,7 @@ use native.Mathlib.Decide.{ℕ-discrete, decLt}
 use lib.ListN.{length, length-append}
 use lib.Dec.{eqb}
 use borrow.Author.Tests.{eq-eqb, ne-eqb}
-use Rattle.model.specs.Yard.{sum, one, below}
+use Rattle.model.specs.Yard.{sum, most, one, below}
 
 pub sum-cong : (n : ℕ) (f g : ℕ → ℕ) → ((v : ℕ) → v < n → f v ≡ g v) → sum n f ≡ sum n g
 unfolding sum
@@ -108,3 +108,13 @@ length-below (suc n) p = rw (length-append, length-below n p) (ap (λ (x : ℕ).
     last : (b : Bool) → length (cond b (n ∷ []) []) ≡ one b
     last true = refl
     last false = refl
+
+-- most
+pub most-le : (f : ℕ → ℕ) (n i : ℕ) → i < n → f i ≤ most n f
+unfolding most
+most-le f zero i l = absurd (omega arith)
+most-le f (suc n) i l = go (ℕ-discrete i n) (most-le f n i)
+  where
+    go : Dec (i ≡ n) → (i < n → f i ≤ most n f) → f i ≤ most (suc n) f
+    go (yes e) ih = rw e (omega arith)
+    go (no d) ih = omega (arith, ih (omega arith))

@@ -3,7 +3,7 @@
 use mathlib.Core.Path.{_≡_}
 use mathlib.Core.Bool.{Bool, true, false, not, cond, _&&_, _||_}
 use mathlib.Core.List.{List, [], _∷_, _++_}
-use Prim.Native.Nat.{ℕ, zero, suc, _+_, _-_, _*_}
+use Prim.Native.Nat.{ℕ, zero, suc, _+_, _-_, _*_, max}
 use lib.ListN.{length, getD}
 use lib.Dec.{leb, ltb, eqb}
 use lib.IntN.{ℤ, subℕ}
@@ -79,6 +79,15 @@ below (suc n) p = below n p ++ cond (p n) (n ∷ []) []
 abbrev pub headOr : ℕ → List ℕ → ℕ
 headOr d [] = d
 headOr d (v ∷ vs) = v
+
+-- the lowest number below n that passes a test, or n
+abbrev pub lowest : ℕ → (ℕ → Bool) → ℕ
+lowest n p = headOr n (below n p)
+
+-- the largest f at a number below n
+unfoldable pub most : ℕ → (ℕ → ℕ) → ℕ
+most zero f = 0
+most (suc n) f = max (most n f) (f n)
 
 -- v is a child of u: u is its parent, and not v itself
 abbrev pub isChild : List ℕ → ℕ → ℕ → Bool

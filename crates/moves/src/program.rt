@@ -12,10 +12,10 @@ use model::Counted;
 use model::Refusal;
 use planner::plan::plan;
 use reader::read::read_sheet;
+use refusal::number;
+use refusal::place;
 use sheet::output::put_moves;
 use sheet::output::put_refusal;
-use yard::refusal::number;
-use yard::refusal::place;
 
 // Room for every output: the head of a move sheet has 8 bytes, and so has the longest of its 16,384 lines at most.
 pub const OUTPUT_BYTES: usize = 131_080;

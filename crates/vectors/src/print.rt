@@ -4,8 +4,8 @@ use model::Counted;
 use model::Done;
 use model::Refusal;
 use model::Tried;
-use yard::refusal::number;
-use yard::refusal::place;
+use refusal::number;
+use refusal::place;
 
 pub fn text(bytes: &[u8]) {
     io::write_all(1, bytes);

@@ -1,4 +1,3 @@
-// Refusals by number and place, one step, and the yard state with its push.
-pub mod refusal;
+// One step, and the yard state with its push.
 pub mod state;
 pub mod step;

@@ -52,15 +52,15 @@ enum-told c = search needs
 array-share-prefix-marks : tie.Need-array-share-prefix-marks
 array-share-prefix-marks c = back (c .before .before .before) .fits
 
-slice-aggregate-first-empty : tie.Need-slice-aggregate-first-empty
-slice-aggregate-first-empty c = back (c .before .before .before .before) .long
+slice-aggregate-first-below : tie.Need-slice-aggregate-first-below
+slice-aggregate-first-below c = back (c .before .before .before .before) .long
 
-first-empty-requires : tie.Need-first-empty-requires
-first-empty-requires c κs = facts _ (c .before .before .before .before .before .before .before .before .before .before .pre) .targets-size ∙ back (c .before .before .before .before) .long
+first-below-requires : tie.Need-first-below-requires
+first-below-requires c κs = facts _ (c .before .before .before .before .before .before .before .before .before .before .pre) .targets-size ∙ back (c .before .before .before .before) .long
 
 -- no move is refused, and the search is made in the yard at the end
-ended : (c : tie.After-first-empty) → let a = c .before .before .before .before .before .before .before .before .before .before .before .args in let y = yardOf (a .parents .now) (a .pebbles .now) (a .targets .now) in let z = run y (movesOf (a .plan .now)) in
-    (movesFault 0 y (movesOf (a .plan .now)) ≡ none) × (c .first-empty .result ≡ headOr (length (a .parents .now)) (below (length (a .parents .now)) (λ v. ltb (pebble z v) (target z v))))
+ended : (c : tie.After-first-below) → let a = c .before .before .before .before .before .before .before .before .before .before .before .args in let y = yardOf (a .parents .now) (a .pebbles .now) (a .targets .now) in let z = run y (movesOf (a .plan .now)) in
+    (movesFault 0 y (movesOf (a .plan .now)) ≡ none) × (c .first-below .result ≡ headOr (length (a .parents .now)) (below (length (a .parents .now)) (λ v. ltb (pebble z v) (target z v))))
 ended c =
     let e = c .before .before in
     let t = e .before .before .before in
@@ -70,7 +70,7 @@ ended c =
     let at-end : t .obey-copy .last .1 .1 .0 ≡ after y ms = rw front-all at (t .obey-copy .ensures .1 (ap paperDone (e .enum-told .given .1))) in
     let long = facts (run y ms) (run-tree (obeys ms y (s .pre)) (s .pre)) .pebbles-size in (
       rw front-all at (sees (t .obey-copy .ensures .0) (e .enum-told .given .1)),
-      rw (back t .is, at-end, long) at (c .first-empty .ensures),
+      rw (back t .is, at-end, long) at (c .first-below .ensures),
     )
 
 returns-2 : tie.Need-returns-2
@@ -94,7 +94,7 @@ obey-to-end-spec =
     returns
     enum-told
     array-share-prefix-marks
-    slice-aggregate-first-empty
-    first-empty-requires
+    slice-aggregate-first-below
+    first-below-requires
     returns-2
     returns-3)

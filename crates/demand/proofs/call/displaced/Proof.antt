@@ -8,8 +8,7 @@ use Rattle.model.specs.Yard.{Yard, yardOf, pebble, target, sum}
 use Rattle.model.specs.Judge.{Tree}
 use Rattle.model.specs.Calls.{answered, figureFault}
 use Rattle.model.proofs.Judged.{facts}
-use Rattle.model.proofs.Calls.{sees}
-use Rattle.demand.proofs.Answers.{figure-tree}
+use Rattle.model.proofs.Calls.{sees, figure-matched}
 use Rattle.demand.proofs.call.displaced.Statement.{statement}
 use Rattle.demand.proofs.call.displaced.Tie as tie
 
@@ -22,7 +21,7 @@ accepted : (c : tie.After-enum-told) → figureFault (yard c) ≡ none
 accepted c = sees (c .before .before .test-matched .ensures) (c .enum-told .given .1)
 
 tree : (c : tie.After-enum-told) → Tree (yard c)
-tree c = figure-tree (yard c) (accepted c)
+tree c = figure-matched (yard c) (accepted c) .0
 
 test-matched-requires : tie.Need-test-matched-requires
 test-matched-requires c κs = search needs

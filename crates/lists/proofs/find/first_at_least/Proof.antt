@@ -1,11 +1,12 @@
--- `judge::scan::first_at_least` meets its contract: if the greatest entry is below the limit, each is.
+-- `first_at_least`: if the greatest entry is below the limit, each is.
 use native.Mathlib.Omega.{arith}
 use lib.ListN.{getD}
 use borrow.Author.Needs.{needs}
 use borrow.Author.Tests.{lt-leb}
 use Rattle.model.proofs.Found.{missed}
-use Rattle.judge.proofs.scan.first_at_least.Statement.{statement}
-use Rattle.judge.proofs.scan.first_at_least.Tie as tie
+use Rattle.model.proofs.Sums.{most-le}
+use Rattle.lists.proofs.find.first_at_least.Statement.{statement}
+use Rattle.lists.proofs.find.first_at_least.Tie as tie
 
 greatest-requires : tie.Need-greatest-requires
 greatest-requires c κs = search needs
@@ -17,7 +18,7 @@ returns : tie.Need-returns
 returns c =
     let g = c .before in
     let a = g .before .before .args in
-    missed _ _ _ (λ v l. lt-leb (a .limit) (getD (a .list .now) v 0) (omega (arith, g .greatest .ensures v l, c .if1 .taken)))
+    missed _ _ _ (λ v l. lt-leb (a .limit) (getD (a .list .now) v 0) (omega (arith, g .greatest .ensures, most-le (λ w. getD (a .list .now) w 0) _ v l, c .if1 .taken)))
 
 look-for-requires : tie.Need-look-for-requires
 look-for-requires c κs = search needs

@@ -1,5 +1,4 @@
--- `first_empty` answers the lowest node with more targets than pebbles: no node before the index has, so the first one met is the lowest, and
--- past the end there is none.
+-- `first_below`: no entry before the index is below the other's, so the first one met is the lowest, and past the end there is none.
 use Prim.Native.Nat.{ℕ, _-_, _<_, _≤_}
 use mathlib.Core.Path.{_≡_, _∙_}
 use mathlib.Core.Bool.{false}
@@ -9,14 +8,14 @@ use lib.Dec.{ltb}
 use borrow.Author.Needs.{needs}
 use borrow.Author.Tests.{lt-ltb, le-ltb}
 use Rattle.model.proofs.Found.{found, missed, none-next}
-use Rattle.checker.proofs.check.first_empty.Statement.{statement}
-use Rattle.checker.proofs.check.first_empty.Tie as tie
+use Rattle.lists.proofs.find.first_below.Statement.{statement}
+use Rattle.lists.proofs.find.first_below.Tie as tie
 
 abbrev Inv-loop : tie.InvT-loop
-Inv-loop pebbles targets i₀ i = (i ≤ length pebbles) × ((v : ℕ) → v < i → ltb (getD pebbles v 0) (getD targets v 0) ≡ false)
+Inv-loop list other i₀ i = (i ≤ length list) × ((v : ℕ) → v < i → ltb (getD list v 0) (getD other v 0) ≡ false)
 
 abbrev μ-loop : tie.MeasureT-loop
-μ-loop pebbles targets i₀ i = length pebbles - i
+μ-loop list other i₀ i = length list - i
 
 loop-holds : tie.Need-loop-holds Inv-loop μ-loop
 loop-holds c = (omega arith, λ v l. absurd (omega arith))
@@ -41,11 +40,11 @@ loop-again c = (omega arith, none-next _ _ (c .before .before .before .before .l
 
 returns-2 : tie.Need-returns-2 Inv-loop μ-loop
 returns-2 c =
-    let e : c .before .loop .i ≡ length (c .before .before .args .pebbles .now) = omega arith in
+    let e : c .before .loop .i ≡ length (c .before .before .args .list .now) = omega arith in
     e ∙ missed _ _ _ (λ v l. c .before .loop .inv .1 v (omega arith))
 
-pub first-empty-spec : {M : Type 1} → statement M
-first-empty-spec =
+pub first-below-spec : {M : Type 1} → statement M
+first-below-spec =
     tie.close
     (tie.spec
     Inv-loop

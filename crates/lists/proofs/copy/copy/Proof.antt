@@ -7,9 +7,9 @@ use native.Mathlib.Omega.{arith}
 use lib.ListN.{length, take, drop, length-set}
 use lib.Seq.{take-length, drop-length}
 use borrow.Author.Needs.{needs}
-use Rattle.yard.proofs.Laws.{copied}
-use Rattle.checker.proofs.obey.copy.Statement.{statement}
-use Rattle.checker.proofs.obey.copy.Tie as tie
+use Rattle.lists.proofs.Copied.{copied}
+use Rattle.lists.proofs.copy.copy.Statement.{statement}
+use Rattle.lists.proofs.copy.copy.Tie as tie
 
 abbrev Inv-loop : tie.InvT-loop
 Inv-loop from to₀ i₀ to i = (i ≤ length from) × (length to ≡ length from) × (to ≡ take i from ++ drop i to₀)

@@ -1,4 +1,4 @@
--- `judge::scan::look_for` meets its contract: every entry before the index is below the limit, so the first one met is the lowest, and past the
+-- `look_for`: every entry before the index is below the limit, so the first one met is the lowest, and past the
 -- end there is none.
 use Prim.Native.Nat.{ℕ, _-_, _<_, _≤_}
 use mathlib.Core.Path.{_≡_, _∙_}
@@ -8,8 +8,8 @@ use lib.ListN.{length, getD}
 use lib.Dec.{leb}
 use borrow.Author.Tests.{le-leb, lt-leb}
 use Rattle.model.proofs.Found.{found, missed, none-next}
-use Rattle.judge.proofs.scan.look_for.Statement.{statement}
-use Rattle.judge.proofs.scan.look_for.Tie as tie
+use Rattle.lists.proofs.find.look_for.Statement.{statement}
+use Rattle.lists.proofs.find.look_for.Tie as tie
 
 abbrev Inv-loop : tie.InvT-loop
 Inv-loop list limit i₀ i = (i ≤ length list) × ((v : ℕ) → v < i → leb limit (getD list v 0) ≡ false)

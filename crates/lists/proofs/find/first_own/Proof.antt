@@ -1,4 +1,4 @@
--- `judge::scan::first_own` meets its contract: no index before it, from `start` on, is its own entry, so the first one met is the lowest, and past
+-- `first_own`: no index before it, from `start` on, is its own entry, so the first one met is the lowest, and past
 -- the end there is none.
 use Prim.Native.Nat.{ℕ, _-_, _<_, _≤_}
 use mathlib.Core.Path.{_≡_}
@@ -9,8 +9,8 @@ use lib.ListN.{length, getD}
 use lib.Dec.{leb, eqb}
 use borrow.Author.Tests.{eq-eqb, ne-eqb, le-leb, lt-leb}
 use Rattle.model.proofs.Found.{found, missed, none-next}
-use Rattle.judge.proofs.scan.first_own.Statement.{statement}
-use Rattle.judge.proofs.scan.first_own.Tie as tie
+use Rattle.lists.proofs.find.first_own.Statement.{statement}
+use Rattle.lists.proofs.find.first_own.Tie as tie
 
 abbrev own : List ℕ → ℕ → ℕ → Bool
 own list start v = (leb start v) && (eqb (getD list v 0) v)

@@ -6,10 +6,9 @@ use mathlib.Core.Path.{_≡_, sym, ap, _∙_}
 use Rattle.model.specs.Yard.{Yard, yardOf, pebble, target, sum, pebbleCount, targetCount}
 use Rattle.model.specs.Judge.{Tree}
 use Rattle.model.proofs.Judged.{facts}
-use Rattle.model.proofs.Calls.{sees}
-use Rattle.demand.proofs.Answers.{figure-refused, figure-totals, figure-none}
-use Rattle.demand.proofs.call.test_matched.Statement.{statement}
-use Rattle.demand.proofs.call.test_matched.Tie as tie
+use Rattle.model.proofs.Calls.{sees, figure-refused, figure-totals, figure-none}
+use Rattle.judge.proofs.totals.test_matched.Statement.{statement}
+use Rattle.judge.proofs.totals.test_matched.Tie as tie
 
 abbrev yard : tie.After-enum-told → Yard
 yard c =

@@ -1,4 +1,4 @@
--- `total` is the sum: after i turns the count is the sum of the first i marks. Each is at most 255, and there are at most 256, so it fits.
+-- `total` is the sum: after i turns the count is the sum of the first i entries. Each is at most 255, and there are at most 256, so it fits.
 use borrow.Author.Needs.{needs}
 use native.Mathlib.Omega.{arith}
 use native.Mathlib.Numerals.{add-one}
@@ -6,8 +6,8 @@ use Prim.Native.Nat.{ℕ, _-_, _*_, _≤_, _<_}
 use mathlib.Core.Path.{_≡_, ap, _∙_}
 use lib.ListN.{length, getD}
 use Rattle.model.specs.Yard.{sum}
-use Rattle.demand.proofs.call.total.Statement.{statement}
-use Rattle.demand.proofs.call.total.Tie as tie
+use Rattle.lists.proofs.total.total.Statement.{statement}
+use Rattle.lists.proofs.total.total.Tie as tie
 
 abbrev Inv-loop : tie.InvT-loop
 Inv-loop list count₀ i₀ count i = (i ≤ length list) × (count ≡ sum i (λ v. getD list v 0)) × (count ≤ 255 * i)

@@ -1,0 +1,2 @@
+-- Laws for loops over lists.
+pub mod Copied
