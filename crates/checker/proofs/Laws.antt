@@ -13,7 +13,9 @@ use borrow.Author.Tests.{not-true, not-false}
 use Rattle.model.specs.Yard.{Yard, yardOf, shortest, Matched}
 use Rattle.model.specs.Judge.{Fault, fault, firstOf, unless, judge, Tree}
 use Rattle.model.specs.Push.{Move, push, moveFault, shifted, after, run}
-use Rattle.model.specs.Calls.{answered, refused, lent, movesOf, bytesFault, movesFault, endFault, Verdict, checkTests, checkFault, checkAnswer, within, trialFault, trialAnswer, trialPebbles}
+use Rattle.model.specs.Calls.Answers.{answered, refused, lent}
+use Rattle.model.specs.Calls.Plans.{movesOf}
+use Rattle.model.specs.Calls.Checks.{bytesFault, movesFault, endFault, Verdict, checkTests, checkFault, checkAnswer, within, trialFault, trialAnswer, trialPebbles}
 use Rattle.model.proofs.Basics.{none-all}
 use Rattle.model.proofs.Calls.{movesOf-half, totals-none}
 use Rattle.model.proofs.Step.{step, moved-tree}

@@ -12,7 +12,7 @@ use lib.Dec.{eqb}
 use lib.IntN.{ℤ, pos}
 use borrow.Author.Tests.{eq-eqb, ne-eqb}
 use Rattle.model.specs.Yard.{one}
-use Rattle.model.specs.Calls.{range}
+use Rattle.model.specs.Calls.Answers.{range}
 
 -- by d up or e down
 pub stored : (xs : List ℕ) (i v a d e : ℕ) → i < length xs → getD xs i 0 + d ≡ a + e → getD xs v 0 + one (eqb v i) * d ≡ getD (set xs i a) v 0 + one (eqb v i) * e

@@ -5,7 +5,7 @@ ghost use lib.ListN.{length, getD};
 ghost use Rattle.model.specs.Yard.{sum, maxSize, shortest};
 ghost use Rattle.model.specs.Given.{given, handed};
 ghost use Rattle.model.specs.Judge.{Tree};
-ghost use Rattle.model.specs.Calls.{demandsFault, demandsList, boundAnswer, displacedAnswer};
+ghost use Rattle.model.specs.Calls.Demands.{demandsFault, demandsList, boundAnswer, displacedAnswer};
 ghost use Rattle.model.specs.Paper.{paperDone, paperCounted};
 use crate::fill::fill;
 use crate::signed::sizes;

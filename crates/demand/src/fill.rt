@@ -8,7 +8,7 @@ ghost use lib.IntN.{pos, subℕ};
 ghost use Rattle.model.specs.Yard.{up, one, sum, demand};
 ghost use Rattle.model.specs.Given.{given, handed};
 ghost use Rattle.model.specs.Judge.{Tree};
-ghost use Rattle.model.specs.Calls.{range};
+ghost use Rattle.model.specs.Calls.Answers.{range};
 use crate::signed::difference;
 use crate::signed::plus;
 

@@ -1,7 +1,7 @@
 // Refusal 7: the totals of pebbles and targets.
 ghost use mathlib.Core.Path.{_≡_};
+ghost use Rattle.model.specs.Judge.{matchedFault};
 ghost use Rattle.model.specs.Given.{given};
-ghost use Rattle.model.specs.Calls.{figureFault};
 ghost use Rattle.model.specs.Paper.{paperDone};
 use crate::test::test_yard;
 use lists::total::total;
@@ -10,7 +10,7 @@ use model::Refusal;
 
 // Refusals 1 to 7: three lists of a tree with as many pebbles as targets.
 pub fn test_matched(parents: &[u8], pebbles: &[u8], targets: &[u8]) -> Done
-    ensures { λ r. ⌜ paperDone r ≡ figureFault (given parents pebbles targets) ⌝ }
+    ensures { λ r. ⌜ paperDone r ≡ matchedFault (given parents pebbles targets) ⌝ }
 {
     let tested = test_yard(parents, pebbles, targets);
     if let Done::Refused(r) = tested {

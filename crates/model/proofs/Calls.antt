@@ -11,10 +11,12 @@ use lib.Seq.{take-at}
 use lib.Dec.{ltb}
 use borrow.Author.Tests.{eqb-true, eq-eqb, ne-eqb, leb-true, le-leb}
 use Rattle.model.specs.Yard.{Yard, size, full, held, pebbleCount, targetCount, Matched}
-use Rattle.model.specs.Judge.{Fault, row, fault, firstOf, unless, atLowest, judge, Tree}
+use Rattle.model.specs.Judge.{Fault, row, fault, firstOf, unless, atLowest, judge, Tree, totalsFault, matchedTests, matchedFault}
 use Rattle.model.specs.Push.{Move, adjacent, moveTests, moveFault, pushed}
 use Rattle.model.specs.Plan.{plan}
-use Rattle.model.specs.Calls.{answered, refused, answer, overwrite, totalsFault, bytes, movesOf, planTests, planFault, movesFault, checkTests, checkFault, figureTests, figureFault}
+use Rattle.model.specs.Calls.Answers.{answered, refused, answer, overwrite}
+use Rattle.model.specs.Calls.Plans.{bytes, movesOf, planTests, planFault}
+use Rattle.model.specs.Calls.Checks.{movesFault, checkTests, checkFault}
 use Rattle.model.specs.Paper.{paperDone}
 use Rattle.model.specs.declared.Done.{Done}
 use Rattle.model.proofs.Basics.{All, none-all, all-none, unless-none, first-refused}
@@ -117,27 +119,27 @@ seven y t a fs o = (
 
 -- the calls that begin with refusals 1 to 7
 module _ (y : Yard) where
-  pub figure-refused : {f : Fault} → judge y ≡ some f → figureFault y ≡ some f
-  unfolding figureFault
-  figure-refused e = rw e
+  pub matched-refused : {f : Fault} → judge y ≡ some f → matchedFault y ≡ some f
+  unfolding matchedFault
+  matched-refused e = rw e
 
-  pub figure-totals : Tree y → (Matched y → ⊥) → figureFault y ≡ fault 7 0
-  unfolding figureFault
-  figure-totals t d = rw (t, totals-differ y .1 d)
+  pub matched-totals : Tree y → (Matched y → ⊥) → matchedFault y ≡ fault 7 0
+  unfolding matchedFault
+  matched-totals t d = rw (t, totals-differ y .1 d)
 
-  pub figure-none : Tree y → Matched y → figureFault y ≡ none
-  unfolding figureFault
-  figure-none t m = rw (t, totals-none y .1 m)
+  pub matched-none : Tree y → Matched y → matchedFault y ≡ none
+  unfolding matchedFault
+  matched-none t m = rw (t, totals-none y .1 m)
 
-  pub figure-matched : figureFault y ≡ none → Tree y × Matched y
-  unfolding figureFault
-  figure-matched e = let a = none-all (figureTests y) e in (a .0, totals-none y .0 (a .1 .0))
+  pub matched-tree : matchedFault y ≡ none → Tree y × Matched y
+  unfolding matchedFault
+  matched-tree e = let a = none-all (matchedTests y) e in (a .0, totals-none y .0 (a .1 .0))
 
-  module _ (f : Fault) (e : figureFault y ≡ some f) where
-    pub plan-figure : (room : ℕ) → planFault y room ≡ some f
-    unfolding figureFault planFault
-    plan-figure room = first-refused (figureTests y) (drop 2 (planTests y room)) f e
+  module _ (f : Fault) (e : matchedFault y ≡ some f) where
+    pub plan-matched : (room : ℕ) → planFault y room ≡ some f
+    unfolding matchedFault planFault
+    plan-matched room = first-refused (matchedTests y) (drop 2 (planTests y room)) f e
 
-    pub check-figure : (bs : List ℕ) → checkFault y bs ≡ some f
-    unfolding figureFault checkFault
-    check-figure bs = first-refused (figureTests y) (drop 2 (checkTests y bs)) f e
+    pub check-matched : (bs : List ℕ) → checkFault y bs ≡ some f
+    unfolding matchedFault checkFault
+    check-matched bs = first-refused (matchedTests y) (drop 2 (checkTests y bs)) f e

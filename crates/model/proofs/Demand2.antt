@@ -15,10 +15,13 @@ use lib.Seq.{ext-getD}
 use lib.Dec.{leb, ltb, eqb}
 use borrow.Author.Tests.{ltb-false, eqb-true, lt-ltb, le-ltb, le-leb, eq-eqb, ne-eqb}
 use Rattle.model.specs.Yard.{Yard, size, parent, pebble, target, held, holding, one, sum, below, shortest, Matched}
-use Rattle.model.specs.Judge.{row, atLowest, Tree}
+use Rattle.model.specs.Judge.{row, atLowest, Tree, matchedFault}
 use Rattle.model.specs.Push.{Move, push, adjacent, moveTests, moveFault, shifted, run, accepted, Solved}
 use Rattle.model.specs.Plan.{plan}
-use Rattle.model.specs.Calls.{answered, refused, bytes, movesOf, planAnswer, maxPlanBytes, bytesFault, endFault, Verdict, checkTests, checkFault, checkAnswer, figureFault, boundAnswer, displacedAnswer}
+use Rattle.model.specs.Calls.Answers.{answered, refused}
+use Rattle.model.specs.Calls.Demands.{boundAnswer, displacedAnswer}
+use Rattle.model.specs.Calls.Plans.{bytes, movesOf, planAnswer}
+use Rattle.model.specs.Calls.Checks.{maxPlanBytes, bytesFault, endFault, Verdict, checkTests, checkFault, checkAnswer}
 use Rattle.model.specs.Demand2.{Carries, Demand2}
 use Rattle.model.proofs.Basics.{below-none, none-below, none-all, all-none, atLowest-none}
 use Rattle.model.proofs.Sums.{sum-cong, sum-tight, length-below}
@@ -145,7 +148,7 @@ pub seven-same : (y : Yard) → Tree y → (list bs : List ℕ) → ((planAnswer
     × ((checkAnswer y bs ≡ refused (row 7 0)) ↔ (¬ Matched y))
     × ((boundAnswer y ≡ refused (row 7 0)) ↔ (¬ Matched y))
     × ((displacedAnswer y ≡ refused (row 7 0)) ↔ (¬ Matched y))
-unfolding checkFault figureFault
+unfolding checkFault matchedFault
 seven-same y t list bs = (
   plan-seven y list t,
   seven y t _ (drop 2 (checkTests y bs)) (

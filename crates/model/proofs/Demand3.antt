@@ -12,7 +12,8 @@ use Rattle.model.specs.Judge.{row, Tree}
 use Rattle.model.specs.Push.{Move, run, accepted, Solved}
 use Rattle.model.specs.Plan.{plan}
 use Rattle.model.specs.Follow.{lifo}
-use Rattle.model.specs.Calls.{answered, refused, bytes, movesOf, planTests, planFault, planAnswer, planList}
+use Rattle.model.specs.Calls.Answers.{answered, refused}
+use Rattle.model.specs.Calls.Plans.{bytes, movesOf, planTests, planFault, planAnswer, planList}
 use Rattle.model.specs.Sheets.{programPlanBytes}
 use Rattle.model.specs.Demand3.{Optimal, Demand3}
 use Rattle.model.proofs.Sums.{sum-cong}

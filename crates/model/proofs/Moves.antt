@@ -10,7 +10,7 @@ use lib.Dec.{ltb}
 use Rattle.model.specs.Yard.{Yard, size, full, held}
 use Rattle.model.specs.Judge.{fault, firstOf, unless, Tree}
 use Rattle.model.specs.Push.{Move, adjacent, moveTests, moveFault, pushFault, legal, moved, pushed, after, run, accepted}
-use Rattle.model.specs.Calls.{movesFault}
+use Rattle.model.specs.Calls.Checks.{movesFault}
 use Rattle.model.proofs.Basics.{none-all, all-none, unless-none}
 use Rattle.model.proofs.Step.{none-is, step, legal-step, moved-tree}
 use Rattle.model.proofs.Runs.{Obeys, obeys}

@@ -13,50 +13,40 @@ use lib.IntN.{ℤ}
 use lib.Dec.{leb, ltb, eqb}
 use borrow.Author.Tests.{leb-true, le-leb, lt-ltb, le-ltb}
 use Rattle.model.specs.Yard.{Yard, size, maxSize, parent, pebble, target, full, held, below, roots, pebbleCount, targetCount, Matched}
-use Rattle.model.specs.Judge.{Fault, row, fault, firstOf, unless, atLowest, sizeFault, lengthFault, rootFault, tests, judge, Tree}
+use Rattle.model.specs.Judge.{Fault, row, fault, firstOf, unless, atLowest, sizeFault, lengthFault, rootFault, tests, judge, Tree, totalsFault, matchedTests, matchedFault}
 use Rattle.model.specs.Push.{Move, adjacent, moveTests, moveFault, pushFault, pushed}
 use Rattle.model.specs.Plan.{plan}
-use Rattle.model.specs.Calls.{Answer, answered, refused, inC, told, answer, mapAnswer, demandsTests, demandsFault, totalsFault, planTests, planFault, maxPlanBytes, bytesFault, movesOf, movesFault, Verdict, checkTests, checkFault, checkAnswer, within, trialTests, trialFault, trialAnswer, trialInC, figureTests, figureFault, boundAnswer, displacedAnswer}
+use Rattle.model.specs.Calls.Answers.{Answer, answered, refused, rowUnit, inC, told, InTable, Row, Small, answer, mapAnswer}
+use Rattle.model.specs.Calls.Demands.{demandsTests, demandsFault, boundAnswer, displacedAnswer}
+use Rattle.model.specs.Calls.Plans.{planTests, planFault, movesOf}
+use Rattle.model.specs.Calls.Checks.{maxPlanBytes, bytesFault, movesFault, Verdict, checkTests, checkFault, checkAnswer, within, trialTests, trialFault, trialAnswer, trialInC}
 use Rattle.model.specs.Sheets.{maxSheetBytes, yardSheet, readYard, reader, readAnswer, writeTests, writeFault, writeAnswer}
 use Rattle.model.proofs.Basics.{All, all-below, none-all, unless-none}
 use Rattle.model.proofs.Sums.{sum-mono, sum-le}
 use Rattle.model.proofs.Judged.{facts}
 use Rattle.model.proofs.Signed.{shortest-small}
-use Rattle.model.proofs.Calls.{movesOf-half, totals-none, plan-none, figure-matched}
+use Rattle.model.proofs.Calls.{movesOf-half, totals-none, plan-none, matched-tree}
 use Rattle.model.proofs.Demand3.{plan-length}
 use Rattle.model.proofs.Sheets.{Bytes, read-write, read-sizes, sheet-length, read-places}
-
--- a refusal of the table with a small place, and an answer that one number tells: a value below 1,000,000, or such a refusal. So all fits 32 bits,
--- and value or number and place can be read off again (`tells`)
-abbrev pub InTable : ℕ → Type 0
-InTable n = (0 < n) × (n ≤ 18)
-
-pub record Row (f : Fault) : Type 0 where
-  pub numbered : InTable (f .number)
-  pub placed : f .place < 1_000_000
-
-abbrev pub Small : Answer ℕ → Type 0
-Small (answered n) = n < 1_000_000
-Small (refused f) = Row f
 
 -- a refusal, if there is one, is of the table and has a small place
 pub data Low : Option Fault → Type 0 where
   passes : Low none
   refuses : {f : Fault} → Row f → Low (some f)
 
-pub small : {f : Option Fault} (n : ℕ) → Low f → (f ≡ none → n < 1_000_000) → Small (answer f n)
+pub small : {f : Option Fault} (n : ℕ) → Low f → (f ≡ none → n < rowUnit) → Small (answer f n)
 small n Low.passes h = h refl
 small n (Low.refuses l) h = l
 
 -- the number tells the answer
 pub tells : (a : Answer ℕ) → Small a → told (inC a) ≡ a
-tells (answered n) h = rw (lt-ltb n 1_000_000 h)
+tells (answered n) h = rw (lt-ltb n rowUnit h)
 tells (refused f) h =
     let l = h .placed in
-    let r = f .number * 1_000_000 + f .place in
-    let p : r / 1_000_000 ≡ f .number = omega arith in
-    let q : r % 1_000_000 ≡ f .place = omega arith in
-    rw (le-ltb r 1_000_000 (omega (arith, h .numbered)), p, q)
+    let r = f .number * rowUnit + f .place in
+    let p : r / rowUnit ≡ f .number = omega arith in
+    let q : r % rowUnit ≡ f .place = omega arith in
+    rw (le-ltb r rowUnit (omega (arith, h .numbered)), p, q)
 
 -- a value worked out of an answer
 pub map-answer : {A B : Type 0} (g : A → B) (f : Option Fault) (a : A) → mapAnswer g (answer f a) ≡ answer f (g a)
@@ -72,25 +62,25 @@ all : (fs : List (Option Fault)) → All Low fs → Low (firstOf fs)
 all [] h = Low.passes
 all (f ∷ fs) h = first fs (h .0) (λ _. all fs (h .1))
 
-place : (n p : ℕ) → InTable n → p < 1_000_000 → Low (fault n p)
+place : (n p : ℕ) → InTable n → p < rowUnit → Low (fault n p)
 place n p h l = Low.refuses (record { numbered = h; placed = l })
 
-once : (b : Bool) (n p : ℕ) → InTable n → p < 1_000_000 → Low (unless b (fault n p))
+once : (b : Bool) (n p : ℕ) → InTable n → p < rowUnit → Low (unless b (fault n p))
 once true n p h l = Low.passes
 once false n p h l = place n p h l
 
 -- at a node
-nodes : (n : ℕ) → n ≤ 256 → (p : ℕ → Bool) → All (λ v. v < 1_000_000) (below n p)
-nodes n h p = all-below (λ v. v < 1_000_000) p n (λ v l _. omega arith)
+nodes : (n : ℕ) → n ≤ 256 → (p : ℕ → Bool) → All (λ v. v < rowUnit) (below n p)
+nodes n h p = all-below (λ v. v < rowUnit) p n (λ v l _. omega arith)
 
 lowest : (k n : ℕ) → InTable k → n ≤ 256 → (p : ℕ → Bool) → Low (atLowest k (below n p))
 lowest k n l h p = go (below n p) (nodes n h p)
   where
-    go : (vs : List ℕ) → All (λ v. v < 1_000_000) vs → Low (atLowest k vs)
+    go : (vs : List ℕ) → All (λ v. v < rowUnit) vs → Low (atLowest k vs)
     go [] a = Low.passes
     go (v ∷ vs) a = place k v l (a .0)
 
-second : (vs : List ℕ) → All (λ v. v < 1_000_000) vs → Low (rootFault vs)
+second : (vs : List ℕ) → All (λ v. v < rowUnit) vs → Low (rootFault vs)
 second [] a = place 5 0 (omega arith) (omega arith)
 second (v ∷ []) a = Low.passes
 second (v ∷ w ∷ vs) a = place 5 w (omega arith) (a .1 .0)
@@ -114,11 +104,11 @@ judge-low y =
     ))
 
 -- refusals 10 to 13
-move-low : (y : Yard) (m : Move) (i : ℕ) → i < 1_000_000 → Low (moveFault y m i)
+move-low : (y : Yard) (m : Move) (i : ℕ) → i < rowUnit → Low (moveFault y m i)
 unfolding moveFault
 move-low y m i l = all (moveTests y m i) (once ((ltb (m .from) (size y)) && (ltb (m .to) (size y))) 10 i (omega arith) l, (once (adjacent y (m .from) (m .to)) 11 i (omega arith) l, (once (held y (m .from)) 12 i (omega arith) l, (once (not (full y (m .to))) 13 i (omega arith) l, tt))))
 
-moves-low : (ms : List Move) (i : ℕ) (y : Yard) → i + length ms ≤ 1_000_000 → Low (movesFault i y ms)
+moves-low : (ms : List Move) (i : ℕ) (y : Yard) → i + length ms ≤ rowUnit → Low (movesFault i y ms)
 unfolding movesFault
 moves-low [] i y l = Low.passes
 moves-low (m ∷ ms) i y l = all (moveFault y m i ∷ movesFault (suc i) (pushed y m) ms ∷ []) (move-low y m i (omega arith), (moves-low ms (suc i) (pushed y m) (omega arith), tt))
@@ -141,11 +131,11 @@ module _ (y : Yard) where
   unfolding demandsFault
   demands-low list = all (demandsTests y list) (judge-low y, (once (eqb (length list) (size y)) 2 0 (omega arith) (omega arith), tt))
 
-  figure-low : Low (figureFault y)
-  unfolding figureFault
-  figure-low = all (figureTests y) (judge-low y, (totals-low, tt))
+  figure-low : Low (matchedFault y)
+  unfolding matchedFault
+  figure-low = all (matchedTests y) (judge-low y, (totals-low, tt))
 
-  plan-short : Tree y → Matched y → length (plan y) < 1_000_000
+  plan-short : Tree y → Matched y → length (plan y) < rowUnit
   plan-short t m = omega (arith, plan-length y t m, shortest-small y t)
 
   plan-low : (room : ℕ) → Low (planFault y room)
@@ -206,10 +196,10 @@ module _ (y : Yard) where
   bound-small t = let few : size y - 1 ≤ maxSize = omega (arith, facts y t .few) in mul-le-mul (pebbles-few t) few
 
   pub length-bound-small : Small (boundAnswer y)
-  length-bound-small = small _ figure-low (λ e. omega (arith, bound-small (figure-matched y e .0)))
+  length-bound-small = small _ figure-low (λ e. omega (arith, bound-small (matched-tree y e .0)))
 
   pub displaced-small : Small (displacedAnswer y)
-  displaced-small = small _ figure-low (λ e. omega (arith, pebbles-few (figure-matched y e .0), sum-mono (size y) (λ v. pebble y v - target y v) (pebble y) (λ v _. omega arith)))
+  displaced-small = small _ figure-low (λ e. omega (arith, pebbles-few (matched-tree y e .0), sum-mono (size y) (λ v. pebble y v - target y v) (pebble y) (λ v _. omega arith)))
 
 -- reading a sheet
 pub read-row : (bs : List ℕ) {f : Fault} → readYard bs ≡ refused f → Row f

@@ -12,8 +12,8 @@ use lib.Seq.{take-nil, take-take, take-append-seam, drop-append-seam}
 use lib.Dec.{leb, ltb, eqb}
 use borrow.Author.Tests.{ltb-true, leb-true, le-leb, eqb-true, eq-eqb}
 use Rattle.model.specs.Yard.{Yard, yardOf, size, maxSize, parent, pebble, target}
-use Rattle.model.specs.Judge.{Fault, row}
-use Rattle.model.specs.Calls.{Answer, answered, refused, mapAnswer, range}
+use Rattle.model.specs.Judge.{rowCount, Fault, row}
+use Rattle.model.specs.Calls.Answers.{Answer, answered, refused, mapAnswer, range}
 use Rattle.model.specs.Sheets.{text, digits, decimal, line, lines, header, yardSheet, maxSheetBytes, writeTests, writeFault, cut, same, field, NodeLine, nodeLine, noNode, withNode, readNodes, readYard, reader, judgedBytes, sheetOf, planOf, program}
 use Rattle.model.proofs.Basics.{none-all, unless-none}
 use Rattle.model.proofs.Lines.{same-true, same-self, nodeText, Begins, nodeText-length, nodeLine-begins, nodeLine-some, cutLine, nodeLine-take}
@@ -307,7 +307,7 @@ reader-room bs ps cs ts p c t = rw (le-leb 256 (length ps) p, le-leb 256 (length
 -- a refused sheet is refused at a line up to 258
 abbrev pub AtLine : Answer Yard → Type 0
 AtLine (answered y) = Unit {0}
-AtLine (refused f) = (0 < f .number) × (f .number ≤ 18) × (f .place ≤ 258)
+AtLine (refused f) = (0 < f .number) × (f .number ≤ rowCount) × (f .place ≤ 258)
 
 lines-places : (k v : ℕ) (bs : List ℕ) → v + k ≤ 256 → AtLine (readNodes k v bs)
 unfolding readNodes

@@ -13,7 +13,9 @@ use borrow.Author.Tests.{leb-true, le-leb}
 use Rattle.model.specs.Yard.{Yard, Matched}
 use Rattle.model.specs.Judge.{firstOf, Tree}
 use Rattle.model.specs.Push.{after, run, accepted}
-use Rattle.model.specs.Calls.{answered, movesOf, endFault, checkFault, Trial, within, trialTests, trialFault, trialAnswer, trialPebbles}
+use Rattle.model.specs.Calls.Answers.{answered}
+use Rattle.model.specs.Calls.Plans.{movesOf}
+use Rattle.model.specs.Calls.Checks.{endFault, checkFault, Trial, within, trialTests, trialFault, trialAnswer, trialPebbles}
 use Rattle.model.proofs.Basics.{none-all, first-join}
 use Rattle.model.proofs.Calls.{answer-answered, movesOf-half, totals-none}
 use Rattle.model.proofs.Moves.{movesFault-accepted}

@@ -14,7 +14,10 @@ use Rattle.model.specs.Judge.{Fault, row, fault, judge}
 use Rattle.model.specs.Push.{Move, push, moveFault, pushFault, legal, shifted, after}
 use Rattle.model.specs.Plan.{needy, choice, inject, extract, turn, settle, each, balance, planWithin, plan}
 use Rattle.model.specs.Follow.{placed, starts, At, Follows, route}
-use Rattle.model.specs.Calls.{Answer, answered, refused, range, demandsFault, demandsList, bytes, movesOf, planFault, planAnswer, planList, movesFault, Verdict, checkFault, checkAnswer, Trial, trialFault, trialAnswer, trialPebbles}
+use Rattle.model.specs.Calls.Answers.{Answer, answered, refused, range}
+use Rattle.model.specs.Calls.Demands.{demandsFault, demandsList}
+use Rattle.model.specs.Calls.Plans.{bytes, movesOf, planFault, planAnswer, planList}
+use Rattle.model.specs.Calls.Checks.{movesFault, Verdict, checkFault, checkAnswer, Trial, trialFault, trialAnswer, trialPebbles}
 use Rattle.model.specs.Sheets.{text, digits, decimal, line, lines, header, cut, same, value, field, nodeLine, readNodes, readYard, moveSheet, refusalSheet, program}
 use Rattle.model.proofs.Yards.{marks, yard, yardA, yardB, planB}
 

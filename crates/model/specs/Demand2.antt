@@ -7,7 +7,9 @@ use lib.ListN.{length, getD, set, take}
 use Rattle.model.specs.Yard.{Yard, up}
 use Rattle.model.specs.Push.{Move, push}
 use Rattle.model.specs.Plan.{plan}
-use Rattle.model.specs.Calls.{answered, bytes, movesOf, planAnswer, planList, Verdict, checkAnswer}
+use Rattle.model.specs.Calls.Answers.{answered}
+use Rattle.model.specs.Calls.Plans.{bytes, movesOf, planAnswer, planList}
+use Rattle.model.specs.Calls.Checks.{Verdict, checkAnswer}
 
 -- each of a list of moves takes one pebble to an adjacent empty node, and together they turn some marks into others: both nodes are in the
 -- yard, one is the other's parent and they differ, the first holds a pebble and the second none, and the marks follow

@@ -9,7 +9,8 @@ use Rattle.model.specs.Judge.{row, Tree}
 use Rattle.model.specs.Push.{Move, run, accepted, Solved, ups, downs}
 use Rattle.model.specs.Plan.{plan}
 use Rattle.model.specs.Follow.{starts, Follows, route, crossings}
-use Rattle.model.specs.Calls.{Answer, answered, refused, movesOf}
+use Rattle.model.specs.Calls.Answers.{Answer, answered, refused}
+use Rattle.model.specs.Calls.Plans.{movesOf}
 
 -- no move of ms, obeyed from y, is spare
 pub record Optimal (y : Yard) (ms : List Move) : Type 0 where

@@ -1,4 +1,4 @@
--- Refusals 1 to 6 of document 01 ('Refusals with an example each'): the first that meets a yard, with its place, or none.
+-- Refusals 1 to 6 of document 01 ('Refusals with an example each'): the first that meets a yard, with its place, or none; and 7.
 use mathlib.Core.Path.{_≡_}
 use mathlib.Core.Bool.{Bool, true, false, not, _&&_}
 use mathlib.Core.List.{List, [], _∷_, _++_}
@@ -6,12 +6,16 @@ use mathlib.Core.Option.{Option, none, some}
 use Prim.Native.Nat.{ℕ}
 use lib.ListN.{length}
 use lib.Dec.{leb, ltb, eqb}
-use Rattle.model.specs.Yard.{Yard, size, maxSize, parent, pebble, target, capacity, below, climbs, roots, root}
+use Rattle.model.specs.Yard.{Yard, size, maxSize, parent, pebble, target, capacity, below, climbs, roots, root, pebbleCount, targetCount}
 
 -- a refusal: its number in the table, and its place
 pub record Fault : Type 0 where
   pub number : ℕ
   pub place : ℕ
+
+-- the rows of the table
+abbrev pub rowCount : ℕ
+rowCount = 18
 
 abbrev pub row : ℕ → ℕ → Fault
 row n p = record { number = n; place = p }
@@ -75,3 +79,14 @@ judge y = firstOf (tests y)
 -- a yard is a tree if none of refusals 1 to 6 meets it ('The words of demand 3')
 abbrev pub Tree : Yard → Type 0
 Tree y = judge y ≡ none
+
+-- 7: the totals of pebbles and targets differ, so the yard has no plan
+abbrev pub totalsFault : Yard → Option Fault
+totalsFault y = unless (eqb (pebbleCount y) (targetCount y)) (fault 7 0)
+
+-- refusals 1 to 7: a yard that passes is a tree with as many pebbles as targets
+abbrev pub matchedTests : Yard → List (Option Fault)
+matchedTests y = judge y ∷ totalsFault y ∷ []
+
+unfoldable pub matchedFault : Yard → Option Fault
+matchedFault y = firstOf (matchedTests y)

@@ -10,7 +10,8 @@ use Rattle.model.specs.declared.Counted.{Counted}
 use Rattle.model.specs.declared.Checked.{Checked}
 use Rattle.model.specs.declared.Tried.{Tried}
 use Rattle.model.specs.Judge.{Fault, row}
-use Rattle.model.specs.Calls.{Answer, answered, refused, Verdict, Trial}
+use Rattle.model.specs.Calls.Answers.{Answer, answered, refused}
+use Rattle.model.specs.Calls.Checks.{Verdict, Trial}
 
 abbrev pub paper : Refusal → Fault
 paper (NodeCount p) = row 1 p

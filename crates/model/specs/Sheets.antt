@@ -11,7 +11,8 @@ use Rattle.model.specs.Yard.{Yard, yardOf, size, maxSize, parent, pebble
 use Rattle.model.specs.Judge.{Fault, row, fault, firstOf, unless, sizeFault, lengthFault}
 use Rattle.model.specs.Push.{Move}
 use Rattle.model.specs.Plan.{plan}
-use Rattle.model.specs.Calls.{Answer, answered, refused, answer, mapAnswer, lent, overwrite, range, planFault}
+use Rattle.model.specs.Calls.Answers.{Answer, answered, refused, answer, mapAnswer, lent, overwrite, range}
+use Rattle.model.specs.Calls.Plans.{planFault}
 
 -- a reading that needs what another finds
 abbrev pub _>>=_ : {A B : Type 0} → Option A → (A → Option B) → Option B

@@ -7,13 +7,14 @@ use native.Mathlib.Omega.{arith}
 use lib.ListN.{length, take, replicate, length-append, length-replicate}
 use Rattle.model.specs.Yard.{Yard, yardOf, size, maxSize}
 use Rattle.model.specs.Judge.{Fault, row}
-use Rattle.model.specs.Calls.{Answer, answered, refused, mapAnswer, overwrite, movesOf, planFault, planAnswer, planList}
+use Rattle.model.specs.Calls.Answers.{Row, Answer, answered, refused, mapAnswer, overwrite}
+use Rattle.model.specs.Calls.Plans.{movesOf, planFault, planAnswer, planList}
 use Rattle.model.specs.Plan.{plan}
 use Rattle.model.specs.Sheets.{moveSheet, refusalSheet, programPlanBytes, sheetOf, planOf, readYard, reader, readAnswer, filled, program}
 use Rattle.model.proofs.Calls.{answer-answered, answer-refused, take-overwrite, plan-none}
 use Rattle.model.proofs.Demand3.{written}
 use Rattle.model.proofs.Sheets.{refused-ne-answered, read-sizes, reader-room, program-cut}
-use Rattle.model.proofs.Places.{Row, plan-small, read-row}
+use Rattle.model.proofs.Places.{plan-small, read-row}
 use Rattle.sheet.specs.Written.{MovesWritten}
 use Rattle.moves.specs.Printed.{Printed}
 

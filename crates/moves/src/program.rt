@@ -2,11 +2,10 @@
 ghost use Prim.Native.Nat.{_≤_};
 ghost use lib.ListN.{length};
 ghost use Rattle.model.specs.Given.{given};
-ghost use Rattle.model.specs.Calls.{answered};
+ghost use Rattle.model.specs.Calls.Answers.{answered, Row};
 ghost use Rattle.model.specs.Sheets as Sheets;
 ghost use Rattle.model.specs.Sheets.{refusalSheet, planOf, sheetOf};
 ghost use Rattle.model.specs.Paper.{paper};
-ghost use Rattle.model.proofs.Places.{Row};
 ghost use Rattle.moves.specs.Printed.{Printed};
 use model::Counted;
 use model::Refusal;

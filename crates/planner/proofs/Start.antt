@@ -15,7 +15,8 @@ use mathlib.Core.Option.{none}
 use Rattle.model.specs.Yard.{Yard, yardOf, size, sum, below, headOr, root, demand, imbalance, shortest, Matched}
 use Rattle.model.specs.Judge.{row, Tree}
 use Rattle.model.specs.Plan.{plan}
-use Rattle.model.specs.Calls.{refused, range, bytes, overwrite, planFault, planAnswer, planList}
+use Rattle.model.specs.Calls.Answers.{refused, range, overwrite}
+use Rattle.model.specs.Calls.Plans.{bytes, planFault, planAnswer, planList}
 use Rattle.model.proofs.Found.{found}
 use Rattle.model.proofs.Sums.{sum-cong}
 use Rattle.model.proofs.Trees.{Wood}

@@ -3,7 +3,7 @@ ghost use mathlib.Core.Path.{_≡_};
 ghost use Rattle.model.specs.Yard.{Matched};
 ghost use Rattle.model.specs.Given.{given, handed};
 ghost use Rattle.model.specs.Judge.{Tree};
-ghost use Rattle.model.specs.Calls.{planAnswer, planList};
+ghost use Rattle.model.specs.Calls.Plans.{planAnswer, planList};
 ghost use Rattle.model.specs.Paper.{paperCounted};
 ghost use Rattle.model.specs.Demand3.{Demand3};
 use crate::balance::balance_subtrees;

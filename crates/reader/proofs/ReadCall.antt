@@ -10,7 +10,7 @@ use lib.Seq.{length-take-le}
 use borrow.Author.Tests.{le-leb, lt-leb}
 use Rattle.model.specs.Yard.{Yard, yardOf, maxSize}
 use Rattle.model.specs.Judge.{Fault, row}
-use Rattle.model.specs.Calls.{Answer, answered, refused}
+use Rattle.model.specs.Calls.Answers.{Answer, answered, refused}
 use Rattle.model.specs.Sheets.{text, header, same, readNodes, readYard, reader, readAnswer, filled}
 use Rattle.model.proofs.Lines.{same-true}
 use Rattle.model.proofs.Sheets.{reader-room}

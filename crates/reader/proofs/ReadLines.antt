@@ -12,7 +12,7 @@ use lib.Seq.{take-suc-set, take-all, getD-take}
 use borrow.Author.Tests.{ne-eqb}
 use Rattle.model.specs.Yard.{Yard, yardOf, maxSize}
 use Rattle.model.specs.Judge.{row}
-use Rattle.model.specs.Calls.{Answer, answered, refused, mapAnswer}
+use Rattle.model.specs.Calls.Answers.{Answer, answered, refused, mapAnswer}
 use Rattle.model.specs.Sheets.{space, lineFeed, Field, field, NodeLine, nodeLine, same, withNode, readNodes}
 use Rattle.model.proofs.Basics.{not-so}
 use Rattle.model.proofs.Lines.{same-true, same-self}

@@ -5,7 +5,7 @@ use mathlib.Core.List.{List, [], _∷_, _++_}
 use Prim.Native.Nat.{ℕ, _≤_, _<_}
 use lib.ListN.{length, take, drop}
 use Rattle.model.specs.Yard.{Yard, yardOf, maxSize}
-use Rattle.model.specs.Calls.{Answer, answered, refused}
+use Rattle.model.specs.Calls.Answers.{Answer, answered, refused}
 use Rattle.model.specs.Sheets.{decimal, Field, NodeLine}
 use Rattle.model.specs.Paper.{paper}
 use Rattle.model.specs.declared.Counted.{Counted}

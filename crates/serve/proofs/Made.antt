@@ -10,7 +10,8 @@ use borrow.Rule.Slice.PartAt.{part-to-end}
 use borrow.Rule.Slice.PartMut.{putMid}
 use Rattle.model.specs.Yard.{Yard, shortest}
 use Rattle.model.specs.Push.{Move, after, run}
-use Rattle.model.specs.Calls.{bytes, overwrite}
+use Rattle.model.specs.Calls.Answers.{overwrite}
+use Rattle.model.specs.Calls.Plans.{bytes}
 use Rattle.model.proofs.Calls.{length-bytes}
 use Rattle.model.proofs.Runs.{after-append}
 use Rattle.model.proofs.Shortest.{Good, good-nil, good-append, good-tree}

@@ -13,7 +13,8 @@ use borrow.Author.Tests.{eq-eqb, ne-eqb}
 use lib.IntN.{ℤ, pos}
 use Rattle.model.specs.Yard.{Yard, size, one, pebble, demand}
 use Rattle.model.specs.Push.{Move, push, moved, after, run}
-use Rattle.model.specs.Calls.{bytes, overwrite}
+use Rattle.model.specs.Calls.Answers.{overwrite}
+use Rattle.model.specs.Calls.Plans.{bytes}
 use Rattle.model.proofs.Judged.{facts}
 use Rattle.model.proofs.Step.{Step, legal-step, ends, moved-pebble}
 use Rattle.model.proofs.Runs.{after-append, run-one}

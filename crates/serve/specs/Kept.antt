@@ -12,7 +12,8 @@ use Rattle.model.specs.Yard.{Yard, size, up, pebble, below, headOr, isChild, de
 use Rattle.model.specs.Judge.{Tree}
 use Rattle.model.specs.Push.{Move, run}
 use Rattle.model.specs.Plan.{choice}
-use Rattle.model.specs.Calls.{bytes, overwrite}
+use Rattle.model.specs.Calls.Answers.{overwrite}
+use Rattle.model.specs.Calls.Plans.{bytes}
 use Rattle.model.proofs.Trees.{Child}
 use Rattle.model.proofs.Demands.{weight}
 use Rattle.model.proofs.Step.{crossing, need}

@@ -8,7 +8,7 @@ use lib.ListN.{length, take, getD}
 use lib.Seq.{take-suc, length-take-le}
 use Rattle.model.specs.Judge.{row}
 use Rattle.model.specs.Push.{Move, push}
-use Rattle.model.specs.Calls.{movesOf}
+use Rattle.model.specs.Calls.Plans.{movesOf}
 use Rattle.model.specs.Sheets.{line, lines, moveSheet, refusalSheet, text}
 use Rattle.sheet.proofs.Decimals.{decimal-short}
 use Rattle.sheet.proofs.Rows.{lines-next, length-two}

@@ -11,7 +11,7 @@ use lib.ListN.{length, length-append}
 use lib.Dec.{ltb}
 use borrow.Author.Tests.{ltb-true, ltb-false}
 use Rattle.model.specs.Yard.{Yard, size}
-use Rattle.model.specs.Calls.{range}
+use Rattle.model.specs.Calls.Answers.{range}
 use Rattle.model.specs.Sheets.{text, space, lineFeed, decimal, line, lines, header, nodeValues, yardSheet}
 
 -- a value and the byte that ends it

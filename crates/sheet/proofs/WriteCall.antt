@@ -8,7 +8,7 @@ use lib.Dec.{leb}
 use borrow.Author.Tests.{le-leb, lt-leb}
 use Rattle.model.specs.Yard.{Yard}
 use Rattle.model.specs.Judge.{Fault, row, fault, firstOf, unless, lengthTests}
-use Rattle.model.specs.Calls.{answered, refused}
+use Rattle.model.specs.Calls.Answers.{answered, refused}
 use Rattle.model.specs.Sheets.{yardSheet, writeFault, writeAnswer, writeList}
 use Rattle.model.proofs.Basics.{first-refused, first-passed}
 use Rattle.sheet.specs.Written.{Written}

@@ -7,7 +7,7 @@ use native.Mathlib.Numerals.{add-one}
 use native.Mathlib.Omega.{arith}
 use lib.ListN.{length, take, drop, set, getD, length-append, length-take, length-drop, take-append-drop}
 use lib.Seq.{length-take-le, take-at, drop-at, drop-append-add, drop-drop, set-split, take-set-le, take-suc, take-length}
-use Rattle.model.specs.Calls.{overwrite}
+use Rattle.model.specs.Calls.Answers.{overwrite}
 use Rattle.model.specs.Sheets.{decimal}
 use Rattle.sheet.specs.Written.{put, Written}
 use Rattle.sheet.proofs.Decimals.{decimal-low, decimal-high, length-low, length-high}

@@ -4,7 +4,7 @@ ghost use mathlib.Core.List.{[], _∷_};
 ghost use Prim.Native.Nat.{_+_, _*_, _≤_, _<_};
 ghost use lib.ListN.{length};
 ghost use Rattle.model.specs.Judge.{row};
-ghost use Rattle.model.specs.Calls.{overwrite};
+ghost use Rattle.model.specs.Calls.Answers.{overwrite};
 ghost use Rattle.model.specs.Sheets.{line, refusalSheet};
 ghost use Rattle.sheet.specs.Written.{Written, MovesWritten};
 use crate::decimal::put_text;

@@ -10,7 +10,8 @@ use borrow.Author.Needs.{needs}
 use Rattle.model.specs.Yard.{yardOf, pebble, target, below, headOr}
 use Rattle.model.specs.Judge.{atLowest}
 use Rattle.model.specs.Push.{after, run}
-use Rattle.model.specs.Calls.{movesOf, movesFault}
+use Rattle.model.specs.Calls.Plans.{movesOf}
+use Rattle.model.specs.Calls.Checks.{movesFault}
 use Rattle.model.specs.Paper.{paperDone}
 use Rattle.model.proofs.Found.{lowest-fault, lowest-none}
 use Rattle.model.proofs.Judged.{facts}

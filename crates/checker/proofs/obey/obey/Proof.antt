@@ -8,7 +8,7 @@ use lib.ListN.{length, take, drop, getD}
 use borrow.Author.Needs.{needs}
 use Rattle.model.specs.Yard.{yardOf}
 use Rattle.model.specs.Push.{push}
-use Rattle.model.specs.Calls.{movesOf}
+use Rattle.model.specs.Calls.Plans.{movesOf}
 use Rattle.model.proofs.Judged.{facts}
 use Rattle.model.proofs.Calls.{sees}
 use Rattle.checker.proofs.Laws.{front-length, front-next, Left, some-not, left-none, left-refused, left-next}

@@ -8,7 +8,7 @@ use borrow.Author.Needs.{needs}
 use borrow.Author.Tests.{le-leb, lt-leb}
 use Rattle.model.specs.Yard.{yardOf}
 use Rattle.model.specs.Judge.{Tree}
-use Rattle.model.specs.Calls.{trialFault, trialPebbles}
+use Rattle.model.specs.Calls.Checks.{trialFault, trialPebbles}
 use Rattle.model.specs.Paper.{paperDone}
 use Rattle.model.proofs.Calls.{sees}
 use Rattle.checker.proofs.Laws.{whole, not-whole, trial-refused, trial-answered, trial-judged, trial-bytes, trial-moves}

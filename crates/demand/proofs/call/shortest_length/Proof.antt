@@ -7,7 +7,7 @@ use lib.ListN.{length, take, replicate, length-append, length-replicate}
 use lib.Seq.{length-take-le, take-at}
 use lib.IntN.{ℤ, pos}
 use Rattle.model.specs.Yard.{Yard, yardOf, size, demand}
-use Rattle.model.specs.Calls.{range}
+use Rattle.model.specs.Calls.Answers.{range}
 use Rattle.model.proofs.Judged.{facts}
 use Rattle.demand.proofs.Lists.{length-listed}
 use Rattle.demand.proofs.Answers.{demands-small, demands-sum}

@@ -12,7 +12,7 @@ use mir.Syntax.{w16}
 use mir.Val.{toZ, ofZ}
 use mir.ValLaws.{toZ-ofZ}
 use Rattle.model.specs.Yard.{Yard, yardOf, size, parent, demand}
-use Rattle.model.specs.Calls.{range}
+use Rattle.model.specs.Calls.Answers.{range}
 use Rattle.model.proofs.Judged.{facts, wood}
 use Rattle.model.proofs.Demands.{weight, weight-le, weight-child}
 use Rattle.demand.proofs.Numbers.{small-fits}

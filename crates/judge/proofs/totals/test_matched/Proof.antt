@@ -6,7 +6,7 @@ use mathlib.Core.Path.{_≡_, sym, ap, _∙_}
 use Rattle.model.specs.Yard.{Yard, yardOf, pebble, target, sum, pebbleCount, targetCount}
 use Rattle.model.specs.Judge.{Tree}
 use Rattle.model.proofs.Judged.{facts}
-use Rattle.model.proofs.Calls.{sees, figure-refused, figure-totals, figure-none}
+use Rattle.model.proofs.Calls.{sees, matched-refused, matched-totals, matched-none}
 use Rattle.judge.proofs.totals.test_matched.Statement.{statement}
 use Rattle.judge.proofs.totals.test_matched.Tie as tie
 
@@ -25,7 +25,7 @@ enum-known-tested : tie.Need-enum-known-tested
 enum-known-tested c = search needs
 
 returns : tie.Need-returns
-returns c = sym (figure-refused _ (sees (c .before .before .before .test-yard .ensures) (c .before .tested .given .1)))
+returns c = sym (matched-refused _ (sees (c .before .before .before .test-yard .ensures) (c .before .tested .given .1)))
 
 enum-told : tie.Need-enum-told
 enum-told c = search needs
@@ -50,12 +50,12 @@ targets c =
 returns-2 : tie.Need-returns-2
 returns-2 c =
     let e = c .before .before .before in
-    sym (figure-totals (yard e) (tree e) (λ m. omega (arith, pebbles (c .before), targets (c .before))))
+    sym (matched-totals (yard e) (tree e) (λ m. omega (arith, pebbles (c .before), targets (c .before))))
 
 returns-3 : tie.Need-returns-3
 returns-3 c =
     let e = c .before .before .before in
-    sym (figure-none (yard e) (tree e) (omega (arith, pebbles (c .before), targets (c .before))))
+    sym (matched-none (yard e) (tree e) (omega (arith, pebbles (c .before), targets (c .before))))
 
 pub test-matched-spec : {M : Type 1} → statement M
 test-matched-spec =

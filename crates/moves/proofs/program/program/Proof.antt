@@ -2,7 +2,7 @@
 use borrow.Author.Needs.{needs}
 use mathlib.Core.Path.{_≡_, sym}
 use lib.Seq.{length-take-le}
-use Rattle.model.specs.Calls.{refused}
+use Rattle.model.specs.Calls.Answers.{refused}
 use Rattle.model.specs.Sheets.{readAnswer}
 use Rattle.model.specs.Paper.{paper}
 use Rattle.moves.proofs.Steps.{blank, Found, read-number, read-refused}

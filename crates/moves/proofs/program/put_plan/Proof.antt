@@ -3,7 +3,8 @@ use borrow.Author.Needs.{needs}
 use native.Mathlib.Omega.{arith}
 use mathlib.Core.Path.{_≡_}
 use Rattle.model.specs.Yard.{Yard, yardOf}
-use Rattle.model.specs.Calls.{answered, refused, planAnswer}
+use Rattle.model.specs.Calls.Answers.{answered, refused}
+use Rattle.model.specs.Calls.Plans.{planAnswer}
 use Rattle.model.specs.Paper.{paper}
 use Rattle.moves.proofs.Steps.{prints-moves, zeros, room, plan-number, plan-refused}
 use Rattle.moves.proofs.program.put_plan.Statement.{statement}

@@ -1,6 +1,6 @@
 -- `planner::plan::plan` meets its contract: refused as a yard with no plan is, or planned; and what it answers and leaves meets demand 3.
 use borrow.Author.Needs.{needs}
-use Rattle.model.proofs.Calls.{figure-matched, sees}
+use Rattle.model.proofs.Calls.{matched-tree, sees}
 use Rattle.planner.proofs.Promise.{promises, promises-refused}
 use Rattle.planner.proofs.plan.plan.Statement.{statement}
 use Rattle.planner.proofs.plan.plan.Tie as tie
@@ -22,7 +22,7 @@ enum-told c = search needs
 plan-matched-requires : tie.Need-plan-matched-requires
 plan-matched-requires c κs =
     let t = c .before .before .before in
-    figure-matched _ (sees (t .test-matched .ensures) (c .before .enum-told .given .1))
+    matched-tree _ (sees (t .test-matched .ensures) (c .before .enum-told .given .1))
 
 same-length : tie.Need-same-length
 same-length c = search needs

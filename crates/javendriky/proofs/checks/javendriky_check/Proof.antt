@@ -1,0 +1,19 @@
+-- `javendriky_check` answers what `test_plan` does, which is small.
+use borrow.Author.Needs.{needs}
+use mathlib.Core.Path.{ap, _∙_}
+use Rattle.model.specs.Calls.Answers.{zeroInC}
+use Rattle.model.proofs.Places.{check-small}
+use Rattle.javendriky.proofs.checks.javendriky_check.Statement.{statement}
+use Rattle.javendriky.proofs.checks.javendriky_check.Tie as tie
+
+test-plan-requires : tie.Need-test-plan-requires
+test-plan-requires c κs = search needs
+
+done-requires : tie.Need-done-requires
+done-requires c κs = rw (c .test-plan .ensures) (check-small _ _)
+
+returns : tie.Need-returns
+returns c = c .done .ensures ∙ ap zeroInC (c .before .test-plan .ensures)
+
+pub javendriky-check-spec : {M : Type 1} → statement M
+javendriky-check-spec = tie.close (tie.spec test-plan-requires done-requires returns)

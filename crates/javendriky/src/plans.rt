@@ -1,0 +1,22 @@
+// The planner.
+ghost use mathlib.Core.Path.{_≡_};
+ghost use Rattle.model.specs.Given.{given};
+ghost use Rattle.model.specs.Calls.Answers.{inC, told};
+ghost use Rattle.model.specs.Calls.Plans.{planAnswer, planList};
+ghost use Rattle.model.specs.Demand3.{Demand3};
+use crate::answers::counted;
+
+// The planner: writes the plan at the front of its list, and answers the number of moves. Refusals 1 to 8.
+#[no_mangle]
+pub extern "C" fn javendriky_plan(
+    parents: &[u8],
+    pebbles: &[u8],
+    targets: &[u8],
+    plan: &mut [u8],
+) -> u32
+    ensures { λ r. ⌜ r ≡ inC (planAnswer (given parents pebbles targets) (now (plan .entry))) ⌝ }
+    ensures { λ r. ⌜ now (plan .exit) ≡ planList (given parents pebbles targets) (now (plan .entry)) ⌝ }
+    ensures { λ r. ⌜ Demand3 (given parents pebbles targets) (now (plan .entry)) (told r) (now (plan .exit)) ⌝ }
+{
+    counted(planner::plan::plan(parents, pebbles, targets, plan))
+}

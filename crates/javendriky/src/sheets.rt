@@ -1,0 +1,39 @@
+// Yard sheets read and written.
+ghost use mathlib.Core.Path.{_≡_};
+ghost use Rattle.model.specs.Yard.{Yard};
+ghost use Rattle.model.specs.Given.{given};
+ghost use Rattle.model.specs.Calls.Answers.{inC};
+ghost use Rattle.model.specs.Sheets.{reader, readAnswer, filled, writeAnswer, writeList};
+use crate::answers::counted;
+use reader::read::read_sheet;
+use sheet::writer::write_sheet;
+
+// The reader: fills the first entries of three lists of at least 256, and answers how many. Refusals 18, 15, then line by line 1, 16, 17.
+#[no_mangle]
+pub extern "C" fn javendriky_read_sheet(
+    sheet: &[u8],
+    parents: &mut [u8],
+    pebbles: &mut [u8],
+    targets: &mut [u8],
+) -> u32
+    ensures { λ r. ⌜ r ≡ inC (readAnswer (now (sheet .entry)) (now (parents .entry)) (now (pebbles .entry)) (now (targets .entry))) ⌝ }
+    ensures { λ r. ⌜ now (parents .exit) ≡ filled (λ (y : Yard). y .parents) (reader (now (sheet .entry)) (now (parents .entry)) (now (pebbles .entry)) (now (targets .entry))) (now (parents .entry)) ⌝ }
+    ensures { λ r. ⌜ now (pebbles .exit) ≡ filled (λ (y : Yard). y .pebbles) (reader (now (sheet .entry)) (now (parents .entry)) (now (pebbles .entry)) (now (targets .entry))) (now (pebbles .entry)) ⌝ }
+    ensures { λ r. ⌜ now (targets .exit) ≡ filled (λ (y : Yard). y .targets) (reader (now (sheet .entry)) (now (parents .entry)) (now (pebbles .entry)) (now (targets .entry))) (now (targets .entry)) ⌝ }
+{
+    counted(read_sheet(sheet, parents, pebbles, targets))
+}
+
+// The writer: writes the sheet of three lists at the front of its list, and answers its bytes. Refusals 1, 2, 8.
+#[no_mangle]
+pub extern "C" fn javendriky_write_sheet(
+    parents: &[u8],
+    pebbles: &[u8],
+    targets: &[u8],
+    sheet: &mut [u8],
+) -> u32
+    ensures { λ r. ⌜ r ≡ inC (writeAnswer (given parents pebbles targets) (now (sheet .entry))) ⌝ }
+    ensures { λ r. ⌜ now (sheet .exit) ≡ writeList (given parents pebbles targets) (now (sheet .entry)) ⌝ }
+{
+    counted(write_sheet(parents, pebbles, targets, sheet))
+}

@@ -1,0 +1,33 @@
+// The test of a yard, and one push.
+ghost use mathlib.Core.Path.{_≡_};
+ghost use mathlib.Core.Bool.{cond};
+ghost use Rattle.model.specs.Given.{given};
+ghost use Rattle.model.specs.Judge.{judge};
+ghost use Rattle.model.specs.Push.{push, pushFault, legal, shifted};
+ghost use Rattle.model.specs.Calls.Answers.{zeroInC};
+use crate::answers::done;
+use judge::test::test_yard;
+use yard::state::push_lists;
+
+// Whether three lists are a tree: refusals 1 to 6, or 0.
+#[no_mangle]
+pub extern "C" fn javendriky_test_yard(parents: &[u8], pebbles: &[u8], targets: &[u8]) -> u32
+    ensures { λ r. ⌜ r ≡ zeroInC (judge (given parents pebbles targets)) ⌝ }
+{
+    done(test_yard(parents, pebbles, targets))
+}
+
+// One push: writes the new marks. Refusals 1 to 6, 10 to 13 with place 0, or 0.
+#[no_mangle]
+pub extern "C" fn javendriky_push(
+    parents: &[u8],
+    pebbles: &mut [u8],
+    targets: &[u8],
+    from: usize,
+    to: usize,
+) -> u32
+    ensures { λ r. ⌜ r ≡ zeroInC (pushFault (given parents pebbles targets) (push from to)) ⌝ }
+    ensures { λ r. ⌜ now (pebbles .exit) ≡ cond (legal (given parents pebbles targets) (push from to)) (shifted (now (pebbles .entry)) (push from to)) (now (pebbles .entry)) ⌝ }
+{
+    done(push_lists(parents, pebbles, targets, from, to))
+}
