@@ -1,6 +1,6 @@
 /* A pusher cabinet in small: reads a yard sheet from standard input, plans it, obeys the plan move by move, and has plan and result judged. It prints
- * each move as it is made. A refused yard is printed as its refusal and place, with status 1; status 2 says that the library did not keep to its
- * header, or that there was nothing to read. */
+ * each move as it is made. A refused yard is printed as its refusal and place, with status 1; status 2 says that the library is not the header's or
+ * did not keep to it, or that standard input could not be read. */
 #include <stdio.h>
 #include <stdlib.h>
 #include <string.h>
@@ -41,11 +41,23 @@ static void too_short(uint32_t n, uint32_t moves)
     expect("it is left as it was", again[0] == 0 && memcmp(again, again + 1, sizeof again - 1) == 0);
 }
 
+/* A library of another version has other calls under the same names, so nothing else is called before this. */
+static void same_version(void)
+{
+    if (javendriky_version() != JAVENDRIKY_VERSION) {
+        fprintf(stderr, "cabinet: built with version %u of javendriky.h but linked to version %u of the library: build it with that library's header\n",
+                (unsigned)JAVENDRIKY_VERSION, (unsigned)javendriky_version());
+        exit(2);
+    }
+}
+
 int main(void)
 {
-    size_t bytes = fread(sheet, 1, sizeof sheet, stdin);
+    size_t bytes;
     uint32_t n, moves, i;
 
+    same_version();
+    bytes = fread(sheet, 1, sizeof sheet, stdin);
     expect("standard input can be read", !ferror(stdin));
     n = accepted(javendriky_read_sheet(sheet, bytes, parents, sizeof parents, pebbles, sizeof pebbles, targets, sizeof targets));
     moves = accepted(javendriky_plan(parents, n, pebbles, n, targets, n, plan, sizeof plan));

@@ -26,6 +26,10 @@
 extern "C" {
 #endif
 
+/* The version of these calls, which the library answers too. It is raised whenever a call gets further arguments or another meaning under the same
+ * name, which requests to come will do: a program built with another header would still link. So compare the two once, before any other call. */
+#define JAVENDRIKY_VERSION 1
+
 /* The most nodes that a yard can have. */
 #define JAVENDRIKY_MAX_NODES 256
 
@@ -61,6 +65,9 @@ extern "C" {
 #define JAVENDRIKY_LINE_SHAPE 16     /* a line of a sheet is not four numbers up to 255; the line */
 #define JAVENDRIKY_NODE_NUMBER 17    /* a line of a sheet is not that of the next node; the line */
 #define JAVENDRIKY_READER_LIST 18    /* a list lent for reading a sheet has fewer than 256 entries; place 0 */
+
+/* Version: answers the version of the library, which is JAVENDRIKY_VERSION if it belongs to this header. Needs nothing, and is never refused. */
+uint32_t javendriky_version(void);
 
 /* Plan: a shortest plan that takes the pebbles onto exactly the targets.
  * Answers the number of moves m, which may be 0. Writes the plan into the first 2 * m bytes of `plan` and leaves the bytes behind them. No move of it

@@ -3,12 +3,16 @@
 use crate::checker::Tried;
 use crate::yard::{Answer, Refusal};
 
+/// The version of the calls that are declared here: JAVENDRIKY_VERSION of the header. A library of another version must not be called.
+pub const VERSION: u32 = 1;
+
 /// What an accepted trial adds to the moves taken where the budget ended it.
 const BUDGET_ENDED: u32 = 500_000;
 
 /// The calls as C sees them.
 pub mod raw {
     extern "C" {
+        pub fn javendriky_version() -> u32;
         pub fn javendriky_plan(
             parents: *const u8, parents_len: usize, pebbles: *const u8, pebbles_len: usize, targets: *const u8, targets_len: usize,
             plan: *mut u8, plan_len: usize,
@@ -64,6 +68,12 @@ pub fn answer(number: u32) -> Answer<u32> {
 /// An answer that has no value is the number 0.
 pub fn done(number: u32) -> Answer<()> {
     answer(number).map(|value| assert_eq!(value, 0, "a call without a value answers 0"))
+}
+
+/// The version of the library that was linked.
+pub fn version() -> u32 {
+    // SAFETY: it takes nothing.
+    unsafe { raw::javendriky_version() }
 }
 
 // Each call below gets lists that are borrowed for as long as it runs, the written ones by no one else: that is all that the header asks for.

@@ -5,4 +5,5 @@ pub mod checks;
 pub mod demands;
 pub mod plans;
 pub mod sheets;
+pub mod version;
 pub mod yards;

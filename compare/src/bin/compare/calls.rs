@@ -128,6 +128,15 @@ impl Caller {
         }
     }
 
+    /// Comes before every other call: a library of another version has other arguments under the same names.
+    pub fn version(&self) -> Same {
+        self.calls.set(self.calls.get() + 1);
+        match library::version() {
+            library::VERSION => Ok(()),
+            other => Err(format!("the library is of version {other}, its calls are declared as of version {}", library::VERSION)),
+        }
+    }
+
     pub fn test_yard(&self, yard: &Yard) -> Same {
         let inputs = Inputs { call: "test_yard", yard, bytes: &[], numbers: &[] };
         let lent = self.lend(yard);

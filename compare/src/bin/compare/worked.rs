@@ -59,6 +59,7 @@ impl Worked<'_> {
 }
 
 pub fn worked(caller: &Caller) -> Same<u64> {
+    caller.version()?;
     let mut w = Worked { caller, cases: 0 };
 
     let a = yard(&[0, 0, 0, 1, 1], &[0, 1, 0, 1, 0], &[0, 0, 1, 0, 1]);
