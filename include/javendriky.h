@@ -1,5 +1,14 @@
 /* javendriky: pebbles (cars) on a rooted tree, moved one step at a time onto its targets.
  *
+ * Words. The names here are those of the source paper; document 01, the description of the planner, says them in the trade's words:
+ *
+ *   document 01   here                                    document 01   here
+ *   berth         node                                    spare         excess
+ *   track         edge                                    disturbed     displaced
+ *   car           pebble                                  bound         length_bound
+ *   account       demand                                  refusal       refusal, by its number
+ *   push          push, a move that may be refused        place         place, the node, line or move that a refusal names
+ *
  * A yard is three lists of n bytes each, n from 1 to 256, one entry a node, nodes numbered from 0:
  *   parents   the node's parent; the one root is its own parent, and from every node climbing reaches it
  *   pebbles   1 where the node holds a pebble, else 0
