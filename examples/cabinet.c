@@ -10,7 +10,7 @@
 static uint8_t sheet[4200]; /* more than JAVENDRIKY_MAX_SHEET_BYTES: the rest of a longer input changes no answer */
 static uint8_t parents[JAVENDRIKY_MAX_NODES], pebbles[JAVENDRIKY_MAX_NODES], targets[JAVENDRIKY_MAX_NODES];
 static uint8_t start[JAVENDRIKY_MAX_NODES];
-static uint8_t plan[32768], again[32768];
+static uint8_t plan[JAVENDRIKY_LONGEST_PLAN_BYTES], again[JAVENDRIKY_LONGEST_PLAN_BYTES];
 
 /* The value of an accepted call; a refusal ends the program. */
 static uint32_t accepted(uint32_t answer)

@@ -45,6 +45,10 @@ extern "C" {
 /* The most bytes that a plan can have for javendriky_check, javendriky_excess and javendriky_trial: 65,535 moves. */
 #define JAVENDRIKY_MAX_PLAN_BYTES 131070
 
+/* The bytes of the longest plan that javendriky_plan writes: no yard of n nodes needs more moves than the whole part of n * n / 4, which is 16,384 for
+ * 256 nodes, at two bytes each (proved, as plan-max in crates/model/proofs). A plan list of so many bytes is never refused with 8. */
+#define JAVENDRIKY_LONGEST_PLAN_BYTES (JAVENDRIKY_MAX_NODES * JAVENDRIKY_MAX_NODES / 4 * 2)
+
 /* What an accepted javendriky_trial adds to the moves taken where the budget ended it. */
 #define JAVENDRIKY_BUDGET_ENDED 500000
 
@@ -80,7 +84,7 @@ uint32_t javendriky_version(void);
 
 /* Plan: a shortest plan that takes the pebbles onto exactly the targets.
  * Answers the number of moves m, which may be 0. Writes the plan into the first 2 * m bytes of `plan` and leaves the bytes behind them. No move of it
- * is spare: no list of moves that ends on the targets is shorter. A plan never has more than n * n / 4 moves, so 32,768 bytes are room for any.
+ * is spare: no list of moves that ends on the targets is shorter. JAVENDRIKY_LONGEST_PLAN_BYTES are room for any plan.
  * Refused with 1 to 6, then 7, then 8 with m as place if `plan` has fewer than 2 * m bytes. */
 uint32_t javendriky_plan(const uint8_t *parents, size_t parents_len,
                          const uint8_t *pebbles, size_t pebbles_len,
