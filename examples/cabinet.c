@@ -1,6 +1,6 @@
 /* A pusher cabinet in small: reads a yard sheet from standard input, plans it, obeys the plan move by move, and has plan and result judged. It prints
- * each move as it is made. A refused yard is printed as its refusal and place, with status 1; status 2 says that the library is not the header's or
- * did not keep to it, or that standard input could not be read. */
+ * each move as it is made. A refused yard is printed as its refusal and place, with status 1 and a sentence on standard error; status 2 says that the
+ * library is not the header's or did not keep to it, or that standard input could not be read. */
 #include <stdio.h>
 #include <stdlib.h>
 #include <string.h>
@@ -17,6 +17,7 @@ static uint32_t accepted(uint32_t answer)
 {
     if (JAVENDRIKY_REFUSAL(answer) != 0) {
         printf("refusal place\n%u %u\n", (unsigned)JAVENDRIKY_REFUSAL(answer), (unsigned)JAVENDRIKY_PLACE(answer));
+        fprintf(stderr, "cabinet: refused, place %u: %s.\n", (unsigned)JAVENDRIKY_PLACE(answer), javendriky_refusal_text(answer));
         exit(1);
     }
     return answer;

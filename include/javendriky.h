@@ -79,6 +79,42 @@ extern "C" {
 #define JAVENDRIKY_NODE_NUMBER 17    /* a line of a sheet is not that of the next node; the line */
 #define JAVENDRIKY_READER_LIST 18    /* a list lent for reading a sheet has fewer than 256 entries; place 0 */
 
+/* Refusal text: a refusal as a sentence, without its full stop, that says what is wrong and what to mend. It is in the words of those who mend it
+ * (berth for node, car for pebble). 'The named berth' (line, move) is the one whose number is the place, so print the place beside it; moves count from 0.
+ * Takes what a call answered, whole, as with refusals 1 and 5 the place tells which fault it is. Answers a constant text, never NULL, for any number.
+ * `./movesheet` reads its sentences here, so each stands in one line. */
+static inline const char *javendriky_refusal_text(uint32_t answer)
+{
+    switch (answer) {
+    case 1000002: return "the sheet has no berth: add a line for each berth below the header";
+    case 1000258: return "the sheet goes on behind line 257, and a yard has at most 256 berths: take out what begins at the named line";
+    case 5000000: return "no berth is its own parent: let the berth at the root of the tracks name itself as its parent";
+    default: break;
+    }
+    switch (JAVENDRIKY_REFUSAL(answer)) {
+    case 0: return "accepted";
+    case 1: return "there is no berth, or there are more than 256: hand in lists with an entry for each of 1 to 256 berths";
+    case 2: return "a list has another number of entries than there are berths: hand in one with an entry for each berth";
+    case 3: return "the named berth has a car or target mark above 1: write 1 where there is a car or a target, and 0 where there is none";
+    case 4: return "the parent of the named berth is no berth of this sheet: write the number of one that is";
+    case 5: return "the named berth is its own parent, and so is a lower one: a yard has one root, so write this berth's real parent";
+    case 6: return "climbing from the named berth to its parent and on goes round in a circle and never reaches the root: correct the parent of a berth on that way";
+    case 7: return "the numbers of cars and targets differ, so there is no plan: mark as many targets as there are cars";
+    case 8: return "the list lent for the result is too short: lend one with room for as many moves as the place says, at two bytes each, or for as many bytes of a sheet";
+    case 9: return "the plan has an odd number of bytes, or more than 65,535 moves: hand in two bytes for each move, and no more moves than that";
+    case 10: return "the named move has a number that is no berth of this yard: write the number of one that is";
+    case 11: return "the named move is not along a track: let the car go to the parent of its berth, or to a berth whose parent that is";
+    case 12: return "the named move leaves a berth where no car stands at that time: let it leave one where a car stands";
+    case 13: return "the named move enters a berth where a car stands at that time: move that car on first";
+    case 14: return "the named berth is a target where no car stands after the last move: add the moves that bring one there";
+    case 15: return "line 1 is not the header: it must be 'berth parent car target', with a line feed behind it";
+    case 16: return "the named line is not four numbers from 0 to 255, without leading zeros, with one space between and a line feed behind: write it so";
+    case 17: return "the named line is not that of the next berth: the berths stand in rising number from 0, one line each";
+    case 18: return "a list lent for reading a sheet has fewer than 256 entries: lend three of at least 256";
+    default: return "this refusal has no sentence in the header that the program was built with: build it with the library's own header";
+    }
+}
+
 /* Version: answers the version of the library, which is JAVENDRIKY_VERSION if it belongs to this header. Needs nothing, and is never refused. */
 uint32_t javendriky_version(void);
 
