@@ -62,3 +62,7 @@ pub record Row (f : Fault) : Type 0 where
 abbrev pub Small : Answer ℕ → Type 0
 Small (answered n) = n < rowUnit
 Small (refused f) = Row f
+
+-- the version of the calls for C: raised whenever one gets further arguments or another meaning under its name
+abbrev pub version : ℕ
+version = 1
