@@ -1,13 +1,12 @@
 // The test of a yard, and one push.
 ghost use mathlib.Core.Path.{_≡_};
-ghost use mathlib.Core.Bool.{cond};
 ghost use Rattle.model.specs.Given.{given};
 ghost use Rattle.model.specs.Judge.{judge};
-ghost use Rattle.model.specs.Push.{push, pushFault, legal, shifted};
+ghost use Rattle.model.specs.Push.{push, pushFault, pushedPebbles};
 ghost use Rattle.model.specs.Calls.Answers.{zeroInC};
 use crate::answers::done;
 use judge::test::test_yard;
-use yard::state::push_lists;
+use yard::push::push_lists;
 
 // Whether three lists are a tree: refusals 1 to 6, or 0.
 #[no_mangle]
@@ -27,7 +26,7 @@ pub extern "C" fn javendriky_push(
     to: usize,
 ) -> u32
     ensures { λ r. ⌜ r ≡ zeroInC (pushFault (given parents pebbles targets) (push from to)) ⌝ }
-    ensures { λ r. ⌜ now (pebbles .exit) ≡ cond (legal (given parents pebbles targets) (push from to)) (shifted (now (pebbles .entry)) (push from to)) (now (pebbles .entry)) ⌝ }
+    ensures { λ r. ⌜ now (pebbles .exit) ≡ pushedPebbles (given parents pebbles targets) (push from to) ⌝ }
 {
     done(push_lists(parents, pebbles, targets, from, to))
 }

@@ -9,7 +9,7 @@ use vectors::print::end;
 use vectors::print::label;
 use vectors::print::last;
 use vectors::print::list;
-use yard::state::push_lists;
+use yard::push::push_lists;
 
 fn test(line: &[u8], parents: &[u8], pebbles: &[u8], targets: &[u8]) {
     label(field(line, 1));

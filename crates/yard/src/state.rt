@@ -7,11 +7,11 @@ ghost use lib.ListN.{length};
 ghost use Rattle.model.specs.Yard.{maxSize, fresh};
 ghost use Rattle.model.specs.Given.{given};
 ghost use Rattle.model.specs.Judge.{judge};
-ghost use Rattle.model.specs.Push.{push, pushFault, isNone, legal, shifted};
+ghost use Rattle.model.specs.Push.{push, pushFault, isNone};
 ghost use Rattle.model.specs.Paper.{paperDone};
 ghost use Rattle.yard.specs.State as State;
 ghost use Rattle.yard.specs.State.{yardIn, stateOf, stateAfter};
-use crate::step::step;
+use crate::push::push_lists;
 use judge::test::test_yard;
 use model::Done;
 use model::Refusal;
@@ -42,24 +42,6 @@ fn padded(list: &[u8]) -> [u8; 256]
         i += 1;
     }
     array
-}
-
-// One push of three lists: the tests of the yard, then the step.
-pub fn push_lists(
-    parents: &[u8],
-    pebbles: &mut [u8],
-    targets: &[u8],
-    from: usize,
-    to: usize,
-) -> Done
-    ensures { λ r. ⌜ paperDone r ≡ pushFault (given parents pebbles targets) (push from to) ⌝ }
-    ensures { λ r. ⌜ now (pebbles .exit) ≡ cond (legal (given parents pebbles targets) (push from to)) (shifted (now (pebbles .entry)) (push from to)) (now (pebbles .entry)) ⌝ }
-{
-    let tested = test_yard(parents, pebbles, targets);
-    if let Done::Refused(r) = tested {
-        return Done::Refused(r);
-    }
-    step(parents, pebbles, from, to, 0)
 }
 
 impl Yard {

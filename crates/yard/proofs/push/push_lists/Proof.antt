@@ -5,8 +5,8 @@ use Rattle.model.specs.Push.{legal}
 use Rattle.model.proofs.Judged.{facts}
 use Rattle.model.proofs.Calls.{sees}
 use Rattle.yard.proofs.Laws.{refuses, push-refused, push-tree}
-use Rattle.yard.proofs.state.push_lists.Statement.{statement}
-use Rattle.yard.proofs.state.push_lists.Tie as tie
+use Rattle.yard.proofs.push.push_lists.Statement.{statement}
+use Rattle.yard.proofs.push.push_lists.Tie as tie
 
 test-yard-requires : tie.Need-test-yard-requires
 test-yard-requires c κs = search needs

@@ -1,0 +1,26 @@
+// One push of three lists.
+ghost use mathlib.Core.Path.{_≡_};
+ghost use Rattle.model.specs.Given.{given};
+ghost use Rattle.model.specs.Push.{push, pushFault, pushedPebbles};
+ghost use Rattle.model.specs.Paper.{paperDone};
+use crate::step::step;
+use judge::test::test_yard;
+use model::Done;
+
+// The tests of the yard, then the step: refusals 1 to 6, then 10 to 13 with place 0. Refused, the pebbles stay as they were.
+pub fn push_lists(
+    parents: &[u8],
+    pebbles: &mut [u8],
+    targets: &[u8],
+    from: usize,
+    to: usize,
+) -> Done
+    ensures { λ r. ⌜ paperDone r ≡ pushFault (given parents pebbles targets) (push from to) ⌝ }
+    ensures { λ r. ⌜ now (pebbles .exit) ≡ pushedPebbles (given parents pebbles targets) (push from to) ⌝ }
+{
+    let tested = test_yard(parents, pebbles, targets);
+    if let Done::Refused(r) = tested {
+        return Done::Refused(r);
+    }
+    step(parents, pebbles, from, to, 0)
+}
