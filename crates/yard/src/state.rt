@@ -1,16 +1,14 @@
 // The yard state, by value, and one push of it.
 ghost use mathlib.Core.Path.{_≡_};
-ghost use mathlib.Core.List.{[]};
-ghost use mathlib.Core.Bool.{cond};
 ghost use Prim.Native.Nat.{_≤_};
 ghost use lib.ListN.{length};
 ghost use Rattle.model.specs.Yard.{maxSize, fresh};
 ghost use Rattle.model.specs.Given.{given};
 ghost use Rattle.model.specs.Judge.{judge};
-ghost use Rattle.model.specs.Push.{push, pushFault, isNone};
+ghost use Rattle.model.specs.Push.{push, pushFault, pushed};
 ghost use Rattle.model.specs.Paper.{paperDone};
 ghost use Rattle.yard.specs.State as State;
-ghost use Rattle.yard.specs.State.{yardIn, stateOf, stateAfter};
+ghost use Rattle.yard.specs.State.{yardIn, stateOf, orFresh, stateAfter};
 use crate::push::push_lists;
 use judge::test::test_yard;
 use model::Done;
@@ -50,8 +48,8 @@ impl Yard {
 
     // A fresh yard: one node, its own parent, with no pebble and no target.
     pub fn new() -> Yard
-        ensures { λ r. ⌜ r ≡ stateOf [] [] [] 1 ⌝ }
         ensures { λ r. ⌜ yardIn r ≡ fresh ⌝ }
+        ensures { λ r. ⌜ r ≡ stateOf fresh ⌝ }
     {
         Yard {
             parents: [0u8; 256],
@@ -61,10 +59,11 @@ impl Yard {
         }
     }
 
-    // The yard of three lists, refused as they are (1 to 6), and then a fresh one.
+    // The yard of three lists; refused as they are (1 to 6), a fresh one. The last clause says what lies behind its nodes too: zeros.
     pub fn from_lists(parents: &[u8], pebbles: &[u8], targets: &[u8]) -> Answered
         ensures { λ r. ⌜ paperDone (r .answer) ≡ judge (given parents pebbles targets) ⌝ }
-        ensures { λ r. ⌜ r .yard ≡ cond (isNone (judge (given parents pebbles targets))) (stateOf (now (parents .entry)) (now (pebbles .entry)) (now (targets .entry)) (length (now (parents .entry)))) (stateOf [] [] [] 1) ⌝ }
+        ensures { λ r. ⌜ yardIn (r .yard) ≡ orFresh (given parents pebbles targets) ⌝ }
+        ensures { λ r. ⌜ r .yard ≡ stateOf (orFresh (given parents pebbles targets)) ⌝ }
     {
         let answer = test_yard(parents, pebbles, targets);
         if let Done::Refused(r) = answer {
@@ -84,9 +83,11 @@ impl Yard {
         }
     }
 
-    // One push: refusals 1 and 3 to 6, then 10 to 13 with place 0; refused, the yard comes back unchanged.
+    // One push: refusals 1 and 3 to 6, then 10 to 13 with place 0; refused, the yard comes back unchanged. The yard is the definition's; what lies
+    // behind its nodes stays (the last clause). States pushed one by one: proofs/States.antt.
     pub fn push(self, from: usize, to: usize) -> Answered
         ensures { λ r. ⌜ paperDone (r .answer) ≡ pushFault (yardIn self) (push from to) ⌝ }
+        ensures { λ r. ⌜ yardIn (r .yard) ≡ pushed (yardIn self) (push from to) ⌝ }
         ensures { λ r. ⌜ r .yard ≡ stateAfter self (push from to) ⌝ }
     {
         let size = self.size;

@@ -1,5 +1,5 @@
--- `new` makes the state of the fresh yard: three arrays of zeros and the size 1. The empty lists continued by zeros are those arrays, and
--- cut at 1 they are the fresh yard's lists: both sides of each equation compute to the same.
+-- `new` makes the state of the fresh yard: three arrays of zeros and the size 1. Cut at 1 they are the fresh yard's lists, and those continued by
+-- zeros are the arrays: both sides of each equation compute to the same.
 use mathlib.Core.Path.{refl}
 use Rattle.yard.specs.State.{padded}
 use Rattle.yard.proofs.state.Yard.new.Statement.{statement}

@@ -1,12 +1,14 @@
 -- `push` of a state of more than 256 nodes is refused, as its yard is. Of a smaller one the first entries of the arrays are its yard, and what
--- a push does to them it does to the arrays.
-use mathlib.Core.Path.{_≡_, sym}
+-- a push leaves there is what `stateAfter` holds.
+use mathlib.Core.Path.{_≡_, sym, ap, _∙_}
 use native.Mathlib.Omega.{arith}
 use lib.ListN.{length}
 use lib.Seq.{length-take-le}
 use borrow.Author.Needs.{needs}
 use Rattle.model.specs.Push.{push, legal}
-use Rattle.yard.proofs.Laws.{push-refused, yardIn-large, Roomy, yardIn-front, front-pushed}
+use Rattle.yard.specs.State.{yardIn}
+use Rattle.yard.proofs.Laws.{push-refused}
+use Rattle.yard.proofs.States.{yardIn-large, Roomy, yardIn-front, yardIn-after, front-pushed}
 use Rattle.yard.proofs.state.Yard.push.Statement.{statement}
 use Rattle.yard.proofs.state.Yard.push.Tie as tie
 
@@ -21,7 +23,7 @@ returns : tie.Need-returns
 unfolding legal
 returns c =
     let e = push-refused _ (push (c .before .args .from) (c .before .args .to)) (yardIn-large (c .before .args .self) (c .if1 .taken)) in
-    (sym e, rw e)
+    (sym e, (rw e, rw e))
 
 array-share-prefix-parents : tie.Need-array-share-prefix-parents
 array-share-prefix-parents c = within (c .before .before .before) .0
@@ -47,7 +49,9 @@ push-lists-requires c κs = search needs
 returns-2 : tie.Need-returns-2
 returns-2 c =
     let e = c .before .before .before .before .before .before .before .before in
-    (rw (yardIn-front (e .before .args .self) (within e)) (c .before .push-lists .ensures .0), front-pushed (e .before .args .self) (within e) _ _ (c .before .push-lists .ensures .1))
+    let s = e .before .args .self in
+    let after = front-pushed s (within e) _ _ (c .before .push-lists .ensures .1) in
+    (rw (yardIn-front s (within e)) (c .before .push-lists .ensures .0), (ap yardIn after ∙ yardIn-after s _, after))
 
 pub push-spec : {M : Type 1} → statement M
 push-spec =
