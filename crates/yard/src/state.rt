@@ -14,11 +14,11 @@ use judge::test::test_yard;
 use model::Done;
 use model::Refusal;
 
-// A yard of up to 256 nodes: the first `size` entries of each array count.
+// A yard of up to `Yard::MAX` nodes: the first `size` entries of each array count.
 pub struct Yard {
-    pub parents: [u8; 256],
-    pub pebbles: [u8; 256],
-    pub targets: [u8; 256],
+    pub parents: [u8; Yard::MAX],
+    pub pebbles: [u8; Yard::MAX],
+    pub targets: [u8; Yard::MAX],
     pub size: usize,
 }
 
@@ -28,12 +28,12 @@ pub struct Answered {
     pub answer: Done,
 }
 
-// A list of at most 256 entries, continued by zeros.
-fn padded(list: &[u8]) -> [u8; 256]
+// A list of at most `Yard::MAX` entries, continued by zeros.
+fn padded(list: &[u8]) -> [u8; Yard::MAX]
     requires { ⌜ length (now list) ≤ maxSize ⌝ }
     ensures { λ r. ⌜ r ≡ State.padded maxSize (now (list .entry)) ⌝ }
 {
-    let mut array = [0u8; 256];
+    let mut array = [0u8; Yard::MAX];
     let mut i = 0;
     while i < list.len() {
         array[i] = list[i];
@@ -46,15 +46,17 @@ impl Yard {
     // The largest yard.
     pub const MAX: usize = 256;
 
-    // A fresh yard: one node, its own parent, with no pebble and no target.
+    // A fresh yard: one node, its own parent, with no pebble and no target. The last clause says that MAX is the definition's largest yard: so
+    // many entries the arrays have.
     pub fn new() -> Yard
         ensures { λ r. ⌜ yardIn r ≡ fresh ⌝ }
         ensures { λ r. ⌜ r ≡ stateOf fresh ⌝ }
+        ensures { λ r. ⌜ length (r .parents) ≡ maxSize ⌝ }
     {
         Yard {
-            parents: [0u8; 256],
-            pebbles: [0u8; 256],
-            targets: [0u8; 256],
+            parents: [0u8; Yard::MAX],
+            pebbles: [0u8; Yard::MAX],
+            targets: [0u8; Yard::MAX],
             size: 1,
         }
     }

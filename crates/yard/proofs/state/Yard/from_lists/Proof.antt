@@ -26,7 +26,7 @@ new-requires c κs = search needs
 returns : tie.Need-returns
 returns c =
     let e = sees (c .before .before .before .before .test-yard .ensures) (c .before .before .answer .given .1) in
-    (sym e, rw e (c .new .ensures))
+    (sym e, rw e (c .new .ensures .0, c .new .ensures .1 .0))
 
 enum-told : tie.Need-enum-told
 enum-told c = search needs

@@ -7,7 +7,7 @@ use Rattle.yard.proofs.state.Yard.new.Tie as tie
 
 returns : tie.Need-returns
 unfolding padded
-returns c = (refl, refl)
+returns c = (refl, (refl, refl))
 
 pub new-spec : {M : Type 1} → statement M
 new-spec = tie.close (tie.spec returns)
