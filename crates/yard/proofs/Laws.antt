@@ -1,5 +1,5 @@
 -- The tests of a move, and a push of three lists by them; a turn of a loop that copies a list.
-use mathlib.Core.Path.{_≡_, refl, sym, ap}
+use mathlib.Core.Path.{_≡_, refl, sym, ap, _∙_}
 use mathlib.Core.Bool.{Bool, true, false, not, cond, _&&_}
 use mathlib.Core.List.{List, [], _∷_, _++_}
 use mathlib.Core.Option.{Option, none, some}
@@ -12,8 +12,9 @@ use lib.Seq.{paste-suc}
 use lib.Dec.{ltb, eqb}
 use borrow.Author.Tests.{lt-ltb, ne-eqb}
 use Rattle.model.specs.Yard.{Yard, yardOf, size, held, full}
-use Rattle.model.specs.Judge.{Fault, fault, firstOf, unless, judge}
-use Rattle.model.specs.Push.{Move, adjacent, moveTests, moveFault, pushFault, isNone}
+use Rattle.model.specs.Judge.{Fault, fault, firstOf, unless, judge, Tree}
+use Rattle.model.specs.Push.{Move, adjacent, moveTests, moveFault, pushFault, isNone, legal, shifted, pushedPebbles}
+use Rattle.model.specs.Calls.{lent}
 use Rattle.model.proofs.Basics.{first-join}
 
 -- whether a move meets none of its tests, as one question, in the order in which the code asks it
@@ -43,10 +44,6 @@ holds n h = lt-ltb 0 n (omega arith)
 pub apart : (qs : List ℕ) (a b : ℕ) → (getD qs a 0 ≡ 0 → ⊥) → getD qs b 0 < 1 → eqb a b ≡ false
 apart qs a b h k = ne-eqb a b (λ e. h (omega (arith, k, ap (λ (i : ℕ). getD qs i 0) e)))
 
--- what a refused step answers and leaves
-pub refuses : {f : Option Fault} {r : Fault} (kept changed : List ℕ) → f ≡ some r → (some r ≡ f) × (kept ≡ cond (isNone f) changed kept)
-refuses kept changed e = (sym e, rw e)
-
 -- a turn of the loop that copies a list over another
 pub copied : (d list : List ℕ) (i : ℕ) → i < length d → i < length list → set (take i list ++ drop i d) i (getD list i 0) ≡ take (i + 1) list ++ drop (i + 1) d
 copied d list i hd hl = rw add-one (simp zero-add at (paste-suc d 0 list i 0 (omega arith) hl))
@@ -56,6 +53,18 @@ pub push-refused : (y : Yard) (m : Move) {f : Fault} → judge y ≡ some f → 
 unfolding pushFault
 push-refused y m e = rw e
 
-pub push-tree : (ps qs ts : List ℕ) (m : Move) → judge (yardOf ps qs ts) ≡ none → pushFault (yardOf ps qs ts) m ≡ moveFault (yardOf ps qs []) m 0
+push-tree : (ps qs ts : List ℕ) (m : Move) → judge (yardOf ps qs ts) ≡ none → pushFault (yardOf ps qs ts) m ≡ moveFault (yardOf ps qs []) m 0
 unfolding pushFault moveFault
 push-tree ps qs ts m e = rw e (first-join (moveTests (yardOf ps qs ts) m 0) [])
+
+-- and so a step with place 0 is a push
+lent-cond : (f : Option Fault) (new old : List ℕ) → lent f new old ≡ cond (isNone f) new old
+lent-cond none new old = refl
+lent-cond (some f) new old = refl
+
+pub step-push : (ps qs ts : List ℕ) (m : Move) → Tree (yardOf ps qs ts) → {a : Option Fault} {rs : List ℕ}
+    → a ≡ moveFault (yardOf ps qs []) m 0 → rs ≡ lent a (shifted qs m) qs → (a ≡ pushFault (yardOf ps qs ts) m) × (rs ≡ pushedPebbles (yardOf ps qs ts) m)
+unfolding legal
+step-push ps qs ts m t e k =
+    let f = e ∙ sym (push-tree ps qs ts m t) in
+    (f, k ∙ rw f (lent-cond (pushFault (yardOf ps qs ts) m) (shifted qs m) qs))

@@ -1,2 +1,3 @@
--- Definitions that speak of the yard state.
+-- Definitions that the contracts cite: two lent lists as a yard, and the yard state.
+pub mod Given
 pub mod State

@@ -1,6 +1,6 @@
 // One step: the push that the yard state, the checker and the trial share.
 ghost use mathlib.Core.Path.{_≡_};
-ghost use mathlib.Core.Bool.{cond, false};
+ghost use mathlib.Core.Bool.{false};
 ghost use mathlib.Core.List.{[]};
 ghost use mathlib.Core.Option.{some};
 ghost use Prim.Native.Nat.{ℕ, _<_};
@@ -8,7 +8,9 @@ ghost use lib.ListN.{length};
 ghost use Rattle.model.specs.Yard.{yardOf};
 ghost use Rattle.model.specs.Push as Push;
 ghost use Rattle.model.specs.Push.{push, moveFault, isNone, shifted};
+ghost use Rattle.model.specs.Calls.{lent};
 ghost use Rattle.model.specs.Paper.{paper, paperDone};
+ghost use Rattle.yard.specs.Given.{givenBare, handedBare};
 use model::Done;
 use model::Refusal;
 
@@ -26,10 +28,11 @@ fn adjacent(parents: &[u8], a: usize, b: usize) -> bool
     parents[b] as usize == a
 }
 
-// Whether none of refusals 10 to 13 meets the move from `from` to `to`. That the nodes differ need not be tested: one holds a pebble, the other none.
+// Whether none of refusals 10 to 13 meets the move from `from` to `to`. That the nodes differ need not be tested: one holds a pebble, the
+// other none.
 fn free(parents: &[u8], pebbles: &[u8], from: usize, to: usize) -> bool
     requires { ⌜ length (now pebbles) ≡ length (now parents) ⌝ }
-    ensures { λ r. ⌜ ((place : ℕ) → r ≡ isNone (moveFault (yardOf (now (parents .entry)) (now (pebbles .entry)) []) (push from to) place)) ⌝ }
+    ensures { λ r. ⌜ ((place : ℕ) → r ≡ isNone (moveFault (givenBare parents pebbles) (push from to) place)) ⌝ }
 {
     let n = parents.len();
     if n <= from {
@@ -52,8 +55,9 @@ fn free(parents: &[u8], pebbles: &[u8], from: usize, to: usize) -> bool
 
 // Which of refusals 10 to 13 meets a move first, where one does.
 fn fault(parents: &[u8], pebbles: &[u8], from: usize, to: usize, place: usize) -> Refusal
-    requires { ⌜ (length (now pebbles) ≡ length (now parents)) × (isNone (moveFault (yardOf (now parents) (now pebbles) []) (push from to) place) ≡ false) ⌝ }
-    ensures { λ r. ⌜ moveFault (yardOf (now (parents .entry)) (now (pebbles .entry)) []) (push from to) place ≡ some (paper r) ⌝ }
+    requires { ⌜ length (now pebbles) ≡ length (now parents) ⌝ }
+    requires { ⌜ isNone (moveFault (handedBare parents pebbles) (push from to) place) ≡ false ⌝ }
+    ensures { λ r. ⌜ moveFault (givenBare parents pebbles) (push from to) place ≡ some (paper r) ⌝ }
 {
     let n = parents.len();
     if n <= from {
@@ -75,8 +79,8 @@ fn fault(parents: &[u8], pebbles: &[u8], from: usize, to: usize, place: usize) -
 // pebbles as they were. (Refusals 10 to 13 do not look at targets.)
 pub fn step(parents: &[u8], pebbles: &mut [u8], from: usize, to: usize, place: usize) -> Done
     requires { ⌜ length (now pebbles) ≡ length (now parents) ⌝ }
-    ensures { λ r. ⌜ paperDone r ≡ moveFault (yardOf (now (parents .entry)) (now (pebbles .entry)) []) (push from to) place ⌝ }
-    ensures { λ r. ⌜ now (pebbles .exit) ≡ cond (isNone (moveFault (yardOf (now (parents .entry)) (now (pebbles .entry)) []) (push from to) place)) (shifted (now (pebbles .entry)) (push from to)) (now (pebbles .entry)) ⌝ }
+    ensures { λ r. ⌜ paperDone r ≡ moveFault (givenBare parents pebbles) (push from to) place ⌝ }
+    ensures { λ r. ⌜ now (pebbles .exit) ≡ lent (paperDone r) (shifted (now (pebbles .entry)) (push from to)) (now (pebbles .entry)) ⌝ }
 {
     if !free(parents, pebbles, from, to) {
         return Done::Refused(fault(parents, pebbles, from, to, place));

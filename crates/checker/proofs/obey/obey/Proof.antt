@@ -88,7 +88,7 @@ loop-again c =
     let t = c .before .before .before .before in
     let l = t .before .before .before .before in
     let e = sees (t .step .ensures .0) (c .enum-told .given .1) in
-    (omega arith, rw (t .step .ensures .1, e) (left-next _ _ _ _ _ _ (l .before .loop .inv .1) _ (next l) e))
+    (omega arith, rw (t .step .ensures .1, c .enum-told .given .1) (left-next _ _ _ _ _ _ (l .before .loop .inv .1) _ (next l) e))
 
 same-length-2 : tie.Need-same-length-2 Inv-loop μ-loop
 same-length-2 c = omega (arith, long (c .before), facts _ (c .before .before .before .before .before .before .pre .0) .pebbles-size)

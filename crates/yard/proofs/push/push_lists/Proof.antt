@@ -1,10 +1,11 @@
 -- `push_lists` is refused as the lists are, or else judged as its step is: of a tree the step's tests decide. The lists of a tree are of one
 -- length, which is what the step asks.
+use mathlib.Core.Path.{sym}
 use borrow.Author.Needs.{needs}
 use Rattle.model.specs.Push.{legal}
 use Rattle.model.proofs.Judged.{facts}
 use Rattle.model.proofs.Calls.{sees}
-use Rattle.yard.proofs.Laws.{refuses, push-refused, push-tree}
+use Rattle.yard.proofs.Laws.{push-refused, step-push}
 use Rattle.yard.proofs.push.push_lists.Statement.{statement}
 use Rattle.yard.proofs.push.push_lists.Tie as tie
 
@@ -19,7 +20,9 @@ same-length c = search needs
 
 returns : tie.Need-returns
 unfolding legal
-returns c = refuses _ _ (push-refused _ _ (sees (c .before .before .before .test-yard .ensures) (c .before .tested .given .1)))
+returns c =
+    let e = push-refused _ _ (sees (c .before .before .before .test-yard .ensures) (c .before .tested .given .1)) in
+    (sym e, rw e)
 
 enum-told : tie.Need-enum-told
 enum-told c = search needs
@@ -31,10 +34,10 @@ same-length-2 : tie.Need-same-length-2
 same-length-2 c = search needs
 
 returns-2 : tie.Need-returns-2
-unfolding legal
 returns-2 c =
     let e = c .before .before .before .before in
-    rw (push-tree _ _ _ _ (sees (e .before .before .test-yard .ensures) (e .enum-told .given .1))) (c .before .before .step .ensures)
+    let s = c .before .before .step .ensures in
+    step-push _ _ _ _ (sees (e .before .before .test-yard .ensures) (e .enum-told .given .1)) (s .0) (s .1)
 
 pub push-lists-spec : {M : Type 1} → statement M
 push-lists-spec =

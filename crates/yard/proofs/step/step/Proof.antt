@@ -9,7 +9,6 @@ use borrow.Author.Tests.{not-true, not-false}
 use Rattle.model.specs.Yard.{yardOf}
 use Rattle.model.specs.Push.{push, moveFault, shifted}
 use Rattle.model.proofs.Step.{Free, free, none-is}
-use Rattle.yard.proofs.Laws.{refuses}
 use Rattle.yard.proofs.step.step.Statement.{statement}
 use Rattle.yard.proofs.step.step.Tie as tie
 
@@ -29,7 +28,7 @@ same-length : tie.Need-same-length
 same-length c = search needs
 
 returns : tie.Need-returns
-returns c = refuses _ _ (c .fault .ensures)
+returns c = (sym (c .fault .ensures), refl)
 
 slice-read-first : tie.Need-slice-read-first
 slice-read-first c = omega (arith, met (c .before) .from-lt, c .before .before .before .before .before .before .pre)
@@ -54,7 +53,7 @@ same-length-2 c = search needs
 
 returns-2 : tie.Need-returns-2
 unfolding shifted
-returns-2 c = rw (passed (c .before .before)) (refl, refl)
+returns-2 c = (sym (passed (c .before .before)), refl)
 
 pub step-spec : {M : Type 1} → statement M
 step-spec =
