@@ -1,29 +1,30 @@
 -- The moves that a plan's bytes are; a list of moves obeyed one after another; and what decides the answers of the checker and the trial.
 use mathlib.Core.Path.{_≡_, refl, sym, _∙_}
-use mathlib.Core.Bool.{Bool, true, false, not}
+use mathlib.Core.Bool.{Bool, true, false, not, _&&_}
 use mathlib.Core.List.{List, [], _∷_, _++_}
 use mathlib.Core.Option.{Option, none, some}
 use Prim.Native.Nat.{ℕ, zero, suc, min, _+_, _-_, _*_, _/_, _≤_, _<_}
 use native.Mathlib.Numerals.{add-one}
 use native.Mathlib.Omega.{arith}
 use lib.ListN.{length, take, drop, getD, replicate, length-take}
-use lib.Seq.{length-take-le, length-front, drop-cons, drop-length, getD-take, take-all, take-at}
-use lib.Dec.{leb}
+use lib.Seq.{length-take-le, length-front, drop-cons, drop-length, getD-take, take-all, take-at, take-suc}
+use lib.Dec.{leb, ltb}
 use borrow.Author.Tests.{not-true, not-false}
-use Rattle.model.specs.Yard.{Yard, yardOf, shortest, Matched}
+use Rattle.model.specs.Yard.{Yard, yardOf, size, full, held, holding, shortest, Matched}
 use Rattle.model.specs.Judge.{Fault, fault, firstOf, unless, judge, Tree}
-use Rattle.model.specs.Push.{Move, push, moveFault, shifted, after, run}
+use Rattle.model.specs.Push.{Move, push, adjacent, moveFault, shifted, after, run}
 use Rattle.model.specs.Calls.Answers.{answered, refused, lent}
 use Rattle.model.specs.Calls.Plans.{movesOf}
 use Rattle.model.specs.Calls.Checks.{bytesFault, movesFault, endFault, Verdict, checkTests, checkFault, checkAnswer, within, trialFault, trialAnswer, trialPebbles}
 use Rattle.model.proofs.Basics.{none-all}
 use Rattle.model.proofs.Calls.{movesOf-half, totals-none}
 use Rattle.model.proofs.Step.{step, moved-tree}
-use Rattle.model.proofs.Moves.{moveFault-legal, after-legal, movesFault-legal}
+use Rattle.model.proofs.Runs.{after-append, run-one}
+use Rattle.model.proofs.Moves.{moveFault-legal, movesFault-legal}
 use Rattle.model.proofs.Demand2.{check-excess}
 use Rattle.model.proofs.Trial.{take-again}
 
--- the move at a place, and the first of those that are left of the front of a plan
+-- the move at a place of a plan, and of its front
 move-at : (bs : List ℕ) (i : ℕ) → 2 * i + 1 < length bs → getD (movesOf bs) i (push 0 0) ≡ push (getD bs (2 * i) 0) (getD bs (2 * i + 1) 0)
 unfolding movesOf
 move-at [] i l = absurd (omega arith)
@@ -38,8 +39,8 @@ module _ (bs : List ℕ) (count : ℕ) (h : 2 * count ≤ length bs) where
   pub front-length : length (take count (movesOf bs)) ≡ count
   front-length = omega (arith, length-take count (movesOf bs), movesOf-half bs)
 
-  pub front-next : (i : ℕ) → i < count → drop i (take count (movesOf bs)) ≡ push (getD bs (2 * i) 0) (getD bs (2 * i + 1) 0) ∷ drop (suc i) (take count (movesOf bs))
-  front-next i l = drop-cons (take count (movesOf bs)) i (push 0 0) (omega (arith, front-length)) ∙ rw (getD-take count (movesOf bs) i (push 0 0) l, move-at bs i (omega arith))
+  pub front-at : (i : ℕ) → i < count → getD (take count (movesOf bs)) i (push 0 0) ≡ push (getD bs (2 * i) 0) (getD bs (2 * i + 1) 0)
+  front-at i l = getD-take count (movesOf bs) i (push 0 0) l ∙ move-at bs i (omega arith)
 
 -- half as many moves as bytes
 pub moves-half : (bs : List ℕ) → length bs / 2 ≡ length (movesOf bs)
@@ -67,7 +68,7 @@ alone : (f : Option Fault) → firstOf (f ∷ []) ≡ f
 alone none = refl
 alone (some f) = refl
 
-pub some-not : {f : Fault} {A : Type 0} → some f ≡ none → A
+some-not : {f : Fault} {A : Type 0} → some f ≡ none → A
 some-not e = let z : _≡_ {A = ℕ} 0 1 = cc in absurd (omega arith)
 
 -- refusal 9, by its test
@@ -78,32 +79,48 @@ module _ {f : Option Fault} (b : Bool) (e : f ≡ unless b (fault 9 0)) where
   pub not-whole : not b ≡ true → f ≡ fault 9 0
   not-whole h = e ∙ rw (not-true b h)
 
--- the moves `ms` of a yard, of which the first `i` are obeyed and none is refused: what is left of them decides
-module _ (y : Yard) (ms : List Move) (ps ts : List ℕ) where
+-- the place of a move's refusal is the one it was judged for
+moveFault-at : (y : Yard) (m : Move) (place : ℕ) {f : Fault} → moveFault y m place ≡ some f → f .place ≡ place
+unfolding moveFault
+moveFault-at y m place {f} = go ((ltb (m .from) (size y)) && (ltb (m .to) (size y))) (adjacent y (m .from) (m .to)) (held y (m .from)) (not (full y (m .to)))
+  where
+    go : (a b c d : Bool) → firstOf (unless a (fault 10 place) ∷ unless b (fault 11 place) ∷ unless c (fault 12 place) ∷ unless d (fault 13 place) ∷ []) ≡ some f → f .place ≡ place
+    go true true true true e = some-not (sym e)
+    go true true true false e = cc
+    go true true false d e = cc
+    go true false c d e = cc
+    go false b c d e = cc
+
+-- the moves `ms` of a yard, of which the first `i` are obeyed and none is refused: those left decide the answer, those obeyed have left the pebbles
+module _ (y : Yard) (ms : List Move) where
   abbrev pub Left : ℕ → List ℕ → Type 0
-  Left i qs = Tree (yardOf ps qs ts) × (movesFault 0 y ms ≡ movesFault i (yardOf ps qs ts) (drop i ms)) × (after y ms ≡ after (yardOf ps qs ts) (drop i ms))
+  Left i qs = Tree (holding y qs) × (movesFault 0 y ms ≡ movesFault i (holding y qs) (drop i ms)) × (qs ≡ after y (take i ms))
 
   module _ (i : ℕ) (qs : List ℕ) (h : Left i qs) where
-    pub left-none : length ms ≡ i → (movesFault 0 y ms ≡ none) × (after y ms ≡ qs)
-    unfolding movesFault after
+    pub left-none : length ms ≡ i → (none ≡ movesFault 0 y ms) × (qs ≡ after y ms)
+    unfolding movesFault
     left-none e =
         let d : drop i ms ≡ [] = rw (← e) (drop-length ms) in
-        (h .1 ∙ rw d, h .2 ∙ rw d)
+        (sym (h .1 ∙ rw d), h .2 ∙ rw (take-all i ms (omega arith)))
 
     -- the next move, judged without the targets
-    module _ (m : Move) (d : drop i ms ≡ m ∷ drop (suc i) ms) where
-      pub left-refused : (f : Fault) (place : ℕ) → moveFault (yardOf ps qs []) m place ≡ some f → place ≡ i → movesFault 0 y ms ≡ some f
-      unfolding movesFault moveFault
-      left-refused f place e q = h .1 ∙ rw (d, ← q, e)
+    module _ (m : Move) (l : i < length ms) (e : getD ms i (push 0 0) ≡ m) where
+      next : drop i ms ≡ m ∷ drop (suc i) ms
+      next = drop-cons ms i (push 0 0) l ∙ rw e
 
-      pub left-next : moveFault (yardOf ps qs []) m i ≡ none → Left (i + 1) (shifted qs m)
+      pub left-refused : (f : Fault) (place : ℕ) → moveFault (yardOf (y .parents) qs []) m place ≡ some f → place ≡ i → (some f ≡ movesFault 0 y ms) × (f .place ≡ i)
+      unfolding movesFault moveFault
+      left-refused f place k q = (sym (h .1 ∙ rw (next, ← q, k)), moveFault-at (yardOf (y .parents) qs []) m place k ∙ q)
+
+      pub left-next : moveFault (yardOf (y .parents) qs []) m i ≡ none → Left (i + 1) (shifted qs m)
       unfolding moveFault
-      left-next e =
-          let l = moveFault-legal (yardOf ps qs ts) (h .0) m i .0 e in
+      left-next k =
+          let z = holding y qs in
+          let g = moveFault-legal z (h .0) m i .0 k in
           rw add-one (
-            moved-tree (yardOf ps qs ts) m (step (yardOf ps qs ts) m l),
-            h .1 ∙ rw (d, movesFault-legal (yardOf ps qs ts) m (drop (suc i) ms) l i, e) (alone _),
-            h .2 ∙ rw d (after-legal (yardOf ps qs ts) m (drop (suc i) ms) l),
+            moved-tree z m (step z m g),
+            h .1 ∙ rw (next, movesFault-legal z m (drop (suc i) ms) g i, k) (alone _),
+            sym (rw (take-suc ms i (push 0 0) l, e, after-append (take i ms) (m ∷ []) y, ← (h .2)) (run-one z m g .0)),
           )
 
 -- the checker on a tree with as many pebbles as targets: refusal 9, then the moves and the end

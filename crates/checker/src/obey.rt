@@ -1,14 +1,13 @@
 // What the checker and the trial share: the test of a plan's length, and the moves of a plan's front obeyed one by one.
 ghost use mathlib.Core.Path.{_≡_};
-ghost use mathlib.Core.Option.{none};
 ghost use Prim.Native.Nat.{_*_, _≤_};
-ghost use lib.ListN.{length, take};
+ghost use lib.ListN.{length};
 ghost use Rattle.model.specs.Given.{given, handed};
 ghost use Rattle.model.specs.Judge.{fault, unless, Tree};
 ghost use Rattle.model.specs.Push.{after};
-ghost use Rattle.model.specs.Calls.Plans.{movesOf};
-ghost use Rattle.model.specs.Calls.Checks.{bytesFault, movesFault};
+ghost use Rattle.model.specs.Calls.Checks.{bytesFault, movesFault, within};
 ghost use Rattle.model.specs.Paper.{paperDone};
+ghost use Rattle.checker.specs.Obeyed.{obeyed};
 use lists::copy::copy;
 use model::Done;
 use yard::step::step;
@@ -24,11 +23,11 @@ pub fn whole_plan(plan: &[u8]) -> bool
 }
 
 // Obeys the first `count` moves of a plan on the pebbles of a tree. A refusal is that of the first move that is refused, with its number as
-// place; what the pebbles then are is left open, as every caller lends a copy.
+// place; the moves before it are obeyed, so callers lend a copy.
 fn obey(parents: &[u8], pebbles: &mut [u8], targets: &[u8], plan: &[u8], count: usize) -> Done
     requires { ⌜ Tree (handed parents pebbles targets) × (2 * count ≤ length (now plan)) ⌝ }
-    ensures { λ r. ⌜ paperDone r ≡ movesFault 0 (given parents pebbles targets) (take count (movesOf (now (plan .entry)))) ⌝ }
-    ensures { λ r. ⌜ (paperDone r ≡ none → now (pebbles .exit) ≡ after (given parents pebbles targets) (take count (movesOf (now (plan .entry))))) ⌝ }
+    ensures { λ r. ⌜ paperDone r ≡ movesFault 0 (given parents pebbles targets) (within (now (plan .entry)) count) ⌝ }
+    ensures { λ r. ⌜ now (pebbles .exit) ≡ after (given parents pebbles targets) (obeyed (paperDone r) (now (plan .entry)) count) ⌝ }
 {
     let mut i = 0;
     while i < count {
@@ -53,8 +52,8 @@ pub fn obey_copy(
     count: usize,
 ) -> Done
     requires { ⌜ Tree (handed parents pebbles targets) × (2 * count ≤ length (now plan)) × (length (now marks) ≡ length (now pebbles)) ⌝ }
-    ensures { λ r. ⌜ paperDone r ≡ movesFault 0 (given parents pebbles targets) (take count (movesOf (now (plan .entry)))) ⌝ }
-    ensures { λ r. ⌜ (paperDone r ≡ none → now (marks .exit) ≡ after (given parents pebbles targets) (take count (movesOf (now (plan .entry))))) ⌝ }
+    ensures { λ r. ⌜ paperDone r ≡ movesFault 0 (given parents pebbles targets) (within (now (plan .entry)) count) ⌝ }
+    ensures { λ r. ⌜ now (marks .exit) ≡ after (given parents pebbles targets) (obeyed (paperDone r) (now (plan .entry)) count) ⌝ }
 {
     copy(pebbles, marks);
     obey(parents, marks, targets, plan, count)

@@ -9,7 +9,7 @@ use Rattle.model.specs.Yard as Y
 use Rattle.model.specs.Yard.{maxSize, fresh}
 use Rattle.model.specs.Judge.{Fault, judge}
 use Rattle.model.specs.Push.{Move, pushFault, isNone, legal, shifted}
-use Rattle.model.specs.Calls.{overwrite}
+use Rattle.model.specs.Calls.Answers.{overwrite}
 use Rattle.yard.specs.declared.state.Yard.{Yard}
 
 -- a list continued by zeros and cut at n

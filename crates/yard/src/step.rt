@@ -8,7 +8,7 @@ ghost use lib.ListN.{length};
 ghost use Rattle.model.specs.Yard.{yardOf};
 ghost use Rattle.model.specs.Push as Push;
 ghost use Rattle.model.specs.Push.{push, moveFault, isNone, shifted};
-ghost use Rattle.model.specs.Calls.{lent};
+ghost use Rattle.model.specs.Calls.Answers.{lent};
 ghost use Rattle.model.specs.Paper.{paper, paperDone};
 ghost use Rattle.yard.specs.Given.{givenBare, handedBare};
 use model::Done;

@@ -12,7 +12,6 @@ use Rattle.model.specs.Judge.{atLowest}
 use Rattle.model.specs.Push.{after, run}
 use Rattle.model.specs.Calls.Plans.{movesOf}
 use Rattle.model.specs.Calls.Checks.{movesFault}
-use Rattle.model.specs.Paper.{paperDone}
 use Rattle.model.proofs.Found.{lowest-fault, lowest-none}
 use Rattle.model.proofs.Judged.{facts}
 use Rattle.model.proofs.Runs.{obeys, run-tree}
@@ -68,7 +67,7 @@ ended c =
     let s = t .before .before .before .before .before .before in
     let y = yardOf (s .args .parents .now) (s .args .pebbles .now) (s .args .targets .now) in
     let ms = movesOf (s .args .plan .now) in
-    let at-end : t .obey-copy .last .1 .1 .0 ≡ after y ms = rw front-all at (t .obey-copy .ensures .1 (ap paperDone (e .enum-told .given .1))) in
+    let at-end : t .obey-copy .last .1 .1 .0 ≡ after y ms = rw (e .enum-told .given .1, front-all) at (t .obey-copy .ensures .1) in
     let long = facts (run y ms) (run-tree (obeys ms y (s .pre)) (s .pre)) .pebbles-size in (
       rw front-all at (sees (t .obey-copy .ensures .0) (e .enum-told .given .1)),
       rw (back t .is, at-end, long) at (c .first-below .ensures),

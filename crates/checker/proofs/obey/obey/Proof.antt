@@ -1,27 +1,28 @@
--- `obey` makes one step for each move. The loop's invariant: none of the moves made is refused, and the moves that are left decide the answer
--- and the pebbles (`Left`). The measure is the number of moves that are left.
-use mathlib.Core.Path.{_≡_, refl, sym}
-use mathlib.Core.List.{_∷_}
-use Prim.Native.Nat.{suc, _+_, _*_, _-_, _≤_}
+-- `obey` makes one step for each move. The loop's invariant: none of the moves made is refused, they have left the pebbles, and the moves that are
+-- left decide the answer (`Left`). The measure is the number of moves that are left.
+use mathlib.Core.Path.{_≡_, refl, _∙_}
+use Prim.Native.Nat.{_+_, _*_, _-_, _≤_, _<_}
 use native.Mathlib.Omega.{arith}
-use lib.ListN.{length, take, drop, getD}
+use lib.ListN.{length, take, getD}
+use lib.Seq.{take-take}
 use borrow.Author.Needs.{needs}
 use Rattle.model.specs.Yard.{yardOf}
-use Rattle.model.specs.Push.{push}
+use Rattle.model.specs.Push.{push, after}
 use Rattle.model.specs.Calls.Plans.{movesOf}
 use Rattle.model.proofs.Judged.{facts}
 use Rattle.model.proofs.Calls.{sees}
-use Rattle.checker.proofs.Laws.{front-length, front-next, Left, some-not, left-none, left-refused, left-next}
+use Rattle.checker.proofs.Laws.{front-length, front-at, Left, left-none, left-refused, left-next}
 use Rattle.checker.proofs.obey.obey.Statement.{statement}
 use Rattle.checker.proofs.obey.obey.Tie as tie
 
 abbrev Inv-loop : tie.InvT-loop
-Inv-loop parents pebbles₀ targets plan count i₀ pebbles i = (i ≤ count) × Left (yardOf parents pebbles₀ targets) (take count (movesOf plan)) parents targets i pebbles
+Inv-loop parents pebbles₀ targets plan count i₀ pebbles i = (i ≤ count) × Left (yardOf parents pebbles₀ targets) (take count (movesOf plan)) i pebbles
 
 abbrev μ-loop : tie.MeasureT-loop
 μ-loop parents pebbles₀ targets plan count i₀ pebbles i = count - i
 
 loop-holds : tie.Need-loop-holds Inv-loop μ-loop
+unfolding after
 loop-holds c = (omega arith, (c .before .before .before .before .pre .0, refl, refl))
 
 -- at the loop's head there are as many pebbles as there are nodes
@@ -29,11 +30,11 @@ long : (c : tie.At-loop Inv-loop μ-loop) → length (c .loop .pebbles) ≡ leng
 long c = facts _ (c .loop .inv .1 .0) .pebbles-size
 
 -- the move that a turn makes is the first of those that are left
-next : (c : tie.In-loop Inv-loop μ-loop) → let a = c .before .before .before .before .before .before .args in let i = c .before .loop .i in
-    drop i (take (a .count) (movesOf (a .plan .now))) ≡ push (getD (a .plan .now) (2 * i) 0) (getD (a .plan .now) (2 * i + 1) 0) ∷ drop (suc i) (take (a .count) (movesOf (a .plan .now)))
+next : (c : tie.In-loop Inv-loop μ-loop) → let a = c .before .before .before .before .before .before .args in let i = c .before .loop .i in let ms = take (a .count) (movesOf (a .plan .now)) in
+    (i < length ms) × (getD ms i (push 0 0) ≡ push (getD (a .plan .now) (2 * i) 0) (getD (a .plan .now) (2 * i + 1) 0))
 next c =
     let s = c .before .before .before .before .before .before in
-    front-next (s .args .plan .now) (s .args .count) (s .pre .1) (c .before .loop .i) (omega arith)
+    (omega (arith, front-length (s .args .plan .now) (s .args .count) (s .pre .1)), front-at (s .args .plan .now) (s .args .count) (s .pre .1) (c .before .loop .i) (omega arith))
 
 mul-from : tie.Need-mul-from Inv-loop μ-loop
 mul-from c = omega arith
@@ -72,7 +73,10 @@ returns : tie.Need-returns Inv-loop μ-loop
 returns c =
     let t = c .before .before .before .before .before in
     let l = t .before .before .before .before in
-    (sym (left-refused _ _ _ _ _ _ (l .before .loop .inv .1) _ (next l) _ _ (sees (t .step .ensures .0) (c .before .done .given .1)) (omega arith)), some-not)
+    let a = l .before .before .before .before .before .before .args in
+    let inv = l .before .loop .inv .1 in
+    let r = left-refused _ _ _ _ inv _ (next l .0) (next l .1) _ _ (sees (t .step .ensures .0) (c .before .done .given .1)) (omega arith) in
+    (r .0, rw (t .step .ensures .1, c .before .done .given .1, r .1) (inv .2 ∙ rw (take-take (l .before .loop .i) (a .count) (movesOf (a .plan .now)) (omega arith))))
 
 enum-told : tie.Need-enum-told Inv-loop μ-loop
 enum-told c = search needs
@@ -88,7 +92,7 @@ loop-again c =
     let t = c .before .before .before .before in
     let l = t .before .before .before .before in
     let e = sees (t .step .ensures .0) (c .enum-told .given .1) in
-    (omega arith, rw (t .step .ensures .1, c .enum-told .given .1) (left-next _ _ _ _ _ _ (l .before .loop .inv .1) _ (next l) e))
+    (omega arith, rw (t .step .ensures .1, c .enum-told .given .1) (left-next _ _ _ _ (l .before .loop .inv .1) _ (next l .0) (next l .1) e))
 
 same-length-2 : tie.Need-same-length-2 Inv-loop μ-loop
 same-length-2 c = omega (arith, long (c .before), facts _ (c .before .before .before .before .before .before .pre .0) .pebbles-size)
@@ -97,8 +101,7 @@ returns-2 : tie.Need-returns-2 Inv-loop μ-loop
 returns-2 c =
     let l = c .before in
     let s = l .before .before .before .before .before in
-    let e = left-none _ _ _ _ _ _ (l .loop .inv .1) (omega (arith, front-length (s .args .plan .now) (s .args .count) (s .pre .1))) in
-    (sym (e .0), λ _. sym (e .1))
+    left-none _ _ _ _ (l .loop .inv .1) (omega (arith, front-length (s .args .plan .now) (s .args .count) (s .pre .1)))
 
 pub obey-spec : {M : Type 1} → statement M
 obey-spec =

@@ -1,9 +1,8 @@
 -- `obey_or_leave` obeys a copy in the first entries of an array, one for each node, and copies them back if no move is refused.
-use mathlib.Core.Path.{refl, sym, ap, _∙_}
+use mathlib.Core.Path.{refl, sym, _∙_}
 use Prim.Native.Nat.{_≤_}
 use lib.ListN.{length}
 use borrow.Author.Needs.{needs}
-use Rattle.model.specs.Paper.{paperDone}
 use Rattle.model.proofs.Judged.{facts}
 use Rattle.model.proofs.Calls.{sees}
 use Rattle.checker.proofs.Laws.{front-zeros, Back, came-back}
@@ -58,7 +57,7 @@ returns-2 : tie.Need-returns-2
 returns-2 c =
     let e = c .before .before .before .before .before in
     let t = e .before .before .before in
-    (sym (sees (t .obey-copy .ensures .0) (e .enum-told .given .1)), c .before .before .copy .ensures ∙ back t .is ∙ t .obey-copy .ensures .1 (ap paperDone (e .enum-told .given .1)))
+    (sym (sees (t .obey-copy .ensures .0) (e .enum-told .given .1)), c .before .before .copy .ensures ∙ back t .is ∙ rw (e .enum-told .given .1) at (t .obey-copy .ensures .1))
 
 pub obey-or-leave-spec : {M : Type 1} → statement M
 obey-or-leave-spec =
