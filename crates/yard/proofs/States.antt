@@ -52,10 +52,14 @@ padded-back : (n : ℕ) (list : List ℕ) → length list ≡ n → n ≤ maxSiz
 padded-back n list e h = rw (padded-room maxSize list (omega arith)) (padded-front n list _ e)
 
 -- yardIn: the tree that a state was made of; refused, if the size is above 256; the first entries of the arrays, if they are so many
-pub yardIn-of : (y : Yard) → Tree y → yardIn (stateOf y) ≡ y
+yardIn-of : (y : Yard) → Tree y → yardIn (stateOf y) ≡ y
 yardIn-of y t =
     let f = facts y t in
     rw (padded-back (size y) (y .parents) refl (f .few .1), padded-back (size y) (y .pebbles) (f .pebbles-size) (f .few .1), padded-back (size y) (y .targets) (f .targets-size) (f .few .1))
+
+pub made : (y : Yard) → Tree y → {ps qs ts : List ℕ} → ps ≡ padded maxSize (y .parents) → qs ≡ padded maxSize (y .pebbles) → ts ≡ padded maxSize (y .targets)
+    → (yardIn (record { parents = ps; pebbles = qs; targets = ts; size = size y }) ≡ y) × (record { parents = ps; pebbles = qs; targets = ts; size = size y } ≡ stateOf y)
+made y t p q r = rw (p, q, r) (yardIn-of y t, refl)
 
 pub yardIn-large : (s : State) → maxSize < s .size → judge (yardIn s) ≡ fault 1 0
 unfolding judge

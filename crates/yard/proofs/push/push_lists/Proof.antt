@@ -1,6 +1,6 @@
 -- `push_lists` is refused as the lists are, or else judged as its step is: of a tree the step's tests decide. The lists of a tree are of one
 -- length, which is what the step asks.
-use mathlib.Core.Path.{sym}
+use mathlib.Core.Path.{refl}
 use borrow.Author.Needs.{needs}
 use Rattle.model.specs.Push.{legal}
 use Rattle.model.proofs.Judged.{facts}
@@ -20,9 +20,7 @@ same-length c = search needs
 
 returns : tie.Need-returns
 unfolding legal
-returns c =
-    let e = push-refused _ _ (sees (c .before .before .before .test-yard .ensures) (c .before .tested .given .1)) in
-    (sym e, rw e)
+returns c = rw (push-refused _ _ (sees (c .before .before .before .test-yard .ensures) (c .before .tested .given .1))) (refl, refl)
 
 enum-told : tie.Need-enum-told
 enum-told c = search needs

@@ -1,13 +1,13 @@
 -- `from_lists` is refused as its lists are, and then gives a fresh state. Lists that are not refused are a tree's: all as long as the first,
 -- and at most 256 entries long, so that they fit the arrays.
-use mathlib.Core.Path.{refl, sym}
+use mathlib.Core.Path.{sym}
 use native.Mathlib.Omega.{arith}
 use borrow.Author.Needs.{needs}
 use Rattle.model.specs.Yard.{yardOf}
 use Rattle.model.specs.Judge.{Tree}
 use Rattle.model.proofs.Judged.{facts}
 use Rattle.model.proofs.Calls.{sees}
-use Rattle.yard.proofs.States.{yardIn-of}
+use Rattle.yard.proofs.States.{made}
 use Rattle.yard.proofs.state.Yard.from_lists.Statement.{statement}
 use Rattle.yard.proofs.state.Yard.from_lists.Tie as tie
 
@@ -43,7 +43,7 @@ padded-requires-3 c κs = let f = facts _ (told (c .before .before)) in omega (a
 returns-2 : tie.Need-returns-2
 returns-2 c =
     let e = told (c .before .before .before) in
-    (sym e, rw (c .before .before .padded .ensures, c .before .padded2 .ensures, c .padded3 .ensures, e) (yardIn-of _ e, refl))
+    (sym e, rw e (made _ e (c .before .before .padded .ensures) (c .before .padded2 .ensures) (c .padded3 .ensures)))
 
 pub from-lists-spec : {M : Type 1} → statement M
 from-lists-spec =
