@@ -1,0 +1,43 @@
+// The account call, the bound and the displaced.
+use crate::signed::signed_list;
+use crate::signed::signed_part;
+use cases::kinds::kind;
+use cases::lines::field;
+use cases::print::counted;
+use cases::print::done;
+use cases::print::text;
+use demand::call::demands;
+use demand::call::displaced;
+use demand::call::length_bound;
+
+// The answer, and the list, which is full of 9 before the call.
+fn account(line: &[u8], parents: &[u8], pebbles: &[u8], targets: &[u8]) {
+    let mut list = [9i16; 300];
+    let list = signed_part(field(line, 5), &mut list);
+    done(demands(parents, pebbles, targets, list));
+    signed_list(b", list", list);
+}
+
+// The answer for 256 nodes, and the first two and the last two demands.
+fn account_ends(parents: &[u8], pebbles: &[u8], targets: &[u8]) {
+    let mut list = [9i16; 256];
+    done(demands(parents, pebbles, targets, &mut list));
+    signed_list(b", ends", &[list[0], list[1], list[254], list[255]]);
+}
+
+fn figures(parents: &[u8], pebbles: &[u8], targets: &[u8]) {
+    text(b"bound ");
+    counted(length_bound(parents, pebbles, targets));
+    text(b", displaced ");
+    counted(displaced(parents, pebbles, targets));
+}
+
+pub fn case(line: &[u8], parents: &[u8], pebbles: &[u8], targets: &[u8]) -> bool {
+    match kind(line, b"account 5 | ends 4 | figures 4") {
+        0 => account(line, parents, pebbles, targets),
+        1 => account_ends(parents, pebbles, targets),
+        2 => figures(parents, pebbles, targets),
+        _ => return false,
+    }
+    true
+}
