@@ -9,15 +9,13 @@ use native.Mathlib.Omega.{arith}
 use lib.ListN.{length, getD}
 use lib.IntN.{ℤ, pos, natAbs}
 use borrow.Author.Tests.{eq-eqb, ne-eqb}
-use Rattle.model.specs.Yard.{Yard, size, maxSize, sum, demand, imbalance, shortest, Matched}
-use Rattle.model.specs.Judge.{Fault, fault, judge, Tree, matchedTests, matchedFault}
+use Rattle.model.specs.Yard.{Yard, size, maxSize, sum, demand, imbalance, shortest}
+use Rattle.model.specs.Judge.{Fault, fault, judge, Tree}
 use Rattle.model.specs.Calls.Answers.{lent, range}
 use Rattle.model.specs.Calls.Demands.{demandsFault}
-use Rattle.model.proofs.Basics.{none-all}
 use Rattle.model.proofs.Sums.{sum-cong}
 use Rattle.model.proofs.Judged.{facts}
 use Rattle.model.proofs.Signed.{demand-size, demand-range}
-use Rattle.model.proofs.Calls.{totals-none, totals-differ}
 use Rattle.demand.proofs.Lists.{length-listed, entry-listed, all-listed}
 
 -- what a refused call answers and leaves, and an accepted one

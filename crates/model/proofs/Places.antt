@@ -1,7 +1,7 @@
 -- Every answer of the calls is one that a number tells. A place is 0, a node, the number of a move, or the length of the plan: past refusal 1 there
 -- are at most 256 nodes, past refusal 9 at most 65,535 moves, and the plan of a tree has at most 65,536; of a sheet it is a line up to 258, or its
 -- length. The values are as small.
-use mathlib.Core.Path.{_≡_, refl, ap}
+use mathlib.Core.Path.{_≡_, refl}
 use mathlib.Core.Bool.{Bool, true, false, not, cond, _&&_, and-eq-true-iff}
 use mathlib.Core.List.{List, [], _∷_}
 use mathlib.Core.Option.{Option, none, some}

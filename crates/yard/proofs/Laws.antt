@@ -1,14 +1,11 @@
--- The tests of a move, and a push of three lists by them; a turn of a loop that copies a list.
+-- The tests of a move, and a push of three lists by them.
 use mathlib.Core.Path.{_≡_, refl, sym, ap, _∙_}
 use mathlib.Core.Bool.{Bool, true, false, not, cond, _&&_}
-use mathlib.Core.List.{List, [], _∷_, _++_}
+use mathlib.Core.List.{List, [], _∷_}
 use mathlib.Core.Option.{Option, none, some}
-use Prim.Native.Nat.{ℕ, _+_, _<_}
-use native.Mathlib.Nat.{zero-add}
-use native.Mathlib.Numerals.{add-one}
+use Prim.Native.Nat.{ℕ, _<_}
 use native.Mathlib.Omega.{arith}
-use lib.ListN.{length, take, drop, set, getD}
-use lib.Seq.{paste-suc}
+use lib.ListN.{getD}
 use lib.Dec.{ltb, eqb}
 use borrow.Author.Tests.{lt-ltb, ne-eqb}
 use Rattle.model.specs.Yard.{Yard, yardOf, size, held, full}
@@ -43,10 +40,6 @@ holds n h = lt-ltb 0 n (omega arith)
 
 pub apart : (qs : List ℕ) (a b : ℕ) → (getD qs a 0 ≡ 0 → ⊥) → getD qs b 0 < 1 → eqb a b ≡ false
 apart qs a b h k = ne-eqb a b (λ e. h (omega (arith, k, ap (λ (i : ℕ). getD qs i 0) e)))
-
--- a turn of the loop that copies a list over another
-pub copied : (d list : List ℕ) (i : ℕ) → i < length d → i < length list → set (take i list ++ drop i d) i (getD list i 0) ≡ take (i + 1) list ++ drop (i + 1) d
-copied d list i hd hl = rw add-one (simp zero-add at (paste-suc d 0 list i 0 (omega arith) hl))
 
 -- a push of lists that refusals 1 to 6 meet, and of lists that they do not: then the move's own tests, which read no targets, decide
 pub push-refused : (y : Yard) (m : Move) {f : Fault} → judge y ≡ some f → pushFault y m ≡ some f

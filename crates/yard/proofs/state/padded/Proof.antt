@@ -8,7 +8,7 @@ use lib.ListN.{length, take, drop}
 use lib.Seq.{take-length}
 use borrow.Author.Needs.{needs}
 use Rattle.model.specs.Yard.{maxSize}
-use Rattle.yard.proofs.Laws.{copied}
+use Rattle.lists.proofs.Copied.{copied}
 use Rattle.yard.proofs.States.{padded-room}
 use Rattle.yard.proofs.state.padded.Statement.{statement}
 use Rattle.yard.proofs.state.padded.Tie as tie
