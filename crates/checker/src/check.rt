@@ -1,12 +1,10 @@
 // The checker.
 ghost use mathlib.Core.Path.{_≡_};
-ghost use mathlib.Core.List.{[], _∷_};
 ghost use Rattle.model.specs.Yard.{Matched};
 ghost use Rattle.model.specs.Given.{given, handed};
 ghost use Rattle.model.specs.Judge.{firstOf, Tree};
-ghost use Rattle.model.specs.Push.{run};
 ghost use Rattle.model.specs.Calls.Plans.{movesOf};
-ghost use Rattle.model.specs.Calls.Checks.{movesFault, endFault, checkFault, checkAnswer};
+ghost use Rattle.model.specs.Calls.Checks.{obeyTests, checkFault, checkAnswer};
 ghost use Rattle.model.specs.Paper.{paperDone, paperChecked};
 use crate::obey::obey_copy;
 use crate::obey::whole_plan;
@@ -20,7 +18,7 @@ use model::Refusal;
 // Obeys a whole plan on a copy of the pebbles of a tree: refusals 10 to 13 move by move, then 14.
 fn obey_to_end(parents: &[u8], pebbles: &[u8], targets: &[u8], plan: &[u8]) -> Done
     requires { ⌜ Tree (handed parents pebbles targets) ⌝ }
-    ensures { λ r. ⌜ paperDone r ≡ firstOf (movesFault 0 (given parents pebbles targets) (movesOf (now (plan .entry))) ∷ endFault (run (given parents pebbles targets) (movesOf (now (plan .entry)))) ∷ []) ⌝ }
+    ensures { λ r. ⌜ paperDone r ≡ firstOf (obeyTests (given parents pebbles targets) (movesOf (now (plan .entry)))) ⌝ }
 {
     let n = parents.len();
     let mut marks = [0u8; 256];

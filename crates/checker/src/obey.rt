@@ -51,7 +51,8 @@ pub fn obey_copy(
     plan: &[u8],
     count: usize,
 ) -> Done
-    requires { ⌜ Tree (handed parents pebbles targets) × (2 * count ≤ length (now plan)) × (length (now marks) ≡ length (now pebbles)) ⌝ }
+    requires { ⌜ Tree (handed parents pebbles targets) × (2 * count ≤ length (now plan)) ⌝ }
+    requires { ⌜ length (now marks) ≡ length (now pebbles) ⌝ }
     ensures { λ r. ⌜ paperDone r ≡ movesFault 0 (given parents pebbles targets) (within (now (plan .entry)) count) ⌝ }
     ensures { λ r. ⌜ now (marks .exit) ≡ after (given parents pebbles targets) (obeyed (paperDone r) (now (plan .entry)) count) ⌝ }
 {

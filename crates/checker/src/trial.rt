@@ -1,14 +1,12 @@
 // The trial: a plan obeyed until a budget or the plan ends.
 ghost use mathlib.Core.Path.{_≡_};
 ghost use Prim.Native.Nat.{_*_, _≤_};
-ghost use lib.ListN.{length, take};
+ghost use lib.ListN.{length};
 ghost use Rattle.model.specs.Given.{given, handed};
 ghost use Rattle.model.specs.Judge.{Tree};
-ghost use Rattle.model.specs.Push.{after};
-ghost use Rattle.model.specs.Calls.Answers.{lent};
-ghost use Rattle.model.specs.Calls.Plans.{movesOf};
-ghost use Rattle.model.specs.Calls.Checks.{movesFault, trialAnswer, trialPebbles};
+ghost use Rattle.model.specs.Calls.Checks.{movesFault, within, trialAnswer, trialPebbles};
 ghost use Rattle.model.specs.Paper.{paperDone, paperTried};
+ghost use Rattle.checker.specs.Obeyed.{obeyedOrLeft};
 use crate::obey::obey_copy;
 use crate::obey::whole_plan;
 use judge::test::test_yard;
@@ -27,8 +25,8 @@ fn obey_or_leave(
     count: usize,
 ) -> Done
     requires { ⌜ Tree (handed parents pebbles targets) × (2 * count ≤ length (now plan)) ⌝ }
-    ensures { λ r. ⌜ paperDone r ≡ movesFault 0 (given parents pebbles targets) (take count (movesOf (now (plan .entry)))) ⌝ }
-    ensures { λ r. ⌜ now (pebbles .exit) ≡ lent (paperDone r) (after (given parents pebbles targets) (take count (movesOf (now (plan .entry))))) (now (pebbles .entry)) ⌝ }
+    ensures { λ r. ⌜ paperDone r ≡ movesFault 0 (given parents pebbles targets) (within (now (plan .entry)) count) ⌝ }
+    ensures { λ r. ⌜ now (pebbles .exit) ≡ obeyedOrLeft (paperDone r) (given parents pebbles targets) (within (now (plan .entry)) count) ⌝ }
 {
     let n = parents.len();
     let mut marks = [0u8; 256];

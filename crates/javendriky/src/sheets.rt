@@ -1,9 +1,9 @@
 // Yard sheets read and written.
 ghost use mathlib.Core.Path.{_≡_};
-ghost use Rattle.model.specs.Yard.{Yard};
-ghost use Rattle.model.specs.Given.{given};
-ghost use Rattle.model.specs.Calls.Answers.{inC};
-ghost use Rattle.model.specs.Sheets.{reader, readAnswer, filled, writeAnswer, writeList};
+ghost use Rattle.model.specs.Yard.{Yard, size};
+ghost use Rattle.model.specs.Given.{given, readFrom};
+ghost use Rattle.model.specs.Calls.Answers.{mapAnswer, inC};
+ghost use Rattle.model.specs.Sheets.{filled, writeAnswer, writeList};
 use crate::answers::counted;
 use reader::read::read_sheet;
 use sheet::writer::write_sheet;
@@ -16,10 +16,10 @@ pub extern "C" fn javendriky_read_sheet(
     pebbles: &mut [u8],
     targets: &mut [u8],
 ) -> u32
-    ensures { λ r. ⌜ r ≡ inC (readAnswer (now (sheet .entry)) (now (parents .entry)) (now (pebbles .entry)) (now (targets .entry))) ⌝ }
-    ensures { λ r. ⌜ now (parents .exit) ≡ filled (λ (y : Yard). y .parents) (reader (now (sheet .entry)) (now (parents .entry)) (now (pebbles .entry)) (now (targets .entry))) (now (parents .entry)) ⌝ }
-    ensures { λ r. ⌜ now (pebbles .exit) ≡ filled (λ (y : Yard). y .pebbles) (reader (now (sheet .entry)) (now (parents .entry)) (now (pebbles .entry)) (now (targets .entry))) (now (pebbles .entry)) ⌝ }
-    ensures { λ r. ⌜ now (targets .exit) ≡ filled (λ (y : Yard). y .targets) (reader (now (sheet .entry)) (now (parents .entry)) (now (pebbles .entry)) (now (targets .entry))) (now (targets .entry)) ⌝ }
+    ensures { λ r. ⌜ r ≡ inC (mapAnswer size (readFrom sheet parents pebbles targets)) ⌝ }
+    ensures { λ r. ⌜ now (parents .exit) ≡ filled (λ (y : Yard). y .parents) (readFrom sheet parents pebbles targets) (now (parents .entry)) ⌝ }
+    ensures { λ r. ⌜ now (pebbles .exit) ≡ filled (λ (y : Yard). y .pebbles) (readFrom sheet parents pebbles targets) (now (pebbles .entry)) ⌝ }
+    ensures { λ r. ⌜ now (targets .exit) ≡ filled (λ (y : Yard). y .targets) (readFrom sheet parents pebbles targets) (now (targets .entry)) ⌝ }
 {
     counted(read_sheet(sheet, parents, pebbles, targets))
 }

@@ -1,10 +1,20 @@
--- The nodes of a climb, by their place in it.
+-- Climbing in a list of parents, and the nodes of a climb by their place in it.
 use mathlib.Core.Path.{_≡_}
+use mathlib.Core.Bool.{Bool, not}
 use mathlib.Core.List.{List}
 use mathlib.Core.Logic.{_⊎_}
-use Prim.Native.Nat.{ℕ, zero, suc, _<_}
-use lib.ListN.{getD}
-use Rattle.model.specs.Yard.{up}
+use Prim.Native.Nat.{ℕ, zero, suc, _≤_, _<_}
+use lib.ListN.{length, getD}
+use Rattle.model.specs.Yard.{maxSize, up, climbs}
+
+-- at most 256 parents, each of which is a node
+pub record Parents (parents : List ℕ) : Type 0 where
+  pub few : length parents ≤ maxSize
+  pub inside : (v : ℕ) → v < length parents → up parents v < length parents
+
+-- climbing from v does not reach the root
+abbrev pub lost : List ℕ → ℕ → ℕ → Bool
+lost parents root v = not (climbs (length parents) parents v root)
 
 -- the node k parents above v
 unfoldable pub above : ℕ → List ℕ → ℕ → ℕ

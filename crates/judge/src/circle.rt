@@ -1,16 +1,15 @@
 // Refusal 6: the lowest node from which climbing never reaches the root.
 ghost use mathlib.Core.Path.{_≡_};
-ghost use mathlib.Core.Bool.{not};
-ghost use Prim.Native.Nat.{ℕ, _<_, _≤_};
+ghost use Prim.Native.Nat.{_<_};
 ghost use lib.ListN.{length};
-ghost use Rattle.model.specs.Yard.{up, below, climbs, headOr};
-ghost use Rattle.judge.specs.Climb.{Marked};
+ghost use Rattle.model.specs.Yard.{lowest};
+ghost use Rattle.judge.specs.Climb.{Parents, lost, Marked};
 
 // The lowest node that does not climb to `root`, or the number of nodes if each does. Nodes that are known to reach the root end a climb, so
 // that all climbs together take at most two steps a node, and one that meets a circle at most n more. Mostly the parent is known already.
 pub fn first_circle(parents: &[u8], root: usize) -> usize
-    requires { ⌜ (length (now parents) ≤ 256) × (root < length (now parents)) × ((v : ℕ) → v < length (now parents) → up (now parents) v < length (now parents)) ⌝ }
-    ensures { λ r. ⌜ r ≡ headOr (length (now (parents .entry))) (below (length (now (parents .entry))) (λ v. not (climbs (length (now (parents .entry))) (now (parents .entry)) v root))) ⌝ }
+    requires { ⌜ Parents (now parents) × (root < length (now parents)) ⌝ }
+    ensures { λ r. ⌜ r ≡ lowest (length (now (parents .entry))) (lost (now (parents .entry)) root) ⌝ }
 {
     let n = parents.len();
     let mut known = [0u8; 256];
@@ -41,7 +40,7 @@ pub fn first_circle(parents: &[u8], root: usize) -> usize
 
 // Marks the first `steps` nodes of the climb from `v`. Shown is that it marks no other: a mark only spares steps.
 fn mark(parents: &[u8], known: &mut [u8; 256], v: usize, steps: usize)
-    requires { ⌜ (length (now parents) ≤ 256) × (v < length (now parents)) × ((w : ℕ) → w < length (now parents) → up (now parents) w < length (now parents)) ⌝ }
+    requires { ⌜ Parents (now parents) × (v < length (now parents)) ⌝ }
     ensures { λ _. ⌜ Marked (now (parents .entry)) v steps (now (known .entry)) (now (known .exit)) ⌝ }
 {
     let mut u = v;

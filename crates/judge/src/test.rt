@@ -1,12 +1,12 @@
 // Testing a yard: refusals 1 to 6, in their order.
 ghost use mathlib.Core.Path.{_≡_};
 ghost use mathlib.Core.List.{[]};
-ghost use Prim.Native.Nat.{ℕ, _<_, _≤_};
 ghost use lib.ListN.{length};
-ghost use Rattle.model.specs.Yard.{yardOf, up};
+ghost use Rattle.model.specs.Yard.{yardOf};
 ghost use Rattle.model.specs.Given.{given};
 ghost use Rattle.model.specs.Judge.{firstOf, lengthTests, entryTests, shapeTests, judge};
 ghost use Rattle.model.specs.Paper.{paperDone};
+ghost use Rattle.judge.specs.Climb.{Parents};
 use crate::circle::first_circle;
 use lists::find::first_at_least;
 use lists::find::first_own;
@@ -56,7 +56,7 @@ fn test_entries(parents: &[u8], pebbles: &[u8], targets: &[u8]) -> Done
 
 // Refusals 5 and 6, of parents that are nodes.
 fn test_shape(parents: &[u8]) -> Done
-    requires { ⌜ (length (now parents) ≤ 256) × ((v : ℕ) → v < length (now parents) → up (now parents) v < length (now parents)) ⌝ }
+    requires { ⌜ Parents (now parents) ⌝ }
     ensures { λ r. ⌜ paperDone r ≡ firstOf (shapeTests (yardOf (now (parents .entry)) [] [])) ⌝ }
 {
     let n = parents.len();

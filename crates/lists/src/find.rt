@@ -1,9 +1,8 @@
 // Finding the lowest index whose entry passes a test.
 ghost use mathlib.Core.Path.{_≡_};
-ghost use mathlib.Core.Bool.{_&&_};
 ghost use lib.ListN.{length, getD};
-ghost use lib.Dec.{leb, ltb, eqb};
-ghost use Rattle.model.specs.Yard.{lowest, most};
+ghost use Rattle.model.specs.Yard.{most};
+ghost use Rattle.lists.specs.Find.{firstAtLeast, firstOwn, firstBelow};
 use crate::numbers::larger;
 
 // The greatest entry of a list, 0 of an empty one.
@@ -22,7 +21,7 @@ fn greatest(list: &[u8]) -> u8
 // The lowest index whose entry is at least `limit`, or the list's length. Mostly there is none, which the greatest entry tells: to find that, many
 // entries can be looked at at once.
 pub fn first_at_least(list: &[u8], limit: usize) -> usize
-    ensures { λ r. ⌜ r ≡ lowest (length (now (list .entry))) (λ v. leb limit (getD (now (list .entry)) v 0)) ⌝ }
+    ensures { λ r. ⌜ r ≡ firstAtLeast (now (list .entry)) limit ⌝ }
 {
     if (greatest(list) as usize) < limit {
         return list.len();
@@ -32,7 +31,7 @@ pub fn first_at_least(list: &[u8], limit: usize) -> usize
 
 // The same, entry by entry.
 fn look_for(list: &[u8], limit: usize) -> usize
-    ensures { λ r. ⌜ r ≡ lowest (length (now (list .entry))) (λ v. leb limit (getD (now (list .entry)) v 0)) ⌝ }
+    ensures { λ r. ⌜ r ≡ firstAtLeast (now (list .entry)) limit ⌝ }
 {
     let mut i = 0;
     while i < list.len() {
@@ -46,7 +45,7 @@ fn look_for(list: &[u8], limit: usize) -> usize
 
 // The lowest index from `start` on whose entry is the index itself, or the list's length.
 pub fn first_own(list: &[u8], start: usize) -> usize
-    ensures { λ r. ⌜ r ≡ lowest (length (now (list .entry))) (λ v. (leb start v) && (eqb (getD (now (list .entry)) v 0) v)) ⌝ }
+    ensures { λ r. ⌜ r ≡ firstOwn (now (list .entry)) start ⌝ }
 {
     let mut i = start;
     while i < list.len() {
@@ -61,7 +60,7 @@ pub fn first_own(list: &[u8], start: usize) -> usize
 // The lowest index whose entry is below the other list's, or the list's length.
 pub fn first_below(list: &[u8], other: &[u8]) -> usize
     requires { ⌜ length (now other) ≡ length (now list) ⌝ }
-    ensures { λ r. ⌜ r ≡ lowest (length (now (list .entry))) (λ v. ltb (getD (now (list .entry)) v 0) (getD (now (other .entry)) v 0)) ⌝ }
+    ensures { λ r. ⌜ r ≡ firstBelow (now (list .entry)) (now (other .entry)) ⌝ }
 {
     let mut i = 0;
     while i < list.len() {

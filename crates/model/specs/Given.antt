@@ -4,10 +4,16 @@ use Prim.Native.Nat.{ℕ}
 use denote.Ref.{RefT, now}
 use denote.Triple.Both.{Both}
 use Rattle.model.specs.Yard.{Yard, yardOf}
+use Rattle.model.specs.Calls.Answers.{Answer}
+use Rattle.model.specs.Sheets.{reader}
 
 -- as the call found them, for an `ensures`
 abbrev pub given : {X Y Z : Type 0} → Both (RefT (List ℕ)) X → Both (RefT (List ℕ)) Y → Both (RefT (List ℕ)) Z → Yard
 given parents pebbles targets = yardOf (now (parents .entry)) (now (pebbles .entry)) (now (targets .entry))
+
+-- what the reader's call finds in a lent sheet, with the lists that it is to fill
+abbrev pub readFrom : {W X Y Z : Type 0} → Both (RefT (List ℕ)) W → Both (RefT (List ℕ)) X → Both (RefT (List ℕ)) Y → Both (RefT (List ℕ)) Z → Answer Yard
+readFrom sheet parents pebbles targets = reader (now (sheet .entry)) (now (parents .entry)) (now (pebbles .entry)) (now (targets .entry))
 
 -- as they are, for a `requires`
 abbrev pub handed : RefT (List ℕ) → RefT (List ℕ) → RefT (List ℕ) → Yard

@@ -33,8 +33,12 @@ pub record Verdict : Type 0 where
   pub moves : ℕ
   pub excess : ℕ
 
+-- the checker's tests of the moves: 10 to 13 for each in turn, then 14
+abbrev pub obeyTests : Yard → List Move → List (Option Fault)
+obeyTests y ms = movesFault 0 y ms ∷ endFault (run y ms) ∷ []
+
 abbrev pub checkTests : Yard → List ℕ → List (Option Fault)
-checkTests y bs = judge y ∷ totalsFault y ∷ bytesFault bs ∷ movesFault 0 y (movesOf bs) ∷ endFault (run y (movesOf bs)) ∷ []
+checkTests y bs = judge y ∷ totalsFault y ∷ bytesFault bs ∷ obeyTests y (movesOf bs)
 
 unfoldable pub checkFault : Yard → List ℕ → Option Fault
 checkFault y bs = firstOf (checkTests y bs)

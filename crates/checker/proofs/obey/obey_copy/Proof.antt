@@ -9,7 +9,7 @@ copy-requires c κs = search needs
 obey-requires : tie.Need-obey-requires
 obey-requires c κs =
     let s = c .before .before .before .before .before .before .before .before .before .before in
-    rw (c .before .before .before .copy .ensures) (s .pre .0, s .pre .1)
+    rw (c .before .before .before .copy .ensures) (s .pre .0)
 
 same-length : tie.Need-same-length
 same-length c = search needs

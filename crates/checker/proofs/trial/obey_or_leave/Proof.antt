@@ -25,7 +25,7 @@ slice-aggregate-obey-copy c = sym (front-zeros _ (few (c .before .before .before
 obey-copy-requires : tie.Need-obey-copy-requires
 obey-copy-requires c κs =
     let s = c .before .before .before .before .before .before in
-    (s .pre .0, s .pre .1, front-zeros _ (few s) ∙ sym (facts _ (s .pre .0) .pebbles-size))
+    (s .pre, front-zeros _ (few s) ∙ sym (facts _ (s .pre .0) .pebbles-size))
 
 enum-known-done : tie.Need-enum-known-done
 enum-known-done c = search needs

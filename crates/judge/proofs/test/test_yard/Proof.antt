@@ -47,10 +47,11 @@ test-shape-requires : tie.Need-test-shape-requires
 test-shape-requires c κs =
     let e = c .before .before in
     let t = e .before .before .before in
-    let a = t .before .before .before .before .args in (
-      passed-lengths (a .parents .now) (a .pebbles .now) (a .targets .now) (sym (ap paperDone (e .before .enum-told .given .1)) ∙ t .test-lengths .ensures) .1,
-      passed-parents (a .parents .now) (a .pebbles .now) (a .targets .now) (sym (ap paperDone (c .enum-told2 .given .1)) ∙ e .test-entries .ensures),
-    )
+    let a = t .before .before .before .before .args in
+    record {
+      few = passed-lengths (a .parents .now) (a .pebbles .now) (a .targets .now) (sym (ap paperDone (e .before .enum-told .given .1)) ∙ t .test-lengths .ensures) .1;
+      inside = passed-parents (a .parents .now) (a .pebbles .now) (a .targets .now) (sym (ap paperDone (c .enum-told2 .given .1)) ∙ e .test-entries .ensures);
+    }
 
 returns-3 : tie.Need-returns-3
 returns-3 c =
