@@ -9,8 +9,8 @@ ghost use Rattle.serve.specs.Kept.{Ready, Start, Asked, Begins};
 ghost use Rattle.planner.specs.Balancing.{AskedEven, Settled, Balanced};
 use serve::choose::choose_from;
 use serve::choose::wide;
-use serve::pebble::extract_pebble;
-use serve::pebble::inject_pebble;
+use serve::pebble::extract_start;
+use serve::pebble::inject_start;
 use serve::pebble::move_pebbles;
 
 // Where a turn of the loop begins, which fills the child c or draws from it.
@@ -19,9 +19,9 @@ fn turn_start(t: &[u8; 768], s: &[i16; 512], c: usize, away: bool, height: usize
     ensures { λ r. ⌜ ((y : Yard) → Asked away y (now (t .entry)) (now (s .entry)) c height → Begins away y c r) ⌝ }
 {
     if away {
-        return inject_pebble(t, s, c, height);
+        return inject_start(t, s, c, height);
     }
-    extract_pebble(t, s, c, height)
+    extract_start(t, s, c, height)
 }
 
 // One of two numbers.

@@ -1,4 +1,4 @@
-// Algorithms 2, 3 and 4: filling, clearing, drawing, and a move.
+// Algorithms 2, 3 and 4: where filling, clearing and drawing begin, found on the way down; and their moves, made on the way up.
 ghost use mathlib.Core.Path.{_≡_};
 ghost use mathlib.Core.Bool.{true, false};
 ghost use Prim.Native.Nat.{_+_, _*_, _<_, _≤_};
@@ -39,27 +39,27 @@ fn move_pebble(t: &[u8; 768], s: &mut [i16; 512], plan: &mut [u8], k: usize, v: 
 }
 
 // Algorithm 2: where filling v from its parent begins. A full v is cleared first.
-pub fn inject_pebble(t: &[u8; 768], s: &[i16; 512], v: usize, height: usize) -> usize
+pub fn inject_start(t: &[u8; 768], s: &[i16; 512], v: usize, height: usize) -> usize
     requires { ⌜ ((y : Yard) × Asked true y (now t) (now s) v height) ⌝ }
     ensures { λ r. ⌜ ((y : Yard) → Asked true y (now (t .entry)) (now (s .entry)) v height → Begins true y v r) ⌝ }
 {
     if s[256 + v] == 0 {
         return v;
     }
-    clear_node(t, s, v, height)
+    clear_start(t, s, v, height)
 }
 
-// To clear v, which is full, fill the child that is chosen.
-fn clear_node(t: &[u8; 768], s: &[i16; 512], v: usize, height: usize) -> usize
+// Where clearing v begins, which is full: to clear it, fill the child that is chosen.
+fn clear_start(t: &[u8; 768], s: &[i16; 512], v: usize, height: usize) -> usize
     requires { ⌜ ((y : Yard) × Asked true y (now t) (now s) v height × (blocked y true v ≡ true)) ⌝ }
     ensures { λ r. ⌜ ((y : Yard) → Asked true y (now (t .entry)) (now (s .entry)) v height → blocked y true v ≡ true → Begins true y v r) ⌝ }
 {
     let c = choose(t, s, v, true);
-    inject_pebble(t, s, c, height - 1)
+    inject_start(t, s, c, height - 1)
 }
 
-// Algorithm 3: where drawing from v into its parent begins. Into an empty v one is drawn first.
-pub fn extract_pebble(t: &[u8; 768], s: &[i16; 512], v: usize, height: usize) -> usize
+// Algorithm 3: where drawing from v into its parent begins. Into an empty v a pebble is drawn first.
+pub fn extract_start(t: &[u8; 768], s: &[i16; 512], v: usize, height: usize) -> usize
     requires { ⌜ ((y : Yard) × Asked false y (now t) (now s) v height) ⌝ }
     ensures { λ r. ⌜ ((y : Yard) → Asked false y (now (t .entry)) (now (s .entry)) v height → Begins false y v r) ⌝ }
 {
@@ -67,7 +67,7 @@ pub fn extract_pebble(t: &[u8; 768], s: &[i16; 512], v: usize, height: usize) ->
         return v;
     }
     let c = choose(t, s, v, false);
-    extract_pebble(t, s, c, height - 1)
+    extract_start(t, s, c, height - 1)
 }
 
 // The moves of filling `top`, or of drawing from it, which begin at `low`: from there up to `top` a pebble goes over the edge of each node and
