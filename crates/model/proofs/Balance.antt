@@ -92,11 +92,12 @@ turned-shift {y} {u} {c} {cs} t l e q s =
     let h = serves-shift y t s (turn-due y t u l e c (n .0) (n .1) (held y u) refl) in
     (h .good, h .some)
 
-pub record Settled (y : Yard) (u : ℕ) (ms : List Move) : Type 0 where
+-- moves that are good, and after which the children of u are even
+pub record EvenKids (y : Yard) (u : ℕ) (ms : List Move) : Type 0 where
   pub good : Good y ms
   pub kids : (c : ℕ) → Child (y .parents) u c → Even (run y ms) c
 
-pub settles-good : {y : Yard} {u : ℕ} {ms : List Move} → Settles y u ms → Tree y → u < size y → Even y u → Settled y u ms
+pub settles-good : {y : Yard} {u : ℕ} {ms : List Move} → Settles y u ms → Tree y → u < size y → Even y u → EvenKids y u ms
 unfolding after
 settles-good {y} {u} (settled q) t l e = record { good = good-nil y; kids = none-needy (imbalance y) y u q }
 settles-good {y} {u} (turned {ms = ms} {ns = ns} q s r) t l e =
@@ -112,7 +113,7 @@ Done y c = (v : ℕ) → v < size y → inside (y .parents) c v ≡ true → Eve
 abbrev Fit : Yard → ℕ → Type 0
 Fit y c = (c < size y) × Even y c
 
-fit-children : (y : Yard) (u : ℕ) (ms : List Move) → Settled y u ms → All (Fit (run y ms)) (children y u)
+fit-children : (y : Yard) (u : ℕ) (ms : List Move) → EvenKids y u ms → All (Fit (run y ms)) (children y u)
 fit-children y u ms s = all-below (Fit (run y ms)) (isChild (y .parents) u) (size y) (λ c m q. (m, s .kids c (is-child (y .parents) u c m q)))
 
 fit-run : (y : Yard) → Tree y → (ms : List Move) → Good y ms → (us : List ℕ) → All (Fit y) us → All (Fit (run y ms)) us
@@ -190,7 +191,7 @@ module _ (k : ℕ) where
       s : Settles y u ms
       s = settle-settles k k y t u (a .0 .0) (a .0 .1) (omega arith) (omega arith)
 
-      h : Settled y u ms
+      h : EvenKids y u ms
       h = settles-good s t (a .0 .0) (a .0 .1)
 
       ns : List Move

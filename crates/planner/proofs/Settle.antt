@@ -25,32 +25,32 @@ use Rattle.model.proofs.Shortest.{Good, keeps}
 use Rattle.model.proofs.Choice.{all-needy, none-needy}
 use Rattle.model.proofs.Serve.{Due, Serves, serves-shift}
 use Rattle.model.proofs.Balance.{Settles, settled, turned, turn-due, first-needy}
-use Rattle.serve.specs.Kept.{Ready, Start, at-child, Made, Asked, Begins, AskedMoves}
+use Rattle.serve.specs.Serving.{Describes, LookFrom, at-child, Made, AskedStart, Start, AskedMoves}
 use Rattle.planner.specs.Balancing.{AskedEven, Settled}
 use Rattle.serve.proofs.Serving.{mark-is}
-use Rattle.serve.proofs.Looking.{look-none, start-first, chosen, start-after}
+use Rattle.serve.proofs.Looking.{look-none, from-first, from-chosen, from-after}
 use Rattle.serve.proofs.Moving.{made-nil}
-use Rattle.serve.proofs.Made.{rest, back, ready-after, room-left, Begun, begin, go-on}
+use Rattle.serve.proofs.Stretches.{rest, back, describes-after, room-left, Begun, begin, go-on}
 
 -- whether u holds a pebble, as the code reads it
-abbrev pub marked : List ℤ → ℕ → Bool
-marked s u = not (eqb (ofZ w16 (getD s (256 + u) (pos 0))) 0)
+abbrev pub readHeld : List ℤ → ℕ → Bool
+readHeld s u = not (eqb (ofZ w16 (getD s (256 + u) (pos 0))) 0)
 
-marked-one : (p : ℕ) → p ≤ 1 → not (eqb p 0) ≡ ltb 0 p
-marked-one zero h = refl
-marked-one (suc zero) h = refl
-marked-one (suc (suc p)) h = absurd (omega arith)
+read-one : (p : ℕ) → p ≤ 1 → not (eqb p 0) ≡ ltb 0 p
+read-one zero h = refl
+read-one (suc zero) h = refl
+read-one (suc (suc p)) h = absurd (omega arith)
 
-pub marked-held : {y : Yard} {t : List ℕ} {s : List ℤ} {u : ℕ} → Ready y t s → u < size y → marked s u ≡ held y u
-marked-held {y} {u = u} r l = rw (mark-is (r .kept) l) (marked-one (pebble y u) (facts y (r .tree) .pebble-le u l))
+pub read-held : {y : Yard} {t : List ℕ} {s : List ℤ} {u : ℕ} → Describes y t s → u < size y → readHeld s u ≡ held y u
+read-held {y} {u = u} r l = rw (mark-is (r .kept) l) (read-one (pebble y u) (facts y (r .tree) .pebble-le u l))
 
 -- what the loop asks, after some moves
 pub even-after : {y : Yard} {ms : List Move} {t : List ℕ} {s₀ s : List ℤ} {before plan : List ℕ} {k u h : ℕ}
     → AskedEven y t s₀ before u h → Good y ms → Made y ms s before plan k → AskedEven (run y ms) t s (rest plan k) u h
 even-after {y} {ms} {u = u} a g d = record {
-  ready = ready-after (a .ready) g d;
+  described = describes-after (a .described) g d;
   node = a .node;
-  even = omega (arith, a .even, keeps y (a .ready .tree) ms g u (a .node));
+  even = omega (arith, a .even, keeps y (a .described .tree) ms g u (a .node));
   room = room-left g (a .room) d;
   high = a .high;
 }
@@ -65,7 +65,7 @@ module _ {y : Yard} {t : List ℕ} {s : List ℤ} {plan : List ℕ} {u h : ℕ} 
       go false n = omega arith
 
   due-chosen : (v : ℕ) → Child (y .parents) u v → 0 < imbalance y v → Due y b c
-  due-chosen v k n = rw q (turn-due y (a .ready .tree) u (a .node) (a .even) v k n b (sym e))
+  due-chosen v k n = rw q (turn-due y (a .described .tree) u (a .node) (a .even) v k n b (sym e))
 
   -- the loop ends
   pub none-chosen : c ≡ u → Settles y u []
@@ -89,19 +89,19 @@ module _ {y : Yard} {t : List ℕ} {s : List ℤ} {plan : List ℕ} {u h : ℕ} 
     due : Due y b c
     due = due-chosen c (chosen-needs .0) (some-need c (chosen-needs .1))
 
-    pub turn-asked : Asked b y t s c h
+    pub turn-asked : AskedStart b y t s c h
     turn-asked = record {
-      ready = a .ready;
+      described = a .described;
       due = due;
-      high = omega (arith, a .high, weight-child (wood y (a .ready .tree)) u c (a .node) (chosen-needs .0));
+      high = omega (arith, a .high, weight-child (wood y (a .described .tree)) u c (a .node) (chosen-needs .0));
     }
 
-    pub turn-moves : {low : ℕ} → Begins b y c low → AskedMoves b y t s plan low c
-    turn-moves r = record { ready = a .ready; due = due; begins = r; room = a .room }
+    pub turn-moves : {low : ℕ} → Start b y c low → AskedMoves b y t s plan low c
+    turn-moves r = record { described = a .described; due = due; start = r; room = a .room }
 
     module _ {ms : List Move} (v : Serves y b c ms) where
       pub turn-good : Good y ms × (0 < length ms)
-      turn-good = let w = serves-shift y (a .ready .tree) v due in (w .good, w .some)
+      turn-good = let w = serves-shift y (a .described .tree) v due in (w .good, w .some)
 
       pub turn-settles : (ns : List Move) → Settles (run y ms) u ns → Settles y u (ms ++ ns)
       turn-settles ns r = go (needy (imbalance y) y u) refl
@@ -114,40 +114,40 @@ module _ {y : Yard} {t : List ℕ} {s : List ℤ} {plan : List ℕ} {u h : ℕ} 
 pub leaf-settled : {y : Yard} {t : List ℕ} {s : List ℤ} {plan : List ℕ} {u h : ℕ} → AskedEven y t s plan u h → getD t (256 + u) 0 ≡ u → Settled y u s plan plan 0
 leaf-settled {y} {t} {s} {plan} {u} a e = record {
   moves = [];
-  settles = none-chosen a {b = held y u} refl {c = u} (look-none y u (held y u) t s (a .ready) (a .node) e) refl;
-  made = made-nil y s plan (a .ready .kept);
+  settles = none-chosen a {b = held y u} refl {c = u} (look-none y u (held y u) t s (a .described) (a .node) e) refl;
+  made = made-nil y s plan (a .described .kept);
 }
 
--- where looking begins in the loop, for a child that lacks pebbles and for one that has too many
-pub record Starts (y : Yard) (t : List ℕ) (u lacks spares : ℕ) : Type 0 where
-  pub lack : Start true y t u lacks
-  pub spare : Start false y t u spares
+-- where looking goes on in the loop: for a child to fill, at the one filled last, and for one to draw from, at the one drawn from last
+pub record LooksFrom (y : Yard) (t : List ℕ) (u injected extracted : ℕ) : Type 0 where
+  pub inject : LookFrom true y t u injected
+  pub extract : LookFrom false y t u extracted
 
-pub start-for : {y : Yard} {t : List ℕ} {u lacks spares : ℕ} (b : Bool) → Starts y t u lacks spares → Start b y t u (cond b lacks spares)
-start-for true h = h .lack
-start-for false h = h .spare
+pub look-for : {y : Yard} {t : List ℕ} {u injected extracted : ℕ} (b : Bool) → LooksFrom y t u injected extracted → LookFrom b y t u (cond b injected extracted)
+look-for true h = h .inject
+look-for false h = h .extract
 
--- after a turn it begins at the child that was chosen, for its sign
-pub starts-next : {y : Yard} {ms : List Move} {t : List ℕ} {u c lacks spares lacks′ spares′ : ℕ} (b : Bool) → Starts y t u lacks spares → Tree y → Good y ms
-    → c ≡ choice (need y b) y u → c ≢ u → lacks′ ≡ cond b c lacks → spares′ ≡ cond b spares c → Starts (run y ms) t u lacks′ spares′
-starts-next {y} {ms} {u = u} true h w g q d e f = rw (e, f) record { lack = start-after w g u (at-child (chosen true y u q d)); spare = start-after w g u (h .spare) }
-starts-next {y} {ms} {u = u} false h w g q d e f = rw (e, f) record { lack = start-after w g u (h .lack); spare = start-after w g u (at-child (chosen false y u q d)) }
+-- after a turn it is the child that was chosen, for its sign
+pub looks-next : {y : Yard} {ms : List Move} {t : List ℕ} {u c injected extracted injected′ extracted′ : ℕ} (b : Bool) → LooksFrom y t u injected extracted → Tree y → Good y ms
+    → c ≡ choice (need y b) y u → c ≢ u → injected′ ≡ cond b c injected → extracted′ ≡ cond b extracted c → LooksFrom (run y ms) t u injected′ extracted′
+looks-next {y} {ms} {u = u} true h w g q d e f = rw (e, f) record { inject = from-after w g u (at-child (from-chosen true y u q d)); extract = from-after w g u (h .extract) }
+looks-next {y} {ms} {u = u} false h w g q d e f = rw (e, f) record { inject = from-after w g u (h .inject); extract = from-after w g u (at-child (from-chosen false y u q d)) }
 
 -- some turns were made
-pub record Turned (y : Yard) (t : List ℕ) (u : ℕ) (s : List ℤ) (before plan : List ℕ) (k lacks spares : ℕ) : Type 0 where
+pub record Turned (y : Yard) (t : List ℕ) (u : ℕ) (s : List ℤ) (before plan : List ℕ) (k injected extracted : ℕ) : Type 0 where
   pub begun : Begun y s before plan k (Settles y u) (λ z. Settles z u)
-  pub starts : Starts (run y (begun .moves)) t u lacks spares
+  pub looks : LooksFrom (run y (begun .moves)) t u injected extracted
 
 pub turn-none : {y : Yard} {t : List ℕ} {s : List ℤ} {plan : List ℕ} {u c h : ℕ} → AskedEven y t s plan u h → c ≡ getD t (256 + u) 0 → Turned y t u s plan plan 0 c c
 unfolding begin after
 turn-none {y} {t} {s} {u = u} a e = record {
-  begun = begin {Left = λ z. Settles z u} (a .ready .kept);
-  starts = record { lack = start-first y u true t s (a .ready) (a .node) e; spare = start-first y u false t s (a .ready) (a .node) e };
+  begun = begin {Ahead = λ z. Settles z u} (a .described .kept);
+  looks = record { inject = from-first y u true t s (a .described) (a .node) e; extract = from-first y u false t s (a .described) (a .node) e };
 }
 
-pub turn-more : {y : Yard} {t : List ℕ} {u : ℕ} {s s′ : List ℤ} {before plan part : List ℕ} {k m lacks spares lacks′ spares′ : ℕ}
-    (w : Turned y t u s before plan k lacks spares) (ns : List Move) → Good (run y (w .begun .moves)) ns → Made (run y (w .begun .moves)) ns s′ (rest plan k) part m
+pub turn-more : {y : Yard} {t : List ℕ} {u : ℕ} {s s′ : List ℤ} {before plan part : List ℕ} {k m injected extracted injected′ extracted′ : ℕ}
+    (w : Turned y t u s before plan k injected extracted) (ns : List Move) → Good (run y (w .begun .moves)) ns → Made (run y (w .begun .moves)) ns s′ (rest plan k) part m
     → ((ps : List Move) → Settles (run (run y (w .begun .moves)) ns) u ps → Settles (run y (w .begun .moves)) u (ns ++ ps))
-    → Starts (run (run y (w .begun .moves)) ns) t u lacks′ spares′ → Turned y t u s′ before (back plan k part) (k + m) lacks′ spares′
+    → LooksFrom (run (run y (w .begun .moves)) ns) t u injected′ extracted′ → Turned y t u s′ before (back plan k part) (k + m) injected′ extracted′
 unfolding go-on
-turn-more {y} w ns g d f h = record { begun = go-on (w .begun) ns g d f; starts = rw (after-append (w .begun .moves) ns y) h }
+turn-more {y} w ns g d f h = record { begun = go-on (w .begun) ns g d f; looks = rw (after-append (w .begun .moves) ns y) h }

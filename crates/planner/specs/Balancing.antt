@@ -7,11 +7,11 @@ use Rattle.model.specs.Yard.{Yard, size, shortest}
 use Rattle.model.specs.Push.{Move}
 use Rattle.model.proofs.Demands.{weight}
 use Rattle.model.proofs.Balance.{Even, Settles, Balances}
-use Rattle.serve.specs.Kept.{Ready, Made}
+use Rattle.serve.specs.Serving.{Describes, Made}
 
 -- what balancing u asks, and its loop
 pub record AskedEven (y : Yard) (t : List ℕ) (s : List ℤ) (plan : List ℕ) (u height : ℕ) : Type 0 where
-  pub ready : Ready y t s
+  pub described : Describes y t s
   pub node : u < size y
   pub even : Even y u
   pub room : 2 * shortest y ≤ length plan

@@ -5,7 +5,7 @@ ghost use Prim.Native.Nat.{_<_};
 ghost use Rattle.model.specs.Yard.{Yard, size};
 ghost use Rattle.model.specs.Plan.{choice};
 ghost use Rattle.model.proofs.Step.{need};
-ghost use Rattle.serve.specs.Kept.{Ready, Start, Asked, Begins};
+ghost use Rattle.serve.specs.Serving.{Describes, LookFrom, AskedStart, Start};
 ghost use Rattle.planner.specs.Balancing.{AskedEven, Settled, Balanced};
 use serve::choose::choose_from;
 use serve::choose::wide;
@@ -15,8 +15,8 @@ use serve::pebble::move_pebbles;
 
 // Where a turn of the loop begins, which fills the child c or draws from it.
 fn turn_start(t: &[u8; 768], s: &[i16; 512], c: usize, away: bool, height: usize) -> usize
-    requires { ⌜ ((y : Yard) × Asked away y (now t) (now s) c height) ⌝ }
-    ensures { λ r. ⌜ ((y : Yard) → Asked away y (now (t .entry)) (now (s .entry)) c height → Begins away y c r) ⌝ }
+    requires { ⌜ ((y : Yard) × AskedStart away y (now t) (now s) c height) ⌝ }
+    ensures { λ r. ⌜ ((y : Yard) → AskedStart away y (now (t .entry)) (now (s .entry)) c height → Start away y c r) ⌝ }
 {
     if away {
         return inject_start(t, s, c, height);
@@ -24,32 +24,33 @@ fn turn_start(t: &[u8; 768], s: &[i16; 512], c: usize, away: bool, height: usize
     extract_start(t, s, c, height)
 }
 
-// One of two numbers.
-fn either(first: bool, a: usize, b: usize) -> usize
-    ensures { λ r. ⌜ r ≡ cond first a b ⌝ }
+// a if the test is true, else b.
+fn either(test: bool, a: usize, b: usize) -> usize
+    ensures { λ r. ⌜ r ≡ cond test a b ⌝ }
 {
-    if first {
+    if test {
         return a;
     }
     b
 }
 
-// The child that the loop at u serves next. One scan for each sign, so that neither asks for the sign child by child.
+// The child that the loop at u serves next, looked for from the child on that was filled last, or drawn from last. One scan for each sign, so that
+// neither asks for the sign child by child.
 fn choose_next(
     t: &[u8; 768],
     s: &[i16; 512],
     u: usize,
-    lacks: usize,
-    spares: usize,
+    injected: usize,
+    extracted: usize,
     away: bool,
 ) -> usize
-    requires { ⌜ ((y : Yard) × Ready y (now t) (now s) × (u < size y) × Start away y (now t) u (cond away lacks spares)) ⌝ }
-    ensures { λ r. ⌜ ((y : Yard) → Ready y (now (t .entry)) (now (s .entry)) → u < size y → Start away y (now (t .entry)) u (cond away lacks spares) → r ≡ choice (need y away) y u) ⌝ }
+    requires { ⌜ ((y : Yard) × Describes y (now t) (now s) × (u < size y) × LookFrom away y (now t) u (cond away injected extracted)) ⌝ }
+    ensures { λ r. ⌜ ((y : Yard) → Describes y (now (t .entry)) (now (s .entry)) → u < size y → LookFrom away y (now (t .entry)) u (cond away injected extracted) → r ≡ choice (need y away) y u) ⌝ }
 {
     if away {
-        return choose_from(t, s, u, lacks, true);
+        return choose_from(t, s, u, injected, true);
     }
-    choose_from(t, s, u, spares, false)
+    choose_from(t, s, u, extracted, false)
 }
 
 // The loop at u: if u holds a pebble a child is filled from it, else one is drawn from a child, until no child has a demand of the sign wanted;
@@ -60,16 +61,16 @@ fn settle(t: &[u8; 768], s: &mut [i16; 512], plan: &mut [u8], u: usize, height: 
 {
     let first = wide(t[256 + u]);
     let mut k = 0;
-    let mut lacks = first;
-    let mut spares = first;
+    let mut injected = first;
+    let mut extracted = first;
     loop {
         let away = s[256 + u] != 0;
-        let c = choose_next(t, s, u, lacks, spares, away);
+        let c = choose_next(t, s, u, injected, extracted, away);
         if c == u {
             return k;
         }
-        lacks = either(away, c, lacks);
-        spares = either(away, spares, c);
+        injected = either(away, c, injected);
+        extracted = either(away, extracted, c);
         let low = turn_start(t, s, c, away, height);
         let m = move_pebbles(t, s, &mut plan[2 * k..], low, c, away);
         k += m;

@@ -3,7 +3,7 @@ ghost use mathlib.Core.Path.{_≡_};
 ghost use lib.ListN.{length};
 ghost use Rattle.model.specs.Given.{given, handed};
 ghost use Rattle.model.specs.Judge.{Tree};
-ghost use Rattle.serve.specs.Kept.{Kept};
+ghost use Rattle.serve.specs.Serving.{Kept};
 use demand::fill::fill;
 use demand::signed::difference;
 

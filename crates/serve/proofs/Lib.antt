@@ -4,5 +4,5 @@ pub mod Numbers
 pub mod Siblings
 pub mod Looking
 pub mod Moving
-pub mod Made
+pub mod Stretches
 pub mod Serving

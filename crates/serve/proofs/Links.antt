@@ -16,7 +16,7 @@ use Rattle.model.specs.Yard.{up, below, headOr, isChild}
 use Rattle.model.proofs.Basics.{All, all-below}
 use Rattle.model.proofs.Found.{found, missed, lowest-is, below-cong}
 use Rattle.model.proofs.Trees.{is-child, child-is}
-use Rattle.serve.specs.Kept.{Tables}
+use Rattle.serve.specs.Serving.{Tables}
 
 -- v is a child of u, and not below i
 abbrev pub later : ℕ → List ℕ → ℕ → ℕ → Bool
@@ -41,8 +41,8 @@ pub record Linked (i : ℕ) (ps t : List ℕ) : Type 0 where
 abbrev entered : List ℕ → ℕ → ℕ → List ℕ
 entered t i p = set (set (set t i p) (256 + i) i) (512 + i) i
 
-kept : (t : List ℕ) (i p w : ℕ) → w ≢ i → w ≢ 256 + i → w ≢ 512 + i → getD (entered t i p) w 0 ≡ getD t w 0
-kept t i p w d e f = rw (getD-set-other, getD-set-other, getD-set-other)
+untouched : (t : List ℕ) (i p w : ℕ) → w ≢ i → w ≢ 256 + i → w ≢ 512 + i → getD (entered t i p) w 0 ≡ getD t w 0
+untouched t i p w d e f = rw (getD-set-other, getD-set-other, getD-set-other)
 
 pub fill : {i : ℕ} {ps t : List ℕ} → Filled i ps t → i < 256 → Filled (i + 1) ps (entered t i (up ps i))
 fill {i} {ps} {t} f l =
@@ -53,13 +53,13 @@ fill {i} {ps} {t} f l =
     record {
       room = simp length-set r;
       parent = below-more _ i
-          (λ v k. kept t i p v (omega arith) (omega arith) (omega arith) ∙ f .parent v k)
+          (λ v k. untouched t i p v (omega arith) (omega arith) (omega arith) ∙ f .parent v k)
           (getD-set-other twice (512 + i) i i 0 (omega arith) ∙ getD-set-other once (256 + i) i i 0 (omega arith) ∙ getD-set-same t i p 0 (omega arith));
       first = below-more _ i
-          (λ u k. kept t i p (256 + u) (omega arith) (omega arith) (omega arith) ∙ f .first u k)
+          (λ u k. untouched t i p (256 + u) (omega arith) (omega arith) (omega arith) ∙ f .first u k)
           (getD-set-other twice (512 + i) (256 + i) i 0 (omega arith) ∙ getD-set-same once (256 + i) i 0 (simp length-set (omega arith)));
       next = below-more _ i
-          (λ c k. kept t i p (512 + c) (omega arith) (omega arith) (omega arith) ∙ f .next c k)
+          (λ c k. untouched t i p (512 + c) (omega arith) (omega arith) (omega arith) ∙ f .next c k)
           (getD-set-same twice (512 + i) i 0 (simp length-set (omega arith)));
     }
 
@@ -84,8 +84,8 @@ linked {i} {ps} f l =
     }
 
 -- linking v changes nothing for a node u that is not its parent
-no-child : (ps : List ℕ) (u v x : ℕ) → isChild ps u v ≡ false → x ≡ headOr u (below (length ps) (later (v + 1) ps u)) → x ≡ headOr u (below (length ps) (later v ps u))
-no-child ps u v x e h = h ∙ ap (headOr u) (below-cong (length ps) (later (v + 1) ps u) (later v ps u) (λ w. go w (ℕ-discrete w v) (leb v w) refl))
+other-parent : (ps : List ℕ) (u v x : ℕ) → isChild ps u v ≡ false → x ≡ headOr u (below (length ps) (later (v + 1) ps u)) → x ≡ headOr u (below (length ps) (later v ps u))
+other-parent ps u v x e h = h ∙ ap (headOr u) (below-cong (length ps) (later (v + 1) ps u) (later v ps u) (λ w. go w (ℕ-discrete w v) (leb v w) refl))
   where
     go : (w : ℕ) → Dec (w ≡ v) → (b : Bool) → leb v w ≡ b → later (v + 1) ps u w ≡ later v ps u w
     go w (yes q) b s = rw (q, e) (and-false (leb (v + 1) v) ∙ sym (and-false (leb v v)))
@@ -99,7 +99,7 @@ module _ (v : ℕ) {ps t : List ℕ} (f : Linked (v + 1) ps t) where
       record {
         room = f .room;
         parent = f .parent;
-        first = λ u k. no-child ps u v (getD t (256 + u) 0) (free u (ℕ-discrete v u)) (f .first u k);
+        first = λ u k. other-parent ps u v (getD t (256 + u) 0) (free u (ℕ-discrete v u)) (f .first u k);
         next = λ c k m d. f .next c k (higher c m d (ℕ-discrete c v)) d;
         own = λ c k. f .own c (omega arith);
       }
@@ -142,7 +142,7 @@ module _ (v : ℕ) {ps t : List ℕ} (f : Linked (v + 1) ps t) where
             let child = child-is ps p v record { lt = l; up = refl; other = λ b. d (sym b) } in
             rw (← q) (getD-set-other (set t (256 + p) v) (512 + v) (256 + p) x 0 (omega arith) ∙ getD-set-same t (256 + p) v 0 (omega (arith, f .room))
             ∙ found (length ps) p v (later v ps p) l (λ w b. rw (lt-leb v w b)) (rw (le-leb v v (omega arith)) child))
-        first u m (no q) = no-child ps u v (getD (ahead x) (256 + u) 0) (rw (ne-eqb p u q)) (other x (256 + u) (omega arith) (omega arith) ∙ f .first u m)
+        first u m (no q) = other-parent ps u v (getD (ahead x) (256 + u) 0) (rw (ne-eqb p u q)) (other x (256 + u) (omega arith) (omega arith) ∙ f .first u m)
 
         next : (c : ℕ) → c < length ps → v ≤ c → up ps c ≢ c → Dec (c ≡ v) → getD (ahead x) (512 + c) 0 ≡ headOr c (below (length ps) (later (c + 1) ps (up ps c)))
         next c m b n (yes q) = rw q (getD-set-same (set t (256 + p) v) (512 + v) x 0 (simp length-set (omega (arith, f .room))) ∙ e)

@@ -25,7 +25,7 @@ use Rattle.model.proofs.Judged.{facts, wood}
 use Rattle.model.proofs.Signed.{above0, below0, demand-parts, demand-range}
 use Rattle.model.proofs.Step.{need}
 use Rattle.model.proofs.Shortest.{Good, keeps}
-use Rattle.serve.specs.Kept.{Ready, wants, Looking, Start, no-child, at-child}
+use Rattle.serve.specs.Serving.{Describes, wants, NoneBefore, LookFrom, no-child, at-child}
 use Rattle.demand.proofs.Numbers.{small-fits}
 use Rattle.serve.proofs.Siblings.{first-none, next-is, next-none}
 
@@ -50,30 +50,30 @@ module _ (y : Yard) (u : ℕ) (b : Bool) where
   not-child : (v : ℕ) → isChild (y .parents) u v ≡ false → wants b y u v ≡ false
   not-child v e = rw e
 
-  module _ (t : List ℕ) (s : List ℤ) (r : Ready y t s) (l : u < size y) where
+  module _ (t : List ℕ) (s : List ℤ) (r : Describes y t s) (l : u < size y) where
     -- u has no child, or there is none behind c
     pub look-none : getD t (256 + u) 0 ≡ u → u ≡ choice (need y b) y u
     unfolding choice needy
     look-none e = missed (size y) u (wants b y u) (λ v k. not-child v (below-none (size y) (isChild (y .parents) u) (first-none (r .tables) l e) v k))
 
-    look-first : getD t (256 + u) 0 ≢ u → Looking b y u (getD t (256 + u) 0)
+    look-first : getD t (256 + u) 0 ≢ u → NoneBefore b y u (getD t (256 + u) 0)
     look-first d =
         let k = lowest-is (size y) u _ (isChild (y .parents) u) (r .tables .first u l) d in
         record { child = is-child (y .parents) u _ (k .0) (k .1); none = λ v m. not-child v (k .2 v m) }
 
     -- looking begins at the lowest child, or ends there
-    pub start-first : {c : ℕ} → c ≡ getD t (256 + u) 0 → Start b y t u c
-    start-first {c} f = go (ℕ-discrete c u)
+    pub from-first : {c : ℕ} → c ≡ getD t (256 + u) 0 → LookFrom b y t u c
+    from-first {c} f = go (ℕ-discrete c u)
       where
-        go : Dec (c ≡ u) → Start b y t u c
-        go (yes e) = subst (Start b y t u) (sym e) (no-child (sym f ∙ e))
+        go : Dec (c ≡ u) → LookFrom b y t u c
+        go (yes e) = subst (LookFrom b y t u) (sym e) (no-child (sym f ∙ e))
         go (no d) = rw f (at-child (look-first (λ e. d (f ∙ e))))
 
-    pub start-none : {c : ℕ} → Start b y t u c → c ≡ u → u ≡ choice (need y b) y u
-    start-none (no-child e) f = look-none e
-    start-none (at-child h) f = absurd (h .child .other f)
+    pub from-none : {c : ℕ} → LookFrom b y t u c → c ≡ u → u ≡ choice (need y b) y u
+    from-none (no-child e) f = look-none e
+    from-none (at-child h) f = absurd (h .child .other f)
 
-    module _ (c : ℕ) (h : Looking b y u c) where
+    module _ (c : ℕ) (h : NoneBefore b y u c) where
       -- the demand at hand decides
       look-sign : sign b (getD s c (pos 0)) ≡ wants b y u c
       look-sign = ap (sign b) (r .kept .demands c (h .child .lt)) ∙ sign-need y b c ∙ rw (child-is (y .parents) u c (h .child))
@@ -99,25 +99,25 @@ module _ (y : Yard) (u : ℕ) (b : Bool) where
       unfolding choice needy behind
       look-last e f = missed (size y) u (wants b y u) (λ v k. pass e v (below-none (size y) behind (next-none (r .tables) (h .child) f) v k))
 
-      pub look-next : sign b (getD s c (pos 0)) ≡ false → getD t (512 + c) 0 ≢ c → Looking b y u (getD t (512 + c) 0) × (c < getD t (512 + c) 0)
+      pub look-next : sign b (getD s c (pos 0)) ≡ false → getD t (512 + c) 0 ≢ c → NoneBefore b y u (getD t (512 + c) 0) × (c < getD t (512 + c) 0)
       unfolding behind
       look-next e d =
           let k = lowest-is (size y) c _ behind (next-is (r .tables) (h .child)) d in
           let q = and-eq-true-iff (leb (c + 1) (getD t (512 + c) 0)) (isChild (y .parents) u (getD t (512 + c) 0)) .0 (k .1) in
           (record { child = is-child (y .parents) u _ (k .0) (q .1); none = λ v m. pass e v (k .2 v m) }, omega (arith, leb-true (c + 1) _ (q .0)))
 
--- a start that is a child, and one that was chosen
-pub start-child : {b : Bool} {y : Yard} {t : List ℕ} {u c : ℕ} → Start b y t u c → c ≢ u → Looking b y u c
-start-child (no-child e) d = absurd (d refl)
-start-child (at-child h) d = h
+-- looking from a child, and from one that was chosen
+pub from-child : {b : Bool} {y : Yard} {t : List ℕ} {u c : ℕ} → LookFrom b y t u c → c ≢ u → NoneBefore b y u c
+from-child (no-child e) d = absurd (d refl)
+from-child (at-child h) d = h
 
-pub chosen : (b : Bool) (y : Yard) (u : ℕ) {c : ℕ} → c ≡ choice (need y b) y u → c ≢ u → Looking b y u c
+pub from-chosen : (b : Bool) (y : Yard) (u : ℕ) {c : ℕ} → c ≡ choice (need y b) y u → c ≢ u → NoneBefore b y u c
 unfolding choice needy
-chosen b y u {c} e d =
+from-chosen b y u {c} e d =
     let k = lowest-is (size y) u c (wants b y u) e d in
     record { child = is-child (y .parents) u c (k .0) (and-eq-true-iff (isChild (y .parents) u c) (ltb 0 (need y b c)) .0 (k .1) .0); none = k .2 }
 
--- no demand grows by good moves, so a start stays one
+-- no demand grows by good moves, so what was passed over need not be looked at again
 module _ {y : Yard} {ms : List Move} (w : Tree y) (g : Good y ms) (u : ℕ) where
   need-after : (b : Bool) (v : ℕ) → v < size y → need (run y ms) b v ≤ need y b v
   need-after true v l = keeps y w ms g v l .0
@@ -130,12 +130,12 @@ module _ {y : Yard} {ms : List Move} (w : Tree y) (g : Good y ms) (u : ℕ) wher
       go true e = le-ltb 0 (need (run y ms) b v) (omega (arith, need-after b v l, ltb-false 0 (need y b v) e))
       go false e = refl
 
-  pub start-after : {b : Bool} {t : List ℕ} {c : ℕ} → Start b y t u c → Start b (run y ms) t u c
-  start-after (no-child e) = no-child e
-  start-after {b} (at-child h) = at-child (record { child = h .child; none = λ v m. wants-after b v (omega (arith, h .child .lt)) (h .none v m) })
+  pub from-after : {b : Bool} {t : List ℕ} {c : ℕ} → LookFrom b y t u c → LookFrom b (run y ms) t u c
+  from-after (no-child e) = no-child e
+  from-after {b} (at-child h) = at-child (record { child = h .child; none = λ v m. wants-after b v (omega (arith, h .child .lt)) (h .none v m) })
 
 -- a node is below 256, and so is what the tables say of one
-module _ {y : Yard} {t : List ℕ} {s : List ℤ} {v : ℕ} (r : Ready y t s) (l : v < size y) where
+module _ {y : Yard} {t : List ℕ} {s : List ℤ} {v : ℕ} (r : Describes y t s) (l : v < size y) where
   pub node-small : v < 256
   node-small = omega (arith, facts y (r .tree) .few)
 

@@ -20,7 +20,7 @@ use Rattle.model.proofs.Step.{Step, legal-step, ends, moved-pebble}
 use Rattle.model.proofs.Runs.{after-append, run-one}
 use Rattle.model.proofs.Signed.{nextℤ, demand-node, demand-other}
 use Rattle.model.proofs.Calls.{length-bytes}
-use Rattle.serve.specs.Kept.{Kept, Made}
+use Rattle.serve.specs.Serving.{Kept, Made}
 
 -- bytes of two lists of moves
 pub bytes-append : (ms ns : List Move) → bytes (ms ++ ns) ≡ bytes ms ++ bytes ns
@@ -46,20 +46,20 @@ module _ (y : Yard) (m : Move) (g : Step y m) (s : List ℤ) (k : Kept y s) wher
   long : length s ≡ 512
   long = k .long
 
-  marked : ℤ → List ℤ
-  marked d = set (set (set s (g .node) d) (256 + m .from) (pos 0)) (256 + m .to) (pos 1)
+  after-move : ℤ → List ℤ
+  after-move d = set (set (set s (g .node) d) (256 + m .from) (pos 0)) (256 + m .to) (pos 1)
 
   small : (v : ℕ) → v < size y → v < 256
   small v l = omega (arith, facts y (g .tree) .few)
 
   kept-move : (d : ℤ) → d ≡ nextℤ (g .away) (demand y (g .node)) → Kept (moved y m) (set (set (set s (g .node) d) (256 + m .from) (pos 0)) (256 + m .to) (pos 1))
-  unfolding marked
+  unfolding after-move
   kept-move d e = record { long = simp length-set long; demands = λ v l. low v l ∙ at v l (ℕ-discrete v (g .node)); pebbles = λ v l. high v l (ℕ-discrete v (m .to)) (ℕ-discrete v (m .from)) }
     where
       n : ℕ
       n = size y
 
-      low : (v : ℕ) → v < n → getD (marked d) v (pos 0) ≡ getD (set s (g .node) d) v (pos 0)
+      low : (v : ℕ) → v < n → getD (after-move d) v (pos 0) ≡ getD (set s (g .node) d) v (pos 0)
       low v l =
           getD-set-other (set (set s (g .node) d) (256 + m .from) (pos 0)) (256 + m .to) v (pos 1) (pos 0) (omega (arith, small v l))
           ∙ getD-set-other (set s (g .node) d) (256 + m .from) v (pos 0) (pos 0) (omega (arith, small v l))
@@ -71,15 +71,15 @@ module _ (y : Yard) (m : Move) (g : Step y m) (s : List ℤ) (k : Kept y s) wher
       long-set : length (set (set s (g .node) d) (256 + m .from) (pos 0)) ≡ 512
       long-set = simp length-set long
 
-      high : (v : ℕ) → v < n → Dec (v ≡ m .to) → Dec (v ≡ m .from) → getD (marked d) (256 + v) (pos 0) ≡ pos (pebble (moved y m) v)
+      high : (v : ℕ) → v < n → Dec (v ≡ m .to) → Dec (v ≡ m .from) → getD (after-move d) (256 + v) (pos 0) ≡ pos (pebble (moved y m) v)
       high v l (yes q) _ =
           let c : pebble (moved y m) v ≡ 1 = omega (arith, moved-pebble y m g v, g .room, ap (pebble y) q, ap one (eq-eqb v (m .to) q), ap one (ne-eqb v (m .from) (λ p. ends y m g .2 (sym p ∙ q)))) in
-          rw c (ap (λ (w : ℕ). getD (marked d) (256 + w) (pos 0)) q ∙ getD-set-same (set (set s (g .node) d) (256 + m .from) (pos 0)) (256 + m .to) (pos 1) (pos 0) (omega (arith, long-set, small (m .to) (ends y m g .1))))
+          rw c (ap (λ (w : ℕ). getD (after-move d) (256 + w) (pos 0)) q ∙ getD-set-same (set (set s (g .node) d) (256 + m .from) (pos 0)) (256 + m .to) (pos 1) (pos 0) (omega (arith, long-set, small (m .to) (ends y m g .1))))
       high v l (no q) (yes p) =
           let c : pebble (moved y m) v ≡ 0 = omega (arith, moved-pebble y m g v, facts y (g .tree) .pebble-le v l, ap one (ne-eqb v (m .to) q), ap one (eq-eqb v (m .from) p)) in
           rw c (up-to v q ∙ ap (λ (w : ℕ). getD (set (set s (g .node) d) (256 + m .from) (pos 0)) (256 + w) (pos 0)) p ∙ getD-set-same (set s (g .node) d) (256 + m .from) (pos 0) (pos 0) (omega (arith, long, length-set s (g .node) d, small (m .from) (ends y m g .0))))
         where
-          up-to : (v : ℕ) → v ≢ m .to → getD (marked d) (256 + v) (pos 0) ≡ getD (set (set s (g .node) d) (256 + m .from) (pos 0)) (256 + v) (pos 0)
+          up-to : (v : ℕ) → v ≢ m .to → getD (after-move d) (256 + v) (pos 0) ≡ getD (set (set s (g .node) d) (256 + m .from) (pos 0)) (256 + v) (pos 0)
           up-to v q = getD-set-other (set (set s (g .node) d) (256 + m .from) (pos 0)) (256 + m .to) (256 + v) (pos 1) (pos 0) (omega arith)
       high v l (no q) (no p) =
           let c : pebble (moved y m) v ≡ pebble y v = omega (arith, moved-pebble y m g v, ap one (ne-eqb v (m .to) q), ap one (ne-eqb v (m .from) p)) in

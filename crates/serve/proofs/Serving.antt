@@ -22,9 +22,9 @@ use Rattle.model.proofs.Step.{crossing, need}
 use Rattle.model.proofs.Shortest.{Good, good-nil, good-tree}
 use Rattle.model.proofs.Signed.{nextℤ, demand-range}
 use Rattle.model.proofs.Serve.{Due, Shift, Serves, direct, behind, blocked, due-step, due-behind, able-behind, free-able, blocked-child, serves-shift}
-use Rattle.serve.specs.Kept.{Tables, Kept, Ready, movedState, movedPlan, Asked, Chain, at-top, down, Begins, AskedMoves, Made, Served}
+use Rattle.serve.specs.Serving.{Tables, Kept, Describes, movedState, movedPlan, AskedStart, Chain, at-top, down, Start, AskedMoves, Made, Served}
 use Rattle.serve.proofs.Moving.{made-nil, made-move}
-use Rattle.serve.proofs.Made.{within}
+use Rattle.serve.proofs.Stretches.{made-length}
 
 -- the table's parent
 crossing-table : {ps t : List ℕ} → Tables ps t → (b : Bool) (v : ℕ) → v < length ps → crossing t b v ≡ crossing ps b v
@@ -35,7 +35,7 @@ crossing-table h false v l = ap (push v) (h .parent v l)
 pub mark-is : {y : Yard} {s : List ℤ} {v : ℕ} → Kept y s → v < size y → ofZ w16 (getD s (256 + v) (pos 0)) ≡ pebble y v
 mark-is {v = v} k l = ap (ofZ w16) (k .pebbles v l)
 
-pub mark-one : {y : Yard} {t : List ℕ} {s : List ℤ} {v : ℕ} → Ready y t s → v < size y → (ofZ w16 (getD s (256 + v) (pos 0)) ≡ 0 → ⊥) → pebble y v ≡ 1
+pub mark-one : {y : Yard} {t : List ℕ} {s : List ℤ} {v : ℕ} → Describes y t s → v < size y → (ofZ w16 (getD s (256 + v) (pos 0)) ≡ 0 → ⊥) → pebble y v ≡ 1
 mark-one {y} {v = v} r l d = go (pebble y v) (facts y (r .tree) .pebble-le v l) (λ e. d (mark-is (r .kept) l ∙ e))
   where
     go : (p : ℕ) → p ≤ 1 → (p ≡ 0 → ⊥) → p ≡ 1
@@ -51,30 +51,30 @@ blocked-node true y v e = le-leb 1 (pebble y v) (omega arith)
 blocked-node false y v e = ap not (le-ltb 0 (pebble y v) (omega arith))
 
 -- where v is blocked, the child that is chosen makes way
-module _ {b : Bool} {y : Yard} {t : List ℕ} {s : List ℤ} {v h : ℕ} (a : Asked b y t s v h) (e : blocked y b v ≡ true) where
+module _ {b : Bool} {y : Yard} {t : List ℕ} {s : List ℤ} {v h : ℕ} (a : AskedStart b y t s v h) (e : blocked y b v ≡ true) where
   kid : Child (y .parents) v (choice (need y b) y v) × Due y b (choice (need y b) y v)
-  kid = blocked-child y (a .ready .tree) b v (a .due) e
+  kid = blocked-child y (a .described .tree) b v (a .due) e
 
   lower : weight (y .parents) (choice (need y b) y v) < weight (y .parents) v
-  lower = weight-child (wood y (a .ready .tree)) v (choice (need y b) y v) (a .due .lt) (kid .0)
+  lower = weight-child (wood y (a .described .tree)) v (choice (need y b) y v) (a .due .lt) (kid .0)
 
   pub high-enough : 1 ≤ h
   high-enough = omega (arith, a .high, lower)
 
-  pub child-asked : {c : ℕ} → c ≡ choice (need y b) y v → Asked b y t s c (h - 1)
-  child-asked q = rw q (record { ready = a .ready; due = kid .1; high = omega (arith, a .high, lower) })
+  pub chosen-asked : {c : ℕ} → c ≡ choice (need y b) y v → AskedStart b y t s c (h - 1)
+  chosen-asked q = rw q (record { described = a .described; due = kid .1; high = omega (arith, a .high, lower) })
 
 module _ {b : Bool} {y : Yard} where
   -- the chain, a node longer at its upper end
-  above : {v w : ℕ} → blocked y b v ≡ true → Chain b y (choice (need y b) y v) w → Chain b y v w
-  above e at-top = down at-top e
-  above e (down c f) = down (above e c) f
+  chain-above : {v w : ℕ} → blocked y b v ≡ true → Chain b y (choice (need y b) y v) w → Chain b y v w
+  chain-above e at-top = down at-top e
+  chain-above e (down c f) = down (chain-above e c) f
 
-  pub begins-here : {v : ℕ} → blocked y b v ≡ false → Begins b y v v
-  begins-here e = record { chain = at-top; free = e }
+  pub start-here : {v : ℕ} → blocked y b v ≡ false → Start b y v v
+  start-here e = record { chain = at-top; unblocked = e }
 
-  pub begins-below : {v c w : ℕ} → blocked y b v ≡ true → c ≡ choice (need y b) y v → Begins b y c w → Begins b y v w
-  begins-below e q r = record { chain = above e (rw q at (r .chain)); free = r .free }
+  pub start-below : {v c w : ℕ} → blocked y b v ≡ true → c ≡ choice (need y b) y v → Start b y c w → Start b y v w
+  start-below e q r = record { chain = chain-above e (rw q at (r .chain)); unblocked = r .unblocked }
 
   -- a pebble is due over the edge of each of its nodes
   chain-due : {top v : ℕ} → Tree y → Due y b top → Chain b y top v → Due y b v
@@ -89,11 +89,11 @@ module _ {b : Bool} {y : Yard} where
 
 -- the moves that make way for the one over the edge of v
 pub data Way (b : Bool) (y : Yard) (v : ℕ) : List Move → Type 0 where
-  free : blocked y b v ≡ false → Way b y v []
+  at-once : blocked y b v ≡ false → Way b y v []
   cleared : {ms : List Move} → blocked y b v ≡ true → Serves y b (choice (need y b) y v) ms → Way b y v ms
 
 way-serves : {b : Bool} {y : Yard} {v : ℕ} {ms : List Move} → Way b y v ms → Serves y b v (ms ++ (crossing (y .parents) b v ∷ []))
-way-serves (free e) = direct e
+way-serves (at-once e) = direct e
 way-serves (cleared e s) = behind e s
 
 -- on the way up: the moves so far make way for the one over the edge of v
@@ -105,44 +105,44 @@ pub record Climbing (b : Bool) (y : Yard) (s : List ℤ) (before plan : List ℕ
 
 module _ {b : Bool} {y : Yard} {t : List ℕ} {s₀ : List ℤ} {before : List ℕ} {low top : ℕ} (a : AskedMoves b y t s₀ before low top) where
   pub climb-first : Climbing b y s₀ before before 0 low top
-  climb-first = record { moves = []; chain = a .begins .chain; way = free (a .begins .free); made = made-nil y s₀ before (a .ready .kept) }
+  climb-first = record { moves = []; chain = a .start .chain; way = at-once (a .start .unblocked); made = made-nil y s₀ before (a .described .kept) }
 
   module _ {s : List ℤ} {plan : List ℕ} {k v : ℕ} (c : Climbing b y s before plan k v top) where
     due : Due y b v
-    due = chain-due (a .ready .tree) (a .due) (c .chain)
+    due = chain-due (a .described .tree) (a .due) (c .chain)
 
     pub climb-node : v < size y
     climb-node = due .lt
 
     -- what made way for v
     shift : {ms : List Move} → blocked y b v ≡ true → Serves y b (choice (need y b) y v) ms → Shift y b (choice (need y b) y v) ms
-    shift e r = serves-shift y (a .ready .tree) r (blocked-child y (a .ready .tree) b v due e .1)
+    shift e r = serves-shift y (a .described .tree) r (blocked-child y (a .described .tree) b v due e .1)
 
     way-good : {ms : List Move} → Way b y v ms → Good y ms
-    way-good (free e) = good-nil y
+    way-good (at-once e) = good-nil y
     way-good (cleared e r) = shift e r .good
 
     -- room for the move, and a demand in range
     pub climb-room : (length plan ≡ length before) × (2 * k + 2 ≤ length before)
-    climb-room = omega (arith, within (way-good (c .way)) (a .room) (c .made), a .room, serves-shift y (a .ready .tree) (way-serves (c .way)) due .good .spends, length-append (c .moves) (crossing (y .parents) b v ∷ []), c .made .counted)
+    climb-room = omega (arith, made-length (way-good (c .way)) (a .room) (c .made), a .room, serves-shift y (a .described .tree) (way-serves (c .way)) due .good .spends, length-append (c .moves) (crossing (y .parents) b v ∷ []), c .made .counted)
 
     pub climb-range : natAbs (getD s v (pos 0)) ≤ 256
-    climb-range = rw (c .made .kept .demands v climb-node) (demand-range (run y (c .moves)) (good-tree y (a .ready .tree) (c .moves) (way-good (c .way))) v)
+    climb-range = rw (c .made .kept .demands v climb-node) (demand-range (run y (c .moves)) (good-tree y (a .described .tree) (c .moves) (way-good (c .way))) v)
 
-    one-more : {ms : List Move} → Way b y v ms → Made y ms s before plan k → 2 * length ms + 2 ≤ length before
+    made-more : {ms : List Move} → Way b y v ms → Made y ms s before plan k → 2 * length ms + 2 ≤ length before
         → Made y (ms ++ (crossing (y .parents) b v ∷ [])) (movedState (y .parents) b v s) before (movedPlan (y .parents) b v k plan) (k + 1)
     unfolding due-step after
-    one-more (free e) d l = made-move y [] (crossing (y .parents) b v) s before plan k d (due-step y (a .ready .tree) b v due (free-able y (a .ready .tree) b v e)) l (nextℤ b (getD s v (pos 0))) refl
-    one-more (cleared {ms = ms} e r) d l =
-        let f = blocked-child y (a .ready .tree) b v due e .0 in
+    made-more (at-once e) d l = made-move y [] (crossing (y .parents) b v) s before plan k d (due-step y (a .described .tree) b v due (free-able y (a .described .tree) b v e)) l (nextℤ b (getD s v (pos 0))) refl
+    made-more (cleared {ms = ms} e r) d l =
+        let f = blocked-child y (a .described .tree) b v due e .0 in
         let p = shift e r in
         made-move y ms (crossing (y .parents) b v) s before plan k d
-        (due-step (run y ms) (good-tree y (a .ready .tree) ms (p .good)) b v
-        (due-behind y (a .ready .tree) b v (choice (need y b) y v) ms due f p)
-        (able-behind y (a .ready .tree) b v (choice (need y b) y v) ms due f p)) l (nextℤ b (getD s v (pos 0))) refl
+        (due-step (run y ms) (good-tree y (a .described .tree) ms (p .good)) b v
+        (due-behind y (a .described .tree) b v (choice (need y b) y v) ms due f p)
+        (able-behind y (a .described .tree) b v (choice (need y b) y v) ms due f p)) l (nextℤ b (getD s v (pos 0))) refl
 
     climb-made : Made y (c .moves ++ (crossing (y .parents) b v ∷ [])) (movedState t b v s) before (movedPlan t b v k plan) (k + 1)
-    climb-made = rw (crossing-table (a .ready .tables) b v climb-node) (one-more (c .way) (c .made) (omega (arith, climb-room, c .made .counted)))
+    climb-made = rw (crossing-table (a .described .tables) b v climb-node) (made-more (c .way) (c .made) (omega (arith, climb-room, c .made .counted)))
 
     -- the last one, or up to the next
     pub climb-last : v ≡ top → Served b y top (movedState t b v s) before (movedPlan t b v k plan) (k + 1)
@@ -150,7 +150,7 @@ module _ {b : Bool} {y : Yard} {t : List ℕ} {s₀ : List ℤ} {before : List �
 
     pub climb-next : v ≢ top → Climbing b y (movedState t b v s) before (movedPlan t b v k plan) (k + 1) (getD t v 0) top
     climb-next d =
-        let u = climb (a .ready .tree) (a .due) (c .chain) d in
+        let u = climb (a .described .tree) (a .due) (c .chain) d in
         let r = subst (λ (w : ℕ). Serves y b w (c .moves ++ (crossing (y .parents) b v ∷ []))) (u .2) (way-serves (c .way)) in
-        subst (λ (w : ℕ). Climbing b y (movedState t b v s) before (movedPlan t b v k plan) (k + 1) w top) (sym (a .ready .tables .parent v climb-node))
+        subst (λ (w : ℕ). Climbing b y (movedState t b v s) before (movedPlan t b v k plan) (k + 1) w top) (sym (a .described .tables .parent v climb-node))
         (record { moves = _; chain = u .0; way = cleared (u .1) r; made = climb-made })

@@ -12,7 +12,7 @@ use Rattle.model.specs.Yard.{below, headOr, isChild}
 use Rattle.model.proofs.Basics.{not-so, none-below}
 use Rattle.model.proofs.Found.{lowest-is, lowest-missing, below-rest, below-cong}
 use Rattle.model.proofs.Trees.{Child, is-child}
-use Rattle.serve.specs.Kept.{Tables}
+use Rattle.serve.specs.Serving.{Tables}
 
 -- the children of u above c
 abbrev pub above : List ℕ → ℕ → ℕ → List ℕ

@@ -1,2 +1,2 @@
 -- What the helpers of the planner promise one another.
-pub mod Kept
+pub mod Serving

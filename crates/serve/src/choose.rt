@@ -7,7 +7,7 @@ ghost use lib.Signed.{ltZ};
 ghost use Rattle.model.specs.Yard.{Yard, size};
 ghost use Rattle.model.specs.Plan.{choice};
 ghost use Rattle.model.proofs.Step.{need};
-ghost use Rattle.serve.specs.Kept.{Ready, Start};
+ghost use Rattle.serve.specs.Serving.{Describes, LookFrom};
 
 // A byte as a number.
 pub fn wide(x: u8) -> usize
@@ -28,14 +28,14 @@ fn wanted(demand: i16, away: bool) -> bool
 
 // The child of u that is served wherever one is chosen, or u itself if no child has a demand of the sign wanted. One scan of u's children, which
 // begins at a child before which there is none (at u itself if it has no child).
-pub fn choose_from(t: &[u8; 768], s: &[i16; 512], u: usize, start: usize, away: bool) -> usize
-    requires { ⌜ ((y : Yard) × Ready y (now t) (now s) × (u < size y) × Start away y (now t) u start) ⌝ }
-    ensures { λ r. ⌜ ((y : Yard) → Ready y (now (t .entry)) (now (s .entry)) → u < size y → Start away y (now (t .entry)) u start → r ≡ choice (need y away) y u) ⌝ }
+pub fn choose_from(t: &[u8; 768], s: &[i16; 512], u: usize, from: usize, away: bool) -> usize
+    requires { ⌜ ((y : Yard) × Describes y (now t) (now s) × (u < size y) × LookFrom away y (now t) u from) ⌝ }
+    ensures { λ r. ⌜ ((y : Yard) → Describes y (now (t .entry)) (now (s .entry)) → u < size y → LookFrom away y (now (t .entry)) u from → r ≡ choice (need y away) y u) ⌝ }
 {
-    if start == u {
+    if from == u {
         return u;
     }
-    let mut c = start;
+    let mut c = from;
     loop {
         if wanted(s[c], away) {
             return c;
@@ -50,8 +50,8 @@ pub fn choose_from(t: &[u8; 768], s: &[i16; 512], u: usize, start: usize, away: 
 
 // The same, with the scan from the lowest child on.
 pub fn choose(t: &[u8; 768], s: &[i16; 512], u: usize, away: bool) -> usize
-    requires { ⌜ ((y : Yard) × Ready y (now t) (now s) × (u < size y)) ⌝ }
-    ensures { λ r. ⌜ ((y : Yard) → Ready y (now (t .entry)) (now (s .entry)) → u < size y → r ≡ choice (need y away) y u) ⌝ }
+    requires { ⌜ ((y : Yard) × Describes y (now t) (now s) × (u < size y)) ⌝ }
+    ensures { λ r. ⌜ ((y : Yard) → Describes y (now (t .entry)) (now (s .entry)) → u < size y → r ≡ choice (need y away) y u) ⌝ }
 {
     choose_from(t, s, u, wide(t[256 + u]), away)
 }

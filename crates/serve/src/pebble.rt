@@ -6,7 +6,7 @@ ghost use lib.ListN.{length, getD, set};
 ghost use lib.IntN.{pos, natAbs};
 ghost use Rattle.model.specs.Yard.{Yard};
 ghost use Rattle.model.proofs.Serve.{blocked};
-ghost use Rattle.serve.specs.Kept.{movedState, movedPlan, Asked, Begins, AskedMoves, Served};
+ghost use Rattle.serve.specs.Serving.{movedState, movedPlan, AskedStart, Start, AskedMoves, Served};
 use crate::choose::choose;
 use crate::choose::wide;
 
@@ -40,8 +40,8 @@ fn move_pebble(t: &[u8; 768], s: &mut [i16; 512], plan: &mut [u8], k: usize, v: 
 
 // Algorithm 2: where filling v from its parent begins. A full v is cleared first.
 pub fn inject_start(t: &[u8; 768], s: &[i16; 512], v: usize, height: usize) -> usize
-    requires { ⌜ ((y : Yard) × Asked true y (now t) (now s) v height) ⌝ }
-    ensures { λ r. ⌜ ((y : Yard) → Asked true y (now (t .entry)) (now (s .entry)) v height → Begins true y v r) ⌝ }
+    requires { ⌜ ((y : Yard) × AskedStart true y (now t) (now s) v height) ⌝ }
+    ensures { λ r. ⌜ ((y : Yard) → AskedStart true y (now (t .entry)) (now (s .entry)) v height → Start true y v r) ⌝ }
 {
     if s[256 + v] == 0 {
         return v;
@@ -51,8 +51,8 @@ pub fn inject_start(t: &[u8; 768], s: &[i16; 512], v: usize, height: usize) -> u
 
 // Where clearing v begins, which is full: to clear it, fill the child that is chosen.
 fn clear_start(t: &[u8; 768], s: &[i16; 512], v: usize, height: usize) -> usize
-    requires { ⌜ ((y : Yard) × Asked true y (now t) (now s) v height × (blocked y true v ≡ true)) ⌝ }
-    ensures { λ r. ⌜ ((y : Yard) → Asked true y (now (t .entry)) (now (s .entry)) v height → blocked y true v ≡ true → Begins true y v r) ⌝ }
+    requires { ⌜ ((y : Yard) × AskedStart true y (now t) (now s) v height × (blocked y true v ≡ true)) ⌝ }
+    ensures { λ r. ⌜ ((y : Yard) → AskedStart true y (now (t .entry)) (now (s .entry)) v height → blocked y true v ≡ true → Start true y v r) ⌝ }
 {
     let c = choose(t, s, v, true);
     inject_start(t, s, c, height - 1)
@@ -60,8 +60,8 @@ fn clear_start(t: &[u8; 768], s: &[i16; 512], v: usize, height: usize) -> usize
 
 // Algorithm 3: where drawing from v into its parent begins. Into an empty v a pebble is drawn first.
 pub fn extract_start(t: &[u8; 768], s: &[i16; 512], v: usize, height: usize) -> usize
-    requires { ⌜ ((y : Yard) × Asked false y (now t) (now s) v height) ⌝ }
-    ensures { λ r. ⌜ ((y : Yard) → Asked false y (now (t .entry)) (now (s .entry)) v height → Begins false y v r) ⌝ }
+    requires { ⌜ ((y : Yard) × AskedStart false y (now t) (now s) v height) ⌝ }
+    ensures { λ r. ⌜ ((y : Yard) → AskedStart false y (now (t .entry)) (now (s .entry)) v height → Start false y v r) ⌝ }
 {
     if s[256 + v] != 0 {
         return v;

@@ -2,7 +2,7 @@
 ghost use Prim.Native.Nat.{ℕ, _<_, _≤_};
 ghost use lib.ListN.{length};
 ghost use Rattle.model.specs.Yard.{up};
-ghost use Rattle.serve.specs.Kept.{Tables};
+ghost use Rattle.serve.specs.Serving.{Tables};
 
 // Made from the highest node down, so that each parent's children come in rising order.
 pub fn tables(parents: &[u8]) -> [u8; 768]

@@ -1,5 +1,5 @@
 -- `planner::balance::balance_subtrees` meets its contract: the loop at u, then u's children one after another, each behind the moves before; a child
--- has fewer nodes inside, so the height that bounds them falls (the laws are in Made, Siblings and Children).
+-- has fewer nodes inside, so the height that bounds them falls (the laws are in Stretches, Siblings and Children).
 use native.Mathlib.Omega.{arith}
 use Prim.Native.Nat.{ℕ, _+_, _-_, _*_, _≤_, _<_}
 use mathlib.Core.Path.{_≡_, sym, _∙_}
@@ -12,10 +12,10 @@ use Rattle.model.specs.Push.{run}
 use Rattle.model.proofs.Trees.{Child}
 use Rattle.planner.specs.Balancing.{AskedEven}
 use Rattle.serve.proofs.Looking.{node-small, first-lt, next-lt}
-use Rattle.serve.proofs.Made.{rest, back, within}
+use Rattle.serve.proofs.Stretches.{rest, back, made-length}
 use Rattle.serve.proofs.Siblings.{above, first-none, first-some, next-none, next-some}
 use Rattle.planner.proofs.Settle.{leaf-settled}
-use Rattle.planner.proofs.Children.{Left, left-none, Started, started, child-lower, child-asked, left-next}
+use Rattle.planner.proofs.Children.{Left, left-none, AllLeft, all-left, child-lower, child-asked, left-next}
 use Rattle.planner.proofs.balance.balance_subtrees.Reads as tree
 use Rattle.planner.proofs.balance.balance_subtrees.Kinds as kinds
 use Rattle.planner.proofs.balance.+balance_subtrees.Lts-balance_subtrees as lts
@@ -34,23 +34,23 @@ tree-below n = and 3 kinds.ps (falls 3 kinds.ps _<_ μ-tree n) tree.Pre
 
 abbrev Inv-loop : lts.InvT-loop
 Inv-loop t s₀ plan₀ u height first k₀ c₀ s plan k c =
-    (y : Yard) (before : List ℕ) → Started y before t s₀ plan₀ k₀ u height → Child (y .parents) u c × Left y u s before plan k (c ∷ above (y .parents) u c)
+    (y : Yard) (before : List ℕ) → AllLeft y before t s₀ plan₀ k₀ u height → Child (y .parents) u c × Left y u s before plan k (c ∷ above (y .parents) u c)
 
 abbrev μ-loop : lts.MeasureT-loop
 μ-loop t s₀ plan₀ u height first k₀ c₀ s plan k c = 256 - c
 
 module _ (n : ℕ) where
   add-first : lts.Need-add-first (settle.Asked, settle.Learnt, tree-below n, tree.Post) (tree-at n) tree.Post Inv-loop μ-loop
-  add-first c = let a = c .before .pre .1 .1 in omega (arith, node-small (a .ready) (a .node))
+  add-first c = let a = c .before .pre .1 .1 in omega (arith, node-small (a .described) (a .node))
 
   element-copy-out-first : lts.Need-element-copy-out-first (settle.Asked, settle.Learnt, tree-below n, tree.Post) (tree-at n) tree.Post Inv-loop μ-loop
-  element-copy-out-first c = let a = c .before .pre .1 .1 in omega (arith, node-small (a .ready) (a .node))
+  element-copy-out-first c = let a = c .before .pre .1 .1 in omega (arith, node-small (a .described) (a .node))
 
   cast-first : lts.Need-cast-first (settle.Asked, settle.Learnt, tree-below n, tree.Post) (tree-at n) tree.Post Inv-loop μ-loop
-  cast-first c = let a = c .before .before .pre .1 .1 in omega (arith, node-small (a .ready) (first-lt (a .ready) (a .node)))
+  cast-first c = let a = c .before .before .pre .1 .1 in omega (arith, node-small (a .described) (first-lt (a .described) (a .node)))
 
   returns : lts.Need-returns (settle.Asked, settle.Learnt, tree-below n, tree.Post) (tree-at n) tree.Post Inv-loop μ-loop
-  returns c y a = left-none (rw (first-none (a .ready .tables) (a .node) (c .if1 .taken)) at (started a (leaf-settled a (c .if1 .taken)) .left))
+  returns c y a = left-none (rw (first-none (a .described .tables) (a .node) (c .if1 .taken)) at (all-left a (leaf-settled a (c .if1 .taken)) .left))
 
   settle-requires : lts.Need-settle-requires (settle.Asked, settle.Learnt, tree-below n, tree.Post) (tree-at n) tree.Post Inv-loop μ-loop
   settle-requires c κs = c .before .before .before .before .before .pre .1
@@ -59,12 +59,12 @@ module _ (n : ℕ) where
   start : (c : lts.After-settle (settle.Asked, settle.Learnt, tree-below n, tree.Post) (tree-at n) tree.Post Inv-loop μ-loop) (y : Yard)
       → let s = c .before .before .before .before .before .before .args in
       AskedEven y (s .t .now) (s .s .now) (s .plan .now) (s .u) (s .height)
-      → Started y (s .plan .now) (s .t .now) (c .settle .last .1 .0) (c .settle .last .1 .1 .0) (c .settle .result) (s .u) (s .height)
-  start c y a = started a (c .settle .ensures y a)
+      → AllLeft y (s .plan .now) (s .t .now) (c .settle .last .1 .0) (c .settle .last .1 .1 .0) (c .settle .result) (s .u) (s .height)
+  start c y a = all-left a (c .settle .ensures y a)
 
   loop-holds : lts.Need-loop-holds (settle.Asked, settle.Learnt, tree-below n, tree.Post) (tree-at n) tree.Post Inv-loop μ-loop
   loop-holds c y before a =
-      let f = first-some (a .asked .ready .tables) (a .asked .node) (c .before .before .before .before .before .if1 .left) in
+      let f = first-some (a .asked .described .tables) (a .asked .node) (c .before .before .before .before .before .if1 .left) in
       (f .0, rw (f .1) at (a .left))
 
   -- at the loop's head: the child at hand, what it asks, and what was used of the list
@@ -72,7 +72,7 @@ module _ (n : ℕ) where
   From c y before =
       let s = c .before .before .before .before .before .before .before .before .before .args in
       let e = c .before .before .before .settle in
-      Started y before (s .t .now) (e .last .1 .0) (e .last .1 .1 .0) (e .result) (s .u) (s .height)
+      AllLeft y before (s .t .now) (e .last .1 .0) (e .last .1 .1 .0) (e .result) (s .u) (s .height)
 
   here : (c : lts.At-loop (settle.Asked, settle.Learnt, tree-below n, tree.Post) (tree-at n) tree.Post Inv-loop μ-loop) (y : Yard) (before : List ℕ) (a : From c y before)
       → let s = c .before .before .before .before .before .before .before .before .before .args in
@@ -89,7 +89,7 @@ module _ (n : ℕ) where
       → (length (c .loop .plan) ≡ length (c .before .before .before .before .before .before .before .before .before .args .plan .now)) × (2 * c .loop .k ≤ length (c .before .before .before .before .before .before .before .before .before .args .plan .now))
   used c =
       let b = c .loop .inv _ _ (first c) .1 .begun in
-      within (b .good) (c .before .before .before .before .before .before .before .before .before .pre .1 .1 .room) (b .made)
+      made-length (b .good) (c .before .before .before .before .before .before .before .before .before .pre .1 .1 .room) (b .made)
 
   mul-tree : lts.Need-mul-balance-subtrees (settle.Asked, settle.Learnt, tree-below n, tree.Post) (tree-at n) tree.Post Inv-loop μ-loop
   mul-tree c = omega (arith, used (c .before), c .before .before .before .before .before .before .before .before .before .before .good)
@@ -122,20 +122,20 @@ module _ (n : ℕ) where
       let i = l .loop .inv y before a in
       left-next (a .asked) (i .0) (i .1) (c .balance-subtrees .ensures _ (here l y before a))
 
-  filled : (c : lts.After-balance-subtrees (settle.Asked, settle.Learnt, tree-below n, tree.Post) (tree-at n) tree.Post Inv-loop μ-loop)
+  used-after : (c : lts.After-balance-subtrees (settle.Asked, settle.Learnt, tree-below n, tree.Post) (tree-at n) tree.Post Inv-loop μ-loop)
       → let l = c .before .before .before in
       let plan = l .before .before .before .before .before .before .before .before .before .args .plan .now in
       (length (back (l .loop .plan) (l .loop .k) (c .balance-subtrees .last .1 .1 .0)) ≡ length plan) × (2 * (l .loop .k + c .balance-subtrees .result) ≤ length plan)
-  filled c =
+  used-after c =
       let b = stepped c _ _ (first (c .before .before .before)) .begun in
-      within (b .good) (c .before .before .before .before .before .before .before .before .before .before .before .before .pre .1 .1 .room) (b .made)
+      made-length (b .good) (c .before .before .before .before .before .before .before .before .before .before .before .before .pre .1 .1 .room) (b .made)
 
   add-k : lts.Need-add-k (settle.Asked, settle.Learnt, tree-below n, tree.Post) (tree-at n) tree.Post Inv-loop μ-loop
-  add-k c = omega (arith, filled (c .before .before), c .before .before .before .before .before .before .before .before .before .before .before .before .before .before .good)
+  add-k c = omega (arith, used-after (c .before .before), c .before .before .before .before .before .before .before .before .before .before .before .before .before .before .good)
 
   -- the child at hand is a node
   child-small : (c : lts.At-loop (settle.Asked, settle.Learnt, tree-below n, tree.Post) (tree-at n) tree.Post Inv-loop μ-loop) → c .loop .c < 256
-  child-small c = node-small (c .before .before .before .before .before .before .before .before .before .pre .1 .1 .ready) (child c .lt)
+  child-small c = node-small (c .before .before .before .before .before .before .before .before .before .pre .1 .1 .described) (child c .lt)
 
   add-next : lts.Need-add-next (settle.Asked, settle.Learnt, tree-below n, tree.Post) (tree-at n) tree.Post Inv-loop μ-loop
   add-next c = omega (arith, child-small (c .before .before .before .before .before))
@@ -147,25 +147,25 @@ module _ (n : ℕ) where
   cast-next c =
       let a = c .before .before .before .before .before .before .before .before .before .before .before .before .before .before .before .pre .1 .1 in
       let f = child (c .before .before .before .before .before .before) in
-      omega (arith, node-small (a .ready) (next-lt (a .ready) (f .lt) (λ e. f .other (sym e ∙ f .up))))
+      omega (arith, node-small (a .described) (next-lt (a .described) (f .lt) (λ e. f .other (sym e ∙ f .up))))
 
   same-length : lts.Need-same-length (settle.Asked, settle.Learnt, tree-below n, tree.Post) (tree-at n) tree.Post Inv-loop μ-loop
-  same-length c = filled (c .before .before .before .before) .0
+  same-length c = used-after (c .before .before .before .before) .0
 
   returns-2 : lts.Need-returns-2 (settle.Asked, settle.Learnt, tree-below n, tree.Post) (tree-at n) tree.Post Inv-loop μ-loop
   returns-2 c y a =
       let z = start (c .before .before .before .before .before .before .before .before .before .before) y a in
-      left-none (rw (next-none (a .ready .tables) (c .before .before .before .before .before .before .before .loop .inv y _ z .0) (c .if2 .taken)) at (stepped (c .before .before .before .before) y _ z))
+      left-none (rw (next-none (a .described .tables) (c .before .before .before .before .before .before .before .loop .inv y _ z .0) (c .if2 .taken)) at (stepped (c .before .before .before .before) y _ z))
 
   loop-less : lts.Need-loop-less (settle.Asked, settle.Learnt, tree-below n, tree.Post) (tree-at n) tree.Post Inv-loop μ-loop
   loop-less c =
       let a = c .before .before .before .before .before .before .before .before .before .before .before .before .before .before .before .before .pre .1 .1 in
-      let f = next-some (a .ready .tables) (child (c .before .before .before .before .before .before .before)) (c .if2 .left) in
-      omega (arith, f .1, node-small (a .ready) (f .0 .lt))
+      let f = next-some (a .described .tables) (child (c .before .before .before .before .before .before .before)) (c .if2 .left) in
+      omega (arith, f .1, node-small (a .described) (f .0 .lt))
 
   loop-again : lts.Need-loop-again (settle.Asked, settle.Learnt, tree-below n, tree.Post) (tree-at n) tree.Post Inv-loop μ-loop
   loop-again c y before a =
-      let f = next-some (a .asked .ready .tables) (c .before .before .before .before .before .before .before .loop .inv y before a .0) (c .if2 .left) in
+      let f = next-some (a .asked .described .tables) (c .before .before .before .before .before .before .before .loop .inv y before a .0) (c .if2 .left) in
       (f .0, rw (f .2) at (stepped (c .before .before .before .before) y before a))
 
 pub +balance-subtrees-spec : {M : Type 1} → statement M

@@ -1,5 +1,5 @@
 -- `planner::balance::settle` meets its contract: after some turns the moves so far, each of which lowers the shortest length, leave a yard from which
--- the loop goes on as from the first (the laws are in Made and Settle).
+-- the loop goes on as from the first (the laws are in Stretches and Settle).
 use native.Mathlib.Omega.{arith}
 use borrow.Author.Needs.{needs}
 use Prim.Native.Nat.{_+_, _-_, _*_, _≤_, _<_}
@@ -9,22 +9,22 @@ use Rattle.model.specs.Yard.{Yard}
 use Rattle.model.specs.Push.{run}
 use Rattle.planner.specs.Balancing.{AskedEven}
 use Rattle.serve.proofs.Looking.{node-small}
-use Rattle.serve.proofs.Made.{rest, back, within, ended}
-use Rattle.planner.proofs.Settle.{marked, marked-held, even-after, none-chosen, turn-asked, turn-moves, turn-good, turn-settles, start-for, starts-next, Turned, turn-none, turn-more}
+use Rattle.serve.proofs.Stretches.{rest, back, made-length, ended}
+use Rattle.planner.proofs.Settle.{readHeld, read-held, even-after, none-chosen, turn-asked, turn-moves, turn-good, turn-settles, look-for, looks-next, Turned, turn-none, turn-more}
 use Rattle.planner.proofs.balance.settle.Statement.{statement}
 use Rattle.planner.proofs.balance.settle.Tie as tie
 
 abbrev Inv-loop : tie.InvT-loop
-Inv-loop t s₀ plan₀ u height first k₀ lacks₀ spares₀ s plan k lacks spares = (y : Yard) → AskedEven y t s₀ plan₀ u height → Turned y t u s plan₀ plan k lacks spares
+Inv-loop t s₀ plan₀ u height first k₀ injected₀ extracted₀ s plan k injected extracted = (y : Yard) → AskedEven y t s₀ plan₀ u height → Turned y t u s plan₀ plan k injected extracted
 
 abbrev μ-loop : tie.MeasureT-loop
-μ-loop t s₀ plan₀ u height first k₀ lacks₀ spares₀ s plan k lacks spares = length plan₀ - 2 * k
+μ-loop t s₀ plan₀ u height first k₀ injected₀ extracted₀ s plan k injected extracted = length plan₀ - 2 * k
 
 add-wide : tie.Need-add-wide Inv-loop μ-loop
-add-wide c = let a = c .before .pre .1 in omega (arith, node-small (a .ready) (a .node))
+add-wide c = let a = c .before .pre .1 in omega (arith, node-small (a .described) (a .node))
 
 element-copy-out-wide : tie.Need-element-copy-out-wide Inv-loop μ-loop
-element-copy-out-wide c = let a = c .before .pre .1 in omega (arith, node-small (a .ready) (a .node))
+element-copy-out-wide c = let a = c .before .pre .1 in omega (arith, node-small (a .described) (a .node))
 
 wide-requires : tie.Need-wide-requires Inv-loop μ-loop
 wide-requires c κs = search needs
@@ -37,13 +37,13 @@ abbrev call : tie.At-loop Inv-loop μ-loop → tie.Start Inv-loop μ-loop
 call c = c .before .before .before .before
 
 add-away : tie.Need-add-away Inv-loop μ-loop
-add-away c = let a = call c .pre .1 in omega (arith, node-small (a .ready) (a .node))
+add-away c = let a = call c .pre .1 in omega (arith, node-small (a .described) (a .node))
 
 mul-away : tie.Need-mul-away Inv-loop μ-loop
-mul-away c = let a = call c .pre .1 in omega (arith, node-small (a .ready) (a .node))
+mul-away c = let a = call c .pre .1 in omega (arith, node-small (a .described) (a .node))
 
 element-copy-out-away : tie.Need-element-copy-out-away Inv-loop μ-loop
-element-copy-out-away c = let a = call c .pre .1 in omega (arith, node-small (a .ready) (a .node))
+element-copy-out-away c = let a = call c .pre .1 in omega (arith, node-small (a .described) (a .node))
 
 -- what the loop asks, for a yard at its head, and what it has used of the list
 here : (c : tie.At-loop Inv-loop μ-loop) (y : Yard)
@@ -56,14 +56,14 @@ used : (c : tie.At-loop Inv-loop μ-loop) → (length (c .loop .plan) ≡ length
 used c =
     let p = call c .pre in
     let b = c .loop .inv (p .0) (p .1) .begun in
-    within (b .good) (p .1 .room) (b .made)
+    made-length (b .good) (p .1 .room) (b .made)
 
 choose-next-requires : tie.Need-choose-next-requires Inv-loop μ-loop
 choose-next-requires c κs =
     let l = c .before .before in
     let p = call l .pre in
     let z = here l (p .0) (p .1) in
-    (_, z .ready, z .node, start-for _ (l .loop .inv (p .0) (p .1) .starts))
+    (_, z .described, z .node, look-for _ (l .loop .inv (p .0) (p .1) .looks))
 
 same-length : tie.Need-same-length Inv-loop μ-loop
 same-length c = used (c .before .before .before .before) .0
@@ -75,7 +75,7 @@ returns c y a =
     let z = here l y a in
     record {
       moves = w .begun .moves;
-      settles = ended (w .begun) (none-chosen z (marked-held (z .ready) (z .node)) (c .before .choose-next .ensures _ (z .ready) (z .node) (start-for _ (w .starts))) (omega (arith, c .if1 .taken)));
+      settles = ended (w .begun) (none-chosen z (read-held (z .described) (z .node)) (c .before .choose-next .ensures _ (z .described) (z .node) (look-for _ (w .looks))) (omega (arith, c .if1 .taken)));
       made = w .begun .made;
     }
 
@@ -91,7 +91,7 @@ turn-start-requires c κs =
     let l = d .before .before .before .before in
     let p = call l .pre in
     let z = here l (p .0) (p .1) in
-    (_, turn-asked z (marked-held (z .ready) (z .node)) (d .before .choose-next .ensures _ (z .ready) (z .node) (start-for _ (l .loop .inv (p .0) (p .1) .starts))) (d .if1 .left))
+    (_, turn-asked z (read-held (z .described) (z .node)) (d .before .choose-next .ensures _ (z .described) (z .node) (look-for _ (l .loop .inv (p .0) (p .1) .looks))) (d .if1 .left))
 
 mul-move-pebbles : tie.Need-mul-move-pebbles Inv-loop μ-loop
 mul-move-pebbles c = let l = c .before .before .before .before .before .before .before .before .before in omega (arith, used l, call l .good)
@@ -112,8 +112,8 @@ move-pebbles-requires c κs =
     let l = d .before .before .before .before in
     let p = call l .pre in
     let z = here l (p .0) (p .1) in
-    let e = marked-held (z .ready) (z .node) in
-    let q = d .before .choose-next .ensures _ (z .ready) (z .node) (start-for _ (l .loop .inv (p .0) (p .1) .starts)) in
+    let e = read-held (z .described) (z .node) in
+    let q = d .before .choose-next .ensures _ (z .described) (z .node) (look-for _ (l .loop .inv (p .0) (p .1) .looks)) in
     (_, turn-moves z e q (d .if1 .left) (t .turn-start .ensures _ (turn-asked z e q (d .if1 .left))))
 
 -- one turn more, of one move at least
@@ -130,11 +130,11 @@ stepped c y a =
     let l = d .before .before .before .before in
     let w = l .loop .inv y a in
     let z = here l y a in
-    let e = marked-held (z .ready) (z .node) in
-    let q = d .before .choose-next .ensures _ (z .ready) (z .node) (start-for _ (w .starts)) in
+    let e = read-held (z .described) (z .node) in
+    let q = d .before .choose-next .ensures _ (z .described) (z .node) (look-for _ (w .looks)) in
     let v = c .move-pebbles .ensures _ (turn-moves z e q (d .if1 .left) (t .turn-start .ensures _ (turn-asked z e q (d .if1 .left)))) in
     let g = turn-good z e q (d .if1 .left) (v .serves) in (
-      turn-more w (v .moves) (g .0) (v .made) (turn-settles z e q (d .if1 .left) (v .serves)) (starts-next (marked (l .loop .s) (call l .args .u)) (w .starts) (z .ready .tree) (g .0) q (d .if1 .left) (t .before .before .before .either .ensures) (t .before .before .either2 .ensures)),
+      turn-more w (v .moves) (g .0) (v .made) (turn-settles z e q (d .if1 .left) (v .serves)) (looks-next (readHeld (l .loop .s) (call l .args .u)) (w .looks) (z .described .tree) (g .0) q (d .if1 .left) (t .before .before .before .either .ensures) (t .before .before .either2 .ensures)),
       omega (arith, g .1, v .made .counted),
     )
 
@@ -143,14 +143,14 @@ add-k c =
     let m = c .before .before in
     let p = call (m .before .before .before .before .before .before .before .before .before .before .before) in
     let b = stepped m (p .pre .0) (p .pre .1) .0 .begun in
-    omega (arith, within (b .good) (p .pre .1 .room) (b .made), p .good)
+    omega (arith, made-length (b .good) (p .pre .1 .room) (b .made), p .good)
 
 loop-less : tie.Need-loop-less Inv-loop μ-loop
 loop-less c =
     let m = c .before .before in
     let p = call (m .before .before .before .before .before .before .before .before .before .before .before) .pre in
     let b = stepped m (p .0) (p .1) in
-    omega (arith, b .1, within (b .0 .begun .good) (p .1 .room) (b .0 .begun .made))
+    omega (arith, b .1, made-length (b .0 .begun .good) (p .1 .room) (b .0 .begun .made))
 
 loop-again : tie.Need-loop-again Inv-loop μ-loop
 loop-again c y a = stepped (c .before .before) y a .0

@@ -1,12 +1,12 @@
 -- `planner::plan::plan_matched` meets its contract: the sizes of the demands are the shortest length, which is the plan's; and balancing the root
--- gives the plan (the laws are in Start).
+-- gives the plan (the laws are in Planning).
 use mathlib.Core.Path.{refl, sym, _∙_}
 use Prim.Native.Nat.{_/_, _≤_}
 use native.Mathlib.Omega.{arith}
 use lib.ListN.{length}
 use Rattle.model.specs.Yard.{yardOf}
 use Rattle.model.proofs.Judged.{facts, wood}
-use Rattle.planner.proofs.Start.{front-length, front-long, sizes-range, sizes-shortest, root-found, plan-refused, root-asked, plan-accepted, plan-written}
+use Rattle.planner.proofs.Planning.{front-length, front-long, sizes-range, sizes-shortest, root-found, plan-refused, root-asked, plan-accepted, plan-written}
 use borrow.Author.Needs.{needs}
 use Rattle.planner.proofs.plan.plan_matched.Statement.{statement}
 use Rattle.planner.proofs.plan.plan_matched.Tie as tie

@@ -1,5 +1,5 @@
 -- `planner::state::write_state` meets its contract: the demands fill the front, and the pebbles are placed one by one behind it (the laws are in
--- Start).
+-- Planning).
 use Prim.Native.Nat.{_-_, _≤_}
 use mathlib.Core.Path.{_≡_, sym, ap, _∙_}
 use native.Mathlib.Omega.{arith}
@@ -11,7 +11,7 @@ use lib.Seq.{length-take-le, length-front}
 use borrow.Author.Needs.{needs}
 use Rattle.model.proofs.Judged.{facts}
 use Rattle.serve.proofs.Numbers.{small-back}
-use Rattle.planner.proofs.Start.{Placed, place-none, place-next, placed-kept, mark-difference}
+use Rattle.planner.proofs.Planning.{Placed, place-none, place-next, placed-kept, mark-difference}
 use Rattle.planner.proofs.state.write_state.Statement.{statement}
 use Rattle.planner.proofs.state.write_state.Tie as tie
 

@@ -5,22 +5,22 @@ use borrow.Author.Needs.{needs}
 use Prim.Native.Nat.{_-_, _<_}
 use mathlib.Core.Path.{sym, ap, _∙_}
 use Rattle.model.specs.Yard.{Yard, size}
-use Rattle.serve.specs.Kept.{Ready, Looking, Start}
-use Rattle.serve.proofs.Looking.{sign, node-small, next-lt, demand-back, start-none, start-child, look-found, look-last, look-next}
+use Rattle.serve.specs.Serving.{Describes, NoneBefore, LookFrom}
+use Rattle.serve.proofs.Looking.{sign, node-small, next-lt, demand-back, from-none, from-child, look-found, look-last, look-next}
 use Rattle.serve.proofs.choose.choose_from.Statement.{statement}
 use Rattle.serve.proofs.choose.choose_from.Tie as tie
 
 abbrev Inv-loop : tie.InvT-loop
-Inv-loop t s u start away c₀ c = (y : Yard) → Ready y t s → u < size y → Start away y t u start → Looking away y u c
+Inv-loop t s u from away c₀ c = (y : Yard) → Describes y t s → u < size y → LookFrom away y t u from → NoneBefore away y u c
 
 abbrev μ-loop : tie.MeasureT-loop
-μ-loop t s u start away c₀ c = 256 - c
+μ-loop t s u from away c₀ c = 256 - c
 
 returns : tie.Need-returns Inv-loop μ-loop
-returns c y r l f = start-none y _ _ _ _ r l f (c .if1 .taken)
+returns c y r l f = from-none y _ _ _ _ r l f (c .if1 .taken)
 
 loop-holds : tie.Need-loop-holds Inv-loop μ-loop
-loop-holds c y r l f = start-child f (c .if1 .left)
+loop-holds c y r l f = from-child f (c .if1 .left)
 
 mul-wanted : tie.Need-mul-wanted Inv-loop μ-loop
 mul-wanted c =

@@ -7,7 +7,7 @@ use native.Mathlib.Omega.{arith}
 use borrow.Fn.Kinds.{In}
 use borrow.Fn.PlainCycle.{Measures, is, falls, and}
 use Rattle.serve.proofs.Looking.{node-small}
-use Rattle.serve.proofs.Serving.{mark-is, mark-one, free-node, blocked-node, high-enough, child-asked, begins-here, begins-below}
+use Rattle.serve.proofs.Serving.{mark-is, mark-one, free-node, blocked-node, high-enough, chosen-asked, start-here, start-below}
 use Rattle.serve.proofs.pebble.clear_start.Reads as clear-start
 use Rattle.serve.proofs.pebble.clear_start.Kinds as clear-start-kinds
 use Rattle.serve.proofs.pebble.+clear_start+inject_start.Lts-clear_start as clear-start-lts
@@ -39,7 +39,7 @@ inject-start-below n = and 2 inject-start-kinds.ps (falls 2 inject-start-kinds.p
 -- clearing
 module _ (n : ℕ) where
   choose-requires : clear-start-lts.Need-choose-requires (choose.Asked, choose.Learnt, inject-start-below n, inject-start.Post) (clear-start-at n) clear-start.Post
-  choose-requires c κs = let p = c .pre .1 in (p .0, p .1 .ready, p .1 .due .lt)
+  choose-requires c κs = let p = c .pre .1 in (p .0, p .1 .described, p .1 .due .lt)
 
   sub-inject-start : clear-start-lts.Need-sub-inject-start (choose.Asked, choose.Learnt, inject-start-below n, inject-start.Post) (clear-start-at n) clear-start.Post
   sub-inject-start c = let p = c .before .pre .1 in high-enough (p .1) (p .2)
@@ -47,34 +47,34 @@ module _ (n : ℕ) where
   inject-start-requires : clear-start-lts.Need-inject-start-requires (choose.Asked, choose.Learnt, inject-start-below n, inject-start.Post) (clear-start-at n) clear-start.Post
   inject-start-requires c κs =
       let p = c .before .pre in
-      (omega (arith, p .0, high-enough (p .1 .1) (p .1 .2)), (p .1 .0, child-asked (p .1 .1) (p .1 .2) (omega (arith, c .choose .ensures (p .1 .0) (p .1 .1 .ready) (p .1 .1 .due .lt)))))
+      (omega (arith, p .0, high-enough (p .1 .1) (p .1 .2)), (p .1 .0, chosen-asked (p .1 .1) (p .1 .2) (omega (arith, c .choose .ensures (p .1 .0) (p .1 .1 .described) (p .1 .1 .due .lt)))))
 
   clear-start-returns : clear-start-lts.Need-returns (choose.Asked, choose.Learnt, inject-start-below n, inject-start.Post) (clear-start-at n) clear-start.Post
   clear-start-returns c y a e =
-      let q = c .before .choose .ensures y (a .ready) (a .due .lt) in
-      begins-below e q (c .inject-start .ensures y (child-asked a e q))
+      let q = c .before .choose .ensures y (a .described) (a .due .lt) in
+      start-below e q (c .inject-start .ensures y (chosen-asked a e q))
 
 -- filling
 module _ (n : ℕ) where
   add-if1 : inject-start-lts.Need-add-if1 (clear-start-below n, clear-start.Post) (inject-start-at n) inject-start.Post
-  add-if1 c = let p = c .pre .1 in omega (arith, node-small (p .1 .ready) (p .1 .due .lt))
+  add-if1 c = let p = c .pre .1 in omega (arith, node-small (p .1 .described) (p .1 .due .lt))
 
   mul-if1 : inject-start-lts.Need-mul-if1 (clear-start-below n, clear-start.Post) (inject-start-at n) inject-start.Post
-  mul-if1 c = let p = c .pre .1 in omega (arith, node-small (p .1 .ready) (p .1 .due .lt))
+  mul-if1 c = let p = c .pre .1 in omega (arith, node-small (p .1 .described) (p .1 .due .lt))
 
   element-copy-out-if1 : inject-start-lts.Need-element-copy-out-if1 (clear-start-below n, clear-start.Post) (inject-start-at n) inject-start.Post
-  element-copy-out-if1 c = let p = c .pre .1 in omega (arith, node-small (p .1 .ready) (p .1 .due .lt))
+  element-copy-out-if1 c = let p = c .pre .1 in omega (arith, node-small (p .1 .described) (p .1 .due .lt))
 
   inject-start-returns : inject-start-lts.Need-returns (clear-start-below n, clear-start.Post) (inject-start-at n) inject-start.Post
-  inject-start-returns c y a = begins-here (free-node true y _ (omega (arith, mark-is (a .ready .kept) (a .due .lt), c .if1 .taken)))
+  inject-start-returns c y a = start-here (free-node true y _ (omega (arith, mark-is (a .described .kept) (a .due .lt), c .if1 .taken)))
 
   clear-start-requires : inject-start-lts.Need-clear-start-requires (clear-start-below n, clear-start.Post) (inject-start-at n) inject-start.Post
   clear-start-requires c κs =
       let p = c .before .before .pre in
-      (omega (arith, p .0), (p .1 .0, p .1 .1, blocked-node true (p .1 .0) _ (mark-one (p .1 .1 .ready) (p .1 .1 .due .lt) (c .if1 .left))))
+      (omega (arith, p .0), (p .1 .0, p .1 .1, blocked-node true (p .1 .0) _ (mark-one (p .1 .1 .described) (p .1 .1 .due .lt) (c .if1 .left))))
 
   inject-start-returns-2 : inject-start-lts.Need-returns-2 (clear-start-below n, clear-start.Post) (inject-start-at n) inject-start.Post
-  inject-start-returns-2 c y a = c .clear-start .ensures y a (blocked-node true y _ (mark-one (a .ready) (a .due .lt) (c .before .if1 .left)))
+  inject-start-returns-2 c y a = c .clear-start .ensures y a (blocked-node true y _ (mark-one (a .described) (a .due .lt) (c .before .if1 .left)))
 
 pub +clear-start+inject-start-spec : {M : Type 1} → statement M
 +clear-start+inject-start-spec =

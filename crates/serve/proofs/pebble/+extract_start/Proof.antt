@@ -8,9 +8,9 @@ use borrow.Fn.Kinds.{In}
 use borrow.Fn.PlainCycle.{Measures, is, falls, and}
 use Rattle.model.specs.Yard.{Yard}
 use Rattle.model.proofs.Serve.{blocked}
-use Rattle.serve.specs.Kept.{Asked}
+use Rattle.serve.specs.Serving.{AskedStart}
 use Rattle.serve.proofs.Looking.{node-small}
-use Rattle.serve.proofs.Serving.{mark-is, mark-one, free-node, blocked-node, high-enough, child-asked, begins-here, begins-below}
+use Rattle.serve.proofs.Serving.{mark-is, mark-one, free-node, blocked-node, high-enough, chosen-asked, start-here, start-below}
 use Rattle.serve.proofs.pebble.extract_start.Reads as extract-start
 use Rattle.serve.proofs.pebble.extract_start.Kinds as extract-start-kinds
 use Rattle.serve.proofs.pebble.+extract_start.Lts-extract_start as lts
@@ -29,25 +29,25 @@ extract-start-below n = and 2 extract-start-kinds.ps (falls 2 extract-start-kind
 
 module _ (n : ℕ) where
   add-if1 : lts.Need-add-if1 (choose.Asked, choose.Learnt, extract-start-below n, extract-start.Post) (extract-start-at n) extract-start.Post
-  add-if1 c = let p = c .pre .1 in omega (arith, node-small (p .1 .ready) (p .1 .due .lt))
+  add-if1 c = let p = c .pre .1 in omega (arith, node-small (p .1 .described) (p .1 .due .lt))
 
   mul-if1 : lts.Need-mul-if1 (choose.Asked, choose.Learnt, extract-start-below n, extract-start.Post) (extract-start-at n) extract-start.Post
-  mul-if1 c = let p = c .pre .1 in omega (arith, node-small (p .1 .ready) (p .1 .due .lt))
+  mul-if1 c = let p = c .pre .1 in omega (arith, node-small (p .1 .described) (p .1 .due .lt))
 
   element-copy-out-if1 : lts.Need-element-copy-out-if1 (choose.Asked, choose.Learnt, extract-start-below n, extract-start.Post) (extract-start-at n) extract-start.Post
-  element-copy-out-if1 c = let p = c .pre .1 in omega (arith, node-small (p .1 .ready) (p .1 .due .lt))
+  element-copy-out-if1 c = let p = c .pre .1 in omega (arith, node-small (p .1 .described) (p .1 .due .lt))
 
   returns : lts.Need-returns (choose.Asked, choose.Learnt, extract-start-below n, extract-start.Post) (extract-start-at n) extract-start.Post
-  returns c y a = begins-here (free-node false y _ (mark-one (a .ready) (a .due .lt) (c .if1 .taken)))
+  returns c y a = start-here (free-node false y _ (mark-one (a .described) (a .due .lt) (c .if1 .taken)))
 
   -- else v is blocked
   empty : (c : lts.After-choose (choose.Asked, choose.Learnt, extract-start-below n, extract-start.Post) (extract-start-at n) extract-start.Post) (y : Yard)
       → let s = c .before .before .before .args in
-      Asked false y (s .t .now) (s .s .now) (s .v) (s .height) → blocked y false (s .v) ≡ true
-  empty c y a = blocked-node false y _ (sym (mark-is (a .ready .kept) (a .due .lt)) ∙ c .before .if1 .left)
+      AskedStart false y (s .t .now) (s .s .now) (s .v) (s .height) → blocked y false (s .v) ≡ true
+  empty c y a = blocked-node false y _ (sym (mark-is (a .described .kept) (a .due .lt)) ∙ c .before .if1 .left)
 
   choose-requires : lts.Need-choose-requires (choose.Asked, choose.Learnt, extract-start-below n, extract-start.Post) (extract-start-at n) extract-start.Post
-  choose-requires c κs = let p = c .before .before .pre .1 in (p .0, p .1 .ready, p .1 .due .lt)
+  choose-requires c κs = let p = c .before .before .pre .1 in (p .0, p .1 .described, p .1 .due .lt)
 
   sub-extract-start : lts.Need-sub-extract-start (choose.Asked, choose.Learnt, extract-start-below n, extract-start.Post) (extract-start-at n) extract-start.Post
   sub-extract-start c = let p = c .before .before .before .pre .1 in high-enough (p .1) (empty c (p .0) (p .1))
@@ -56,13 +56,13 @@ module _ (n : ℕ) where
   extract-start-requires c κs =
       let p = c .before .before .before .pre in
       let e = empty c (p .1 .0) (p .1 .1) in
-      (omega (arith, p .0, high-enough (p .1 .1) e), (p .1 .0, child-asked (p .1 .1) e (omega (arith, c .choose .ensures (p .1 .0) (p .1 .1 .ready) (p .1 .1 .due .lt)))))
+      (omega (arith, p .0, high-enough (p .1 .1) e), (p .1 .0, chosen-asked (p .1 .1) e (omega (arith, c .choose .ensures (p .1 .0) (p .1 .1 .described) (p .1 .1 .due .lt)))))
 
   returns-2 : lts.Need-returns-2 (choose.Asked, choose.Learnt, extract-start-below n, extract-start.Post) (extract-start-at n) extract-start.Post
   returns-2 c y a =
       let e = empty (c .before) y a in
-      let q = c .before .choose .ensures y (a .ready) (a .due .lt) in
-      begins-below e q (c .extract-start .ensures y (child-asked a e q))
+      let q = c .before .choose .ensures y (a .described) (a .due .lt) in
+      start-below e q (c .extract-start .ensures y (chosen-asked a e q))
 
 pub +extract-start-spec : {M : Type 1} → statement M
 +extract-start-spec =

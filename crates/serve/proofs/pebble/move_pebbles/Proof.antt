@@ -5,7 +5,7 @@ use Prim.Native.Nat.{_-_, _*_}
 use lib.ListN.{length}
 use borrow.Author.Needs.{needs}
 use Rattle.model.specs.Yard.{Yard}
-use Rattle.serve.specs.Kept.{AskedMoves}
+use Rattle.serve.specs.Serving.{AskedMoves}
 use Rattle.serve.proofs.Looking.{node-small}
 use Rattle.serve.proofs.Serving.{Climbing, climb-first, climb-node, climb-room, climb-range, climb-last, climb-next}
 use Rattle.serve.proofs.pebble.move_pebbles.Statement.{statement}
@@ -25,7 +25,7 @@ move-pebble-requires c κs =
     let l = c .before .before in
     let p = l .before .before .pre in
     let m = l .loop .inv (p .0) (p .1) in
-    (node-small (p .1 .ready) (climb-node (p .1) m), omega (arith, climb-room (p .1) m), climb-range (p .1) m)
+    (node-small (p .1 .described) (climb-node (p .1) m), omega (arith, climb-room (p .1) m), climb-range (p .1) m)
 
 add-k : tie.Need-add-k Inv-loop μ-loop
 add-k c =
@@ -49,7 +49,7 @@ element-copy-out-wide : tie.Need-element-copy-out-wide Inv-loop μ-loop
 element-copy-out-wide c =
     let l = c .before .before .before .before .before .before in
     let p = l .before .before .pre in
-    omega (arith, node-small (p .1 .ready) (climb-node (p .1) (l .loop .inv (p .0) (p .1))))
+    omega (arith, node-small (p .1 .described) (climb-node (p .1) (l .loop .inv (p .0) (p .1))))
 
 wide-requires : tie.Need-wide-requires Inv-loop μ-loop
 wide-requires c κs = search needs

@@ -27,7 +27,7 @@ use Rattle.model.proofs.Balance.{plan-only}
 use Rattle.model.proofs.Calls.{totals-none, plan-none}
 use Rattle.model.proofs.Demand3.{plan-length}
 use Rattle.demand.proofs.Lists.{length-listed, entry-listed}
-use Rattle.serve.specs.Kept.{Tables, Kept}
+use Rattle.serve.specs.Serving.{Tables, Kept}
 use Rattle.planner.specs.Balancing.{AskedEven, Balanced}
 
 -- placing the pebbles of the nodes below v, 256 entries behind the demands
@@ -115,7 +115,7 @@ module _ (y : Yard) (t : Tree y) (m : Matched y) (list : List ℕ) (l : ℕ) (e 
 
     pub root-asked : (tab : List ℕ) (s : List ℤ) → Tables (y .parents) tab → Kept y s → (r : ℕ) → r ≡ root y → AskedEven y tab s list r (size y)
     root-asked tab s a k r q = rw q (record {
-      ready = record { tree = t; tables = a; kept = k };
+      described = record { tree = t; tables = a; kept = k };
       node = wood y t .root-lt;
       even = root-even y t m;
       room = room;

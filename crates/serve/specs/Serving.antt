@@ -41,7 +41,7 @@ abbrev pub movedPlan : List ℕ → Bool → ℕ → ℕ → List ℕ → List �
 movedPlan t b v k plan = set (set plan (2 * k) (crossing t b v .from)) (2 * k + 1) (crossing t b v .to)
 
 -- tables and state of a tree
-pub record Ready (y : Yard) (t : List ℕ) (s : List ℤ) : Type 0 where
+pub record Describes (y : Yard) (t : List ℕ) (s : List ℤ) : Type 0 where
   pub tree : Tree y
   pub tables : Tables (y .parents) t
   pub kept : Kept y s
@@ -50,17 +50,17 @@ pub record Ready (y : Yard) (t : List ℕ) (s : List ℤ) : Type 0 where
 abbrev pub wants : Bool → Yard → ℕ → ℕ → Bool
 wants b y u v = (isChild (y .parents) u v) && (ltb 0 (need y b v))
 
-pub record Looking (b : Bool) (y : Yard) (u c : ℕ) : Type 0 where
+pub record NoneBefore (b : Bool) (y : Yard) (u c : ℕ) : Type 0 where
   pub child : Child (y .parents) u c
   pub none : (v : ℕ) → v < c → wants b y u v ≡ false
 
-pub data Start (b : Bool) (y : Yard) (t : List ℕ) (u : ℕ) : ℕ → Type 0 where
-  no-child : getD t (256 + u) 0 ≡ u → Start b y t u u
-  at-child : {c : ℕ} → Looking b y u c → Start b y t u c
+pub data LookFrom (b : Bool) (y : Yard) (t : List ℕ) (u : ℕ) : ℕ → Type 0 where
+  no-child : getD t (256 + u) 0 ≡ u → LookFrom b y t u u
+  at-child : {c : ℕ} → NoneBefore b y u c → LookFrom b y t u c
 
 -- what filling v (true) or drawing from it (false) asks: that a pebble is due over its edge, and a height that bounds the nodes inside v
-pub record Asked (b : Bool) (y : Yard) (t : List ℕ) (s : List ℤ) (v height : ℕ) : Type 0 where
-  pub ready : Ready y t s
+pub record AskedStart (b : Bool) (y : Yard) (t : List ℕ) (s : List ℤ) (v height : ℕ) : Type 0 where
+  pub described : Describes y t s
   pub due : Due y b v
   pub high : weight (y .parents) v ≤ height
 
@@ -69,16 +69,16 @@ pub data Chain (b : Bool) (y : Yard) (top : ℕ) : ℕ → Type 0 where
   at-top : Chain b y top top
   down : {u : ℕ} → Chain b y top u → blocked y b u ≡ true → Chain b y top (choice (need y b) y u)
 
--- where the moves begin: at the end of that chain
-pub record Begins (b : Bool) (y : Yard) (top low : ℕ) : Type 0 where
+-- where the moves start: at the end of that chain
+pub record Start (b : Bool) (y : Yard) (top low : ℕ) : Type 0 where
   pub chain : Chain b y top low
-  pub free : blocked y b low ≡ false
+  pub unblocked : blocked y b low ≡ false
 
 -- what the moves ask, from there up to top: room in the list too
 pub record AskedMoves (b : Bool) (y : Yard) (t : List ℕ) (s : List ℤ) (plan : List ℕ) (low top : ℕ) : Type 0 where
-  pub ready : Ready y t s
+  pub described : Describes y t s
   pub due : Due y b top
-  pub begins : Begins b y top low
+  pub start : Start b y top low
   pub room : 2 * shortest y ≤ length plan
 
 -- moves that were made, written at the front of the list, and counted
