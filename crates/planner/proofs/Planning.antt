@@ -9,8 +9,8 @@ use native.Mathlib.Decide.{ℕ-discrete, decLt}
 use lib.ListN.{length, getD, take, set, length-set, List·getD-append, List·getD-eq-default}
 use lib.Seq.{getD-set-same, getD-set-other, getD-take, length-take-le}
 use lib.Dec.{leb, eqb, leb·zero}
-use lib.IntN.{ℤ, pos, natAbs, subℕ}
-use borrow.Author.Tests.{le-ltb, lt-leb, eq-eqb, ne-eqb}
+use lib.IntN.{ℤ, pos, natAbs}
+use borrow.Author.Tests.{lt-leb, eq-eqb, ne-eqb}
 use mathlib.Core.Option.{none}
 use Rattle.model.specs.Yard.{Yard, yardOf, size, sum, below, headOr, root, demand, imbalance, shortest, Matched}
 use Rattle.model.specs.Judge.{row, Tree}
@@ -63,10 +63,6 @@ placed-kept ps qs ts t front back s e h = record {
   where
     long : length front ≡ length ps
     long = ap length e ∙ length-listed (demand (yardOf ps qs ts)) 0 (length ps)
-
--- a mark, as the difference from 0
-pub mark-difference : (p : ℕ) → subℕ p 0 ≡ pos p
-mark-difference p = rw (le-ltb p 0 (omega arith)) (ap pos (omega arith))
 
 -- the state's demands, and their sizes summed: the shortest length
 module _ (y : Yard) (t : Tree y) (s : List ℤ) (k : Kept y s) where

@@ -5,7 +5,6 @@ ghost use Rattle.model.specs.Given.{given, handed};
 ghost use Rattle.model.specs.Judge.{Tree};
 ghost use Rattle.serve.specs.Serving.{Kept};
 use demand::fill::fill;
-use demand::signed::difference;
 
 // Writes the demands of a tree's nodes, and 256 entries behind them their pebbles.
 pub fn write_state(parents: &[u8], pebbles: &[u8], targets: &[u8], s: &mut [i16])
@@ -16,7 +15,7 @@ pub fn write_state(parents: &[u8], pebbles: &[u8], targets: &[u8], s: &mut [i16]
     fill(parents, pebbles, targets, &mut s[..n]);
     let mut v = 0;
     while v < n {
-        s[256 + v] = difference(pebbles[v], 0);
+        s[256 + v] = pebbles[v] as i16;
         v += 1;
     }
 }

@@ -1,17 +1,14 @@
 -- `planner::state::write_state` meets its contract: the demands fill the front, and the pebbles are placed one by one behind it (the laws are in
 -- Planning).
-use Prim.Native.Nat.{_-_, _≤_}
-use mathlib.Core.Path.{_≡_, sym, ap, _∙_}
+use Prim.Native.Nat.{_-_, _≤_, _<_}
+use mathlib.Core.Path.{_≡_, sym, _∙_}
 use native.Mathlib.Omega.{arith}
-use lib.ListN.{length, getD}
-use lib.IntN.{ℤ, pos}
-use mir.Syntax.{w16}
-use mir.Val.{toZ, ofZ}
+use lib.ListN.{length}
 use lib.Seq.{length-take-le, length-front}
-use borrow.Author.Needs.{needs}
 use Rattle.model.proofs.Judged.{facts}
+use Rattle.demand.proofs.Numbers.{small-fits}
 use Rattle.serve.proofs.Numbers.{small-back}
-use Rattle.planner.proofs.Planning.{Placed, place-none, place-next, placed-kept, mark-difference}
+use Rattle.planner.proofs.Planning.{Placed, place-none, place-next, placed-kept}
 use Rattle.planner.proofs.state.write_state.Statement.{statement}
 use Rattle.planner.proofs.state.write_state.Tie as tie
 
@@ -35,20 +32,24 @@ loop-holds c =
     let s = c .before .before .before .before .before .before in
     (omega arith, place-none _ _ (length-front (s .args .s .now) (c .before .fill .last .1 .1 .1 .0) (length (s .args .parents .now)) (c .before .fill .kept .1 .1 .1 .0) ∙ s .pre .1))
 
-shared-slice-read-difference : tie.Need-shared-slice-read-difference Inv-loop μ-loop
-shared-slice-read-difference c = let p = c .before .before .before .before .before .before .before .before .before .pre in omega (arith, facts _ (p .0) .pebbles-size)
+shared-slice-read-s : tie.Need-shared-slice-read-s Inv-loop μ-loop
+shared-slice-read-s c = let p = c .before .before .before .before .before .before .before .before .before .pre in omega (arith, facts _ (p .0) .pebbles-size)
 
-difference-requires : tie.Need-difference-requires Inv-loop μ-loop
-difference-requires c κs = search needs
+cast-s : tie.Need-cast-s Inv-loop μ-loop
+cast-s c = small-fits _ (omega (arith, c .shared-slice-known4 .given (c .before .before .loop .v)))
+
+-- the node at hand is one of the tree's
+node-small : (c : tie.After-shared-slice-known4 Inv-loop μ-loop) → c .before .before .loop .v < 256
+node-small c = omega (arith, facts _ (c .before .before .before .before .before .before .before .before .before .pre .0) .few)
 
 add-t14 : tie.Need-add-t14 Inv-loop μ-loop
-add-t14 c = let p = c .before .before .before .before .before .before .before .before .before .before .pre in omega (arith, facts _ (p .0) .few)
+add-t14 c = omega (arith, node-small c)
 
 mul-t15 : tie.Need-mul-t15 Inv-loop μ-loop
-mul-t15 c = let p = c .before .before .before .before .before .before .before .before .before .before .pre in omega (arith, facts _ (p .0) .few)
+mul-t15 c = omega (arith, node-small c)
 
 slice-set-from-s : tie.Need-slice-set-from-s Inv-loop μ-loop
-slice-set-from-s c = let p = c .before .before .before .before .before .before .before .before .before .before .pre in omega (arith, facts _ (p .0) .few, c .before .before .before .loop .inv .1 .long)
+slice-set-from-s c = omega (arith, node-small c, c .before .before .loop .inv .1 .long)
 
 add-v : tie.Need-add-v Inv-loop μ-loop
 add-v c = omega arith
@@ -58,13 +59,8 @@ loop-less c = omega arith
 
 loop-again : tie.Need-loop-again Inv-loop μ-loop
 loop-again c =
-    let i = c .before .before in
-    let p = i .before .before .before .before .before .before .before .before .pre in
-    let e : c .difference .result ≡ pos (getD (i .before .before .before .before .before .before .before .before .args .pebbles .now) (i .before .loop .v) 0) = c .difference .ensures ∙ mark-difference _ in (
-      omega arith,
-      place-next _ _ _ _ (toZ w16 (ofZ w16 (c .difference .result))) (omega (arith, facts _ (p .0) .few))
-          (ap (λ (z : ℤ). toZ w16 (ofZ w16 z)) e ∙ small-back _ (omega (arith, facts _ (p .0) .pebble-le (i .before .loop .v) (omega arith)))) (i .before .loop .inv .1),
-    )
+    let l = c .before .before .loop in
+    (omega arith, place-next _ _ _ _ _ (node-small c) (small-back _ (omega (arith, c .shared-slice-known4 .given (l .v)))) (l .inv .1))
 
 same-length : tie.Need-same-length Inv-loop μ-loop
 same-length c = c .before .loop .inv .1 .long ∙ sym (c .before .before .before .before .before .before .before .before .pre .1)
@@ -87,8 +83,8 @@ write-state-spec =
     slice-aggregate-fill
     fill-requires
     loop-holds
-    shared-slice-read-difference
-    difference-requires
+    shared-slice-read-s
+    cast-s
     add-t14
     mul-t15
     slice-set-from-s
