@@ -2,12 +2,13 @@
 -- asks that there is one, and says what it did for each.
 use mathlib.Core.Path.{_≡_}
 use mathlib.Core.Logic.{_≢_}
-use mathlib.Core.Bool.{Bool, true, false, _&&_}
+use mathlib.Core.Bool.{Bool, true, false, cond, _&&_}
 use mathlib.Core.List.{List}
 use Prim.Native.Nat.{ℕ, _+_, _*_, _≤_, _<_}
 use lib.ListN.{length, getD, set}
-use lib.Dec.{leb, ltb}
+use lib.Dec.{leb}
 use lib.IntN.{ℤ, pos}
+use lib.Signed.{ltZ}
 use Rattle.model.specs.Yard.{Yard, size, up, pebble, below, headOr, isChild, demand, shortest}
 use Rattle.model.specs.Judge.{Tree}
 use Rattle.model.specs.Push.{Move, run}
@@ -46,13 +47,17 @@ pub record Describes (y : Yard) (t : List ℕ) (s : List ℤ) : Type 0 where
   pub tables : Tables (y .parents) t
   pub kept : Kept y s
 
--- a child of u that lacks pebbles (true) or has too many (false); a child c of u before which there is none; and where to begin looking for one
-abbrev pub wants : Bool → Yard → ℕ → ℕ → Bool
-wants b y u v = (isChild (y .parents) u v) && (ltb 0 (need y b v))
+-- a demand is of the sign wanted: above 0, where pebbles lack and one is to go away from the root (true), or below 0, where there are too many
+abbrev pub wants : Bool → ℤ → Bool
+wants away d = cond away (ltZ (pos 0) d) (ltZ d (pos 0))
+
+-- a child of u that wants so; a child c of u before which there is none; and where to begin looking for one
+abbrev pub wantingChild : Bool → Yard → ℕ → ℕ → Bool
+wantingChild b y u v = (isChild (y .parents) u v) && (wants b (demand y v))
 
 pub record NoneBefore (b : Bool) (y : Yard) (u c : ℕ) : Type 0 where
   pub child : Child (y .parents) u c
-  pub none : (v : ℕ) → v < c → wants b y u v ≡ false
+  pub none : (v : ℕ) → v < c → wantingChild b y u v ≡ false
 
 pub data LookFrom (b : Bool) (y : Yard) (t : List ℕ) (u : ℕ) : ℕ → Type 0 where
   no-child : getD t (256 + u) 0 ≡ u → LookFrom b y t u u

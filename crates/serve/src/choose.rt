@@ -1,13 +1,10 @@
 // The choice of a child.
 ghost use mathlib.Core.Path.{_≡_};
-ghost use mathlib.Core.Bool.{cond};
 ghost use Prim.Native.Nat.{_<_};
-ghost use lib.IntN.{pos};
-ghost use lib.Signed.{ltZ};
 ghost use Rattle.model.specs.Yard.{Yard, size};
 ghost use Rattle.model.specs.Plan.{choice};
 ghost use Rattle.model.proofs.Step.{need};
-ghost use Rattle.serve.specs.Serving.{Describes, LookFrom};
+ghost use Rattle.serve.specs.Serving.{wants, Describes, LookFrom};
 
 // A byte as a number.
 pub fn wide(x: u8) -> usize
@@ -16,9 +13,9 @@ pub fn wide(x: u8) -> usize
     x as usize
 }
 
-// Whether a demand is of the sign wanted: pebbles lack (away from the root), or are too many.
+// Whether a demand is of the sign wanted.
 fn wanted(demand: i16, away: bool) -> bool
-    ensures { λ r. ⌜ r ≡ cond away (ltZ (pos 0) demand) (ltZ demand (pos 0)) ⌝ }
+    ensures { λ r. ⌜ r ≡ wants away demand ⌝ }
 {
     if away {
         return demand > 0;
