@@ -1,18 +1,27 @@
 -- Balancing u: the loop leaves its children with a demand of 0, and they keep it while one after another is balanced; each has fewer nodes inside
--- than u.
+-- than u, and one that has no child needs no move.
+use mathlib.Core.Path.{_≡_, sym, _∙_}
+use mathlib.Core.Logic.{_≢_}
+use mathlib.Core.Bool.{_&&_}
 use mathlib.Core.List.{List, [], _∷_, _++_, append-nil}
 use Prim.Native.Nat.{ℕ, _+_, _-_, _<_}
 use native.Mathlib.Omega.{arith}
+use lib.ListN.{getD}
+use lib.Dec.{ltb}
 use lib.IntN.{ℤ}
-use Rattle.model.specs.Yard.{Yard, children}
-use Rattle.model.specs.Push.{Move, run}
+use Rattle.model.specs.Yard.{Yard, size, isChild, children, imbalance}
+use Rattle.model.specs.Push.{Move, after, run}
+use Rattle.model.specs.Plan.{needy}
+use Rattle.model.proofs.Basics.{none-below, below-none}
 use Rattle.model.proofs.Trees.{Child}
 use Rattle.model.proofs.Judged.{wood}
 use Rattle.model.proofs.Demands.{weight, weight-child}
 use Rattle.model.proofs.Runs.{after-append}
 use Rattle.model.proofs.Shortest.{keeps}
-use Rattle.model.proofs.Balance.{Even, Balances, none, next, settles-good, balances-good}
+use Rattle.model.proofs.Balance.{Even, Settles, settled, Balances, none, next, settles-good, balances-good}
 use Rattle.planner.specs.Balancing.{AskedEven, Settled, Balanced}
+use Rattle.serve.specs.Serving.{childrenFrom, Lowest}
+use Rattle.serve.proofs.Siblings.{from-0, none-from, child-from, some-from, next-is}
 use Rattle.serve.proofs.Stretches.{rest, back, Begun, go-on, ended, describes-after, room-left}
 
 -- one child, and then those behind it
@@ -27,20 +36,17 @@ pub record Left (y : Yard) (u : ℕ) (s : List ℤ) (before plan : List ℕ) (k 
 pub left-none : {y : Yard} {u : ℕ} {s : List ℤ} {before plan : List ℕ} {k : ℕ} → Left y u s before plan k [] → Balanced y u s before plan k
 left-none l = record { moves = l .begun .moves; balances = ended (l .begun) none; made = l .begun .made }
 
--- all of them are left, of a yard that was asked to be balanced at u
-pub record AllLeft (y : Yard) (before t : List ℕ) (s : List ℤ) (plan : List ℕ) (k u h : ℕ) : Type 0 where
+-- the loop at u has ended, in a yard that was asked to be balanced there
+pub record LoopEnded (y : Yard) (before t : List ℕ) (s : List ℤ) (plan : List ℕ) (k u h : ℕ) : Type 0 where
   pub entry : List ℤ
   pub asked : AskedEven y t entry before u h
-  pub left : Left y u s before plan k (children y u)
+  pub loop : Settled y u s before plan k
 
 module _ {y : Yard} {t : List ℕ} {s₀ : List ℤ} {before : List ℕ} {u h : ℕ} (a : AskedEven y t s₀ before u h) where
   left-all : {s : List ℤ} {plan : List ℕ} {k : ℕ} → Settled y u s before plan k → Left y u s before plan k (children y u)
   left-all v =
       let e = settles-good (v .settles) (a .described .tree) (a .node) (a .even) in
       record { begun = record { moves = v .moves; good = e .good; made = v .made; onward = λ ns b. rw append-nil at (next (v .settles) b none) }; even = e .kids }
-
-  pub all-left : {s : List ℤ} {plan : List ℕ} {k : ℕ} → Settled y u s before plan k → AllLeft y before t s plan k u h
-  all-left v = record { entry = _; asked = a; left = left-all v }
 
   module _ {c : ℕ} (f : Child (y .parents) u c) where
     pub child-lower : weight (y .parents) c < h
@@ -66,3 +72,42 @@ module _ {y : Yard} {t : List ℕ} {s₀ : List ℤ} {before : List ℕ} {u h : 
             begun = go-on (l .begun) (v .moves) g (v .made) (λ ps r. balances-more (v .balances) r);
             even = λ d e. rw (after-append (l .begun .moves) (v .moves) y) (omega (arith, l .even d e, keeps (run y (l .begun .moves)) (z .described .tree) (v .moves) g d (e .lt)));
           }
+
+-- a child that has no child itself is balanced by no move
+leaf-balances : {y : Yard} {c : ℕ} {cs : List ℕ} {ns : List Move} → children y c ≡ [] → Balances y cs ns → Balances y (c ∷ cs) ns
+unfolding needy after
+leaf-balances {y} {c} e b =
+    let s : Settles y c [] = settled (none-below (size y) (λ v. (isChild (y .parents) c v) && (ltb 0 (imbalance y v))) (λ v k. rw (below-none (size y) (isChild (y .parents) c) e v k))) in
+    let r : Balances y (children y c) [] = rw e none in
+    next {ms = []} {ns = []} s r b
+
+pub left-leaf : {y : Yard} {u c : ℕ} {s : List ℤ} {before plan : List ℕ} {k : ℕ} {cs : List ℕ} → Left y u s before plan k (c ∷ cs) → children y c ≡ [] → Left y u s before plan k cs
+left-leaf l e = record { begun = record { moves = l .begun .moves; good = l .begun .good; made = l .begun .made; onward = λ ns b. l .begun .onward ns (leaf-balances e b) }; even = l .even }
+
+-- the children from some number on are left, and c is the lowest of them, or u itself behind the last
+pub record LeftFrom (y : Yard) (u : ℕ) (s : List ℤ) (before plan : List ℕ) (k c : ℕ) : Type 0 where
+  pub low : ℕ
+  pub lowest : Lowest (y .parents) u low c
+  pub left : Left y u s before plan k (childrenFrom (y .parents) u low)
+
+module _ {y : Yard} {t : List ℕ} {s₀ : List ℤ} {before : List ℕ} {u h : ℕ} (a : AskedEven y t s₀ before u h) {s : List ℤ} {plan : List ℕ} {k c : ℕ} where
+  pub left-first : Settled y u s before plan k → c ≡ getD t (256 + u) 0 → LeftFrom y u s before plan k c
+  left-first v e = record { low = 0; lowest = rw e (a .described .tables .first u (a .node)); left = rw (from-0 (y .parents) u) (left-all a v) }
+
+  module _ (l : LeftFrom y u s before plan k c) where
+    pub left-last : c ≡ u → Balanced y u s before plan k
+    left-last q = left-none (rw (none-from (l .lowest) q) at (l .left))
+
+    -- at a child: it, those behind it, and where these begin
+    module _ (d : c ≢ u) where
+      pub left-child : Child (y .parents) u c
+      left-child = child-from (l .lowest) d .0
+
+      pub left-here : Left y u s before plan k (c ∷ childrenFrom (y .parents) u (c + 1))
+      left-here = rw (some-from (l .lowest) d) at (l .left)
+
+      pub left-behind : {s′ : List ℤ} {plan′ : List ℕ} {k′ n : ℕ} → n ≡ getD t (512 + c) 0 → Left y u s′ before plan′ k′ (childrenFrom (y .parents) u (c + 1)) → LeftFrom y u s′ before plan′ k′ n
+      left-behind e f = record { low = c + 1; lowest = rw e (next-is (a .described .tables) left-child); left = f }
+
+      pub left-childless : {n : ℕ} → n ≡ getD t (512 + c) 0 → getD t (256 + c) 0 ≡ c → LeftFrom y u s before plan k n
+      left-childless e f = left-behind e (left-leaf left-here (sym (from-0 (y .parents) c) ∙ none-from (a .described .tables .first c (left-child .lt)) f))

@@ -25,11 +25,10 @@ use Rattle.model.proofs.Shortest.{Good, keeps}
 use Rattle.model.proofs.Choice.{all-needy, none-needy}
 use Rattle.model.proofs.Serve.{Due, Serves, serves-shift}
 use Rattle.model.proofs.Balance.{Settles, settled, turned, turn-due, first-needy}
-use Rattle.serve.specs.Serving.{Describes, LookFrom, at-child, Made, AskedStart, Start, AskedMoves}
-use Rattle.planner.specs.Balancing.{AskedEven, Settled}
+use Rattle.serve.specs.Serving.{Describes, LookFrom, Made, AskedStart, Start, AskedMoves}
+use Rattle.planner.specs.Balancing.{AskedEven}
 use Rattle.serve.proofs.Serving.{mark-is}
-use Rattle.serve.proofs.Looking.{look-none, from-first, from-chosen, from-after}
-use Rattle.serve.proofs.Moving.{made-nil}
+use Rattle.serve.proofs.Looking.{from-first, from-chosen, from-after}
 use Rattle.serve.proofs.Stretches.{rest, back, describes-after, room-left, Begun, begin, go-on}
 
 -- whether u holds a pebble, as the code reads it
@@ -110,44 +109,36 @@ module _ {y : Yard} {t : List ℕ} {s : List ℤ} {plan : List ℕ} {u h : ℕ} 
           go [] p = absurd (omega (arith, some-need c (chosen-needs .1), none-needy (imbalance y) y u p c (chosen-needs .0)))
           go (w ∷ l) p = turned p (rw (q, e) at v) r
 
--- at a node with no child there is nothing to do
-pub leaf-settled : {y : Yard} {t : List ℕ} {s : List ℤ} {plan : List ℕ} {u h : ℕ} → AskedEven y t s plan u h → getD t (256 + u) 0 ≡ u → Settled y u s plan plan 0
-leaf-settled {y} {t} {s} {plan} {u} a e = record {
-  moves = [];
-  settles = none-chosen a {b = held y u} refl {c = u} (look-none y u (held y u) t s (a .described) (a .node) e) refl;
-  made = made-nil y s plan (a .described .kept);
-}
-
 -- where looking goes on in the loop: for a child to fill, at the one filled last, and for one to draw from, at the one drawn from last
-pub record LooksFrom (y : Yard) (t : List ℕ) (u injected extracted : ℕ) : Type 0 where
-  pub inject : LookFrom true y t u injected
-  pub extract : LookFrom false y t u extracted
+pub record LooksFrom (y : Yard) (u injected extracted : ℕ) : Type 0 where
+  pub inject : LookFrom true y u injected
+  pub extract : LookFrom false y u extracted
 
-pub look-for : {y : Yard} {t : List ℕ} {u injected extracted : ℕ} (b : Bool) → LooksFrom y t u injected extracted → LookFrom b y t u (cond b injected extracted)
+pub look-for : {y : Yard} {u injected extracted : ℕ} (b : Bool) → LooksFrom y u injected extracted → LookFrom b y u (cond b injected extracted)
 look-for true h = h .inject
 look-for false h = h .extract
 
 -- after a turn it is the child that was chosen, for its sign
-pub looks-next : {y : Yard} {ms : List Move} {t : List ℕ} {u c injected extracted injected′ extracted′ : ℕ} (b : Bool) → LooksFrom y t u injected extracted → Tree y → Good y ms
-    → c ≡ choice (need y b) y u → c ≢ u → injected′ ≡ cond b c injected → extracted′ ≡ cond b extracted c → LooksFrom (run y ms) t u injected′ extracted′
-looks-next {y} {ms} {u = u} true h w g q d e f = rw (e, f) record { inject = from-after w g u (at-child (from-chosen true y u q d)); extract = from-after w g u (h .extract) }
-looks-next {y} {ms} {u = u} false h w g q d e f = rw (e, f) record { inject = from-after w g u (h .inject); extract = from-after w g u (at-child (from-chosen false y u q d)) }
+pub looks-next : {y : Yard} {ms : List Move} {u c injected extracted injected′ extracted′ : ℕ} (b : Bool) → LooksFrom y u injected extracted → Tree y → Good y ms
+    → c ≡ choice (need y b) y u → c ≢ u → injected′ ≡ cond b c injected → extracted′ ≡ cond b extracted c → LooksFrom (run y ms) u injected′ extracted′
+looks-next true h w g q d e f = rw (e, f) record { inject = from-after w g (from-chosen q d); extract = from-after w g (h .extract) }
+looks-next false h w g q d e f = rw (e, f) record { inject = from-after w g (h .inject); extract = from-after w g (from-chosen q d) }
 
 -- some turns were made
-pub record Turned (y : Yard) (t : List ℕ) (u : ℕ) (s : List ℤ) (before plan : List ℕ) (k injected extracted : ℕ) : Type 0 where
+pub record Turned (y : Yard) (u : ℕ) (s : List ℤ) (before plan : List ℕ) (k injected extracted : ℕ) : Type 0 where
   pub begun : Begun y s before plan k (Settles y u) (λ z. Settles z u)
-  pub looks : LooksFrom (run y (begun .moves)) t u injected extracted
+  pub looks : LooksFrom (run y (begun .moves)) u injected extracted
 
-pub turn-none : {y : Yard} {t : List ℕ} {s : List ℤ} {plan : List ℕ} {u c h : ℕ} → AskedEven y t s plan u h → c ≡ getD t (256 + u) 0 → Turned y t u s plan plan 0 c c
+pub turn-none : {y : Yard} {t : List ℕ} {s : List ℤ} {plan : List ℕ} {u c h : ℕ} → AskedEven y t s plan u h → c ≡ getD t (256 + u) 0 → Turned y u s plan plan 0 c c
 unfolding begin after
 turn-none {y} {t} {s} {u = u} a e = record {
   begun = begin {Ahead = λ z. Settles z u} (a .described .kept);
-  looks = record { inject = from-first y u true t s (a .described) (a .node) e; extract = from-first y u false t s (a .described) (a .node) e };
+  looks = record { inject = from-first (a .described) (a .node) e; extract = from-first (a .described) (a .node) e };
 }
 
-pub turn-more : {y : Yard} {t : List ℕ} {u : ℕ} {s s′ : List ℤ} {before plan part : List ℕ} {k m injected extracted injected′ extracted′ : ℕ}
-    (w : Turned y t u s before plan k injected extracted) (ns : List Move) → Good (run y (w .begun .moves)) ns → Made (run y (w .begun .moves)) ns s′ (rest plan k) part m
+pub turn-more : {y : Yard} {u : ℕ} {s s′ : List ℤ} {before plan part : List ℕ} {k m injected extracted injected′ extracted′ : ℕ}
+    (w : Turned y u s before plan k injected extracted) (ns : List Move) → Good (run y (w .begun .moves)) ns → Made (run y (w .begun .moves)) ns s′ (rest plan k) part m
     → ((ps : List Move) → Settles (run (run y (w .begun .moves)) ns) u ps → Settles (run y (w .begun .moves)) u (ns ++ ps))
-    → LooksFrom (run (run y (w .begun .moves)) ns) t u injected′ extracted′ → Turned y t u s′ before (back plan k part) (k + m) injected′ extracted′
+    → LooksFrom (run (run y (w .begun .moves)) ns) u injected′ extracted′ → Turned y u s′ before (back plan k part) (k + m) injected′ extracted′
 unfolding go-on
 turn-more {y} w ns g d f h = record { begun = go-on (w .begun) ns g d f; looks = rw (after-append (w .begun .moves) ns y) h }

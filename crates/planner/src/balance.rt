@@ -44,8 +44,8 @@ fn choose_next(
     extracted: usize,
     away: bool,
 ) -> usize
-    requires { ⌜ ((y : Yard) × Describes y (now t) (now s) × (u < size y) × LookFrom away y (now t) u (cond away injected extracted)) ⌝ }
-    ensures { λ r. ⌜ ((y : Yard) → Describes y (now (t .entry)) (now (s .entry)) → u < size y → LookFrom away y (now (t .entry)) u (cond away injected extracted) → r ≡ choice (need y away) y u) ⌝ }
+    requires { ⌜ ((y : Yard) × Describes y (now t) (now s) × (u < size y) × LookFrom away y u (cond away injected extracted)) ⌝ }
+    ensures { λ r. ⌜ ((y : Yard) → Describes y (now (t .entry)) (now (s .entry)) → u < size y → LookFrom away y u (cond away injected extracted) → r ≡ choice (need y away) y u) ⌝ }
 {
     if away {
         return choose_from(t, s, u, injected, true);
@@ -77,8 +77,8 @@ fn settle(t: &[u8; 768], s: &mut [i16; 512], plan: &mut [u8], u: usize, height: 
     }
 }
 
-// Balances u: the loop, and after it has ended the children in rising number, each behind the moves before. The moves go to the front of the list;
-// answers how many.
+// Balances u: the loop, and after it has ended the children in rising number, each behind the moves before; one that has no child itself needs no
+// move, and no call. The moves go to the front of the list; answers how many.
 pub fn balance_subtrees(
     t: &[u8; 768],
     s: &mut [i16; 512],
@@ -89,19 +89,15 @@ pub fn balance_subtrees(
     requires { ⌜ ((y : Yard) × AskedEven y (now t) (now s) (now plan) u height) ⌝ }
     ensures { λ r. ⌜ ((y : Yard) → AskedEven y (now (t .entry)) (now (s .entry)) (now (plan .entry)) u height → Balanced y u (now (s .exit)) (now (plan .entry)) (now (plan .exit)) r) ⌝ }
 {
-    let first = t[256 + u] as usize;
-    if first == u {
-        return 0;
-    }
     let mut k = settle(t, s, plan, u, height);
-    let mut c = first;
-    loop {
-        let m = balance_subtrees(t, s, &mut plan[2 * k..], c, height - 1);
-        k += m;
-        let next = t[512 + c] as usize;
-        if next == c {
-            return k;
+    let mut c = wide(t[256 + u]);
+    while c != u {
+        let v = c;
+        c = wide(t[512 + v]);
+        if wide(t[256 + v]) != v {
+            let m = balance_subtrees(t, s, &mut plan[2 * k..], v, height - 1);
+            k += m;
         }
-        c = next;
     }
+    k
 }

@@ -1,56 +1,61 @@
--- The children of u, in rising number, by the tables: the lowest of them, and behind each the next.
+-- The children of u from some number on, in rising order: the lowest of them, and those behind it. By the tables the lowest child and each next one are
+-- the lowest from 0 and from the number behind.
 use mathlib.Core.Path.{_≡_, refl, sym, ap, _∙_}
 use mathlib.Core.Logic.{_≢_}
-use mathlib.Core.Bool.{Bool, true, false, _&&_, and-eq-true-iff}
+use mathlib.Core.Bool.{Bool, true, false, cond, _&&_, and-false, and-eq-true-iff}
 use mathlib.Core.List.{List, [], _∷_}
-use Prim.Native.Nat.{ℕ, _+_, _<_}
+use Prim.Native.Nat.{ℕ, _+_, _-_, _≤_, _<_}
 use native.Mathlib.Omega.{arith}
+use native.Mathlib.Decide.{ℕ-discrete}
 use lib.ListN.{length, getD}
-use lib.Dec.{leb}
-use borrow.Author.Tests.{leb-true, le-leb, lt-leb}
-use Rattle.model.specs.Yard.{below, headOr, isChild}
-use Rattle.model.proofs.Basics.{not-so, none-below}
+use lib.Dec.{leb, eqb}
+use borrow.Author.Tests.{leb-true, le-leb, eq-eqb, ne-eqb}
+use Rattle.model.specs.Yard.{up, below, isChild}
+use Rattle.model.proofs.Basics.{none-below}
 use Rattle.model.proofs.Found.{lowest-is, lowest-missing, below-rest, below-cong}
 use Rattle.model.proofs.Trees.{Child, is-child}
-use Rattle.serve.specs.Serving.{Tables}
+use Rattle.serve.specs.Serving.{isChildFrom, childrenFrom, Lowest, Tables}
 
--- the children of u above c
-abbrev pub above : List ℕ → ℕ → ℕ → List ℕ
-above ps u c = below (length ps) (λ v. (leb (c + 1) v) && (isChild ps u v))
+pub from-0 : (ps : List ℕ) (u : ℕ) → childrenFrom ps u 0 ≡ below (length ps) (isChild ps u)
+from-0 ps u = below-cong (length ps) (isChildFrom ps u 0) (isChild ps u) (λ v. rw (le-leb 0 v (omega arith)))
 
-module _ {ps t : List ℕ} (h : Tables ps t) {u : ℕ} where
-  pub first-none : u < length ps → getD t (256 + u) 0 ≡ u → below (length ps) (isChild ps u) ≡ []
-  first-none l e = none-below (length ps) (isChild ps u) (lowest-missing (length ps) u (isChild ps u) (sym e ∙ h .first u l) (not-so (isChild ps u u) (λ q. is-child ps u u l q .other refl)))
+module _ {ps : List ℕ} {u i c : ℕ} (e : Lowest ps u i c) where
+  -- u itself is none of them
+  pub none-from : c ≡ u → childrenFrom ps u i ≡ []
+  none-from q = none-below (length ps) (isChildFrom ps u i) (lowest-missing (length ps) u (isChildFrom ps u i) (sym q ∙ e .is) (rw (eq-eqb u u refl, and-false (eqb (up ps u) u)) (and-false (leb i u))))
 
-  pub first-some : u < length ps → getD t (256 + u) 0 ≢ u
-      → Child ps u (getD t (256 + u) 0) × (below (length ps) (isChild ps u) ≡ getD t (256 + u) 0 ∷ above ps u (getD t (256 + u) 0))
-  first-some l d =
-      let k = lowest-is (length ps) u _ (isChild ps u) (h .first u l) d in
-      (is-child ps u _ (k .0) (k .1), below-rest (length ps) _ (isChild ps u) (k .0) (k .1) (k .2))
+  module _ (d : c ≢ u) where
+    found-from : (c < length ps) × (isChildFrom ps u i c ≡ true) × ((v : ℕ) → v < c → isChildFrom ps u i v ≡ false)
+    found-from = lowest-is (length ps) u c (isChildFrom ps u i) (e .is) d
 
-  module _ {c : ℕ} (k : Child ps u c) where
-    behind : ℕ → Bool
-    behind v = (leb (c + 1) v) && (isChild ps u v)
+    pub none-between : (v : ℕ) → v < c → isChildFrom ps u i v ≡ false
+    none-between = found-from .2
 
-    pub next-is : getD t (512 + c) 0 ≡ headOr c (above ps u c)
-    next-is = rw (k .up) at (h .next c (k .lt) (λ e. k .other (sym e ∙ k .up)))
+    pub child-from : Child ps u c × (i ≤ c)
+    child-from =
+        let q = and-eq-true-iff (leb i c) (isChild ps u c) .0 (found-from .1) in
+        (is-child ps u c (found-from .0) (q .1), leb-true i c (q .0))
 
-    pub next-none : getD t (512 + c) 0 ≡ c → above ps u c ≡ []
-    unfolding behind
-    next-none e = none-below (length ps) behind (lowest-missing (length ps) c behind (sym e ∙ next-is) (rw (lt-leb (c + 1) c (omega arith))))
-
-    pub next-some : getD t (512 + c) 0 ≢ c → Child ps u (getD t (512 + c) 0) × (c < getD t (512 + c) 0) × (above ps u c ≡ getD t (512 + c) 0 ∷ above ps u (getD t (512 + c) 0))
-    unfolding behind
-    next-some d =
-        let n = getD t (512 + c) 0 in
-        let p = lowest-is (length ps) c n behind next-is d in
-        let q = and-eq-true-iff (leb (c + 1) n) (isChild ps u n) .0 (p .1) in
-        let m = leb-true (c + 1) n (q .0) in
-        (is-child ps u n (p .0) (q .1), omega arith, below-rest (length ps) n behind (p .0) (p .1) (p .2) ∙ ap (λ (l : List ℕ). n ∷ l) (below-cong (length ps) _ _ (higher n (omega arith))))
+    pub some-from : childrenFrom ps u i ≡ c ∷ childrenFrom ps u (c + 1)
+    some-from =
+        below-rest (length ps) c (isChildFrom ps u i) (found-from .0) (found-from .1) (found-from .2)
+        ∙ ap (λ (l : List ℕ). c ∷ l) (below-cong (length ps) _ (isChildFrom ps u (c + 1)) (λ v. higher v (leb (c + 1) v) refl))
       where
-        higher : (n : ℕ) → c < n → (v : ℕ) → ((leb (n + 1) v) && (behind v)) ≡ ((leb (n + 1) v) && (isChild ps u v))
-        higher n m v = go (leb (n + 1) v) refl
-          where
-            go : (b : Bool) → leb (n + 1) v ≡ b → (b && (behind v)) ≡ (b && (isChild ps u v))
-            go true e = let w = leb-true (n + 1) v e in rw (le-leb (c + 1) v (omega arith))
-            go false e = refl
+        higher : (v : ℕ) (b : Bool) → leb (c + 1) v ≡ b → ((leb (c + 1) v) && (isChildFrom ps u i v)) ≡ isChildFrom ps u (c + 1) v
+        higher v true q = rw (q, le-leb i v (omega (arith, leb-true (c + 1) v q, child-from .1)))
+        higher v false q = rw q
+
+-- behind each child the next, by the tables
+pub next-is : {ps t : List ℕ} {u c : ℕ} → Tables ps t → Child ps u c → Lowest ps u (c + 1) (getD t (512 + c) 0)
+next-is {c = c} h k = rw (k .up) at (h .next c (k .lt) (omega arith) (λ e. k .other (sym e ∙ k .up)))
+
+-- what falls from child to child of u, and is 0 at u itself, behind the last
+abbrev pub ahead : ℕ → ℕ → ℕ
+ahead u c = cond (eqb c u) 0 (256 - c)
+
+pub ahead-falls : {ps : List ℕ} {u c n : ℕ} → c ≢ u → c < 256 → Lowest ps u (c + 1) n → ahead u n < ahead u c
+ahead-falls {ps} {u} {c} {n} d l e = rw (ne-eqb c u d) (go (ℕ-discrete n u))
+  where
+    go : Dec (n ≡ u) → ahead u n < 256 - c
+    go (yes q) = rw (eq-eqb n u q) (omega arith)
+    go (no q) = rw (ne-eqb n u q) (omega (arith, child-from e q .1))

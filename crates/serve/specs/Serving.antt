@@ -15,17 +15,41 @@ use Rattle.model.specs.Push.{Move, run}
 use Rattle.model.specs.Plan.{choice}
 use Rattle.model.specs.Calls.Answers.{overwrite}
 use Rattle.model.specs.Calls.Plans.{bytes}
-use Rattle.model.proofs.Trees.{Child}
 use Rattle.model.proofs.Demands.{weight}
 use Rattle.model.proofs.Step.{crossing, need}
 use Rattle.model.proofs.Signed.{nextℤ}
 use Rattle.model.proofs.Serve.{Due, Serves, blocked}
 
--- three tables of 256 entries in a row: a node's parent; its lowest child, or itself; the next child of its parent, or itself
-pub record Tables (ps t : List ℕ) : Type 0 where
+-- the children of u from number i on, rising; and the lowest of them, or u itself if there is none
+abbrev pub isChildFrom : List ℕ → ℕ → ℕ → ℕ → Bool
+isChildFrom ps u i v = (leb i v) && (isChild ps u v)
+
+abbrev pub childrenFrom : List ℕ → ℕ → ℕ → List ℕ
+childrenFrom ps u i = below (length ps) (isChildFrom ps u i)
+
+pub record Lowest (ps : List ℕ) (u i c : ℕ) : Type 0 where
+  pub is : c ≡ headOr u (childrenFrom ps u i)
+
+-- three tables of 256 entries in a row, with the nodes from i on linked: a node's parent; its lowest child, or itself; the next child of its parent,
+-- or the parent itself
+pub record Linked (i : ℕ) (ps t : List ℕ) : Type 0 where
+  pub room : length t ≡ 768
   pub parent : (v : ℕ) → v < length ps → getD t v 0 ≡ up ps v
-  pub first : (u : ℕ) → u < length ps → getD t (256 + u) 0 ≡ headOr u (below (length ps) (isChild ps u))
-  pub next : (c : ℕ) → c < length ps → (up ps c) ≢ c → getD t (512 + c) 0 ≡ headOr c (below (length ps) (λ v. (leb (c + 1) v) && (isChild ps (up ps c) v)))
+  pub first : (u : ℕ) → u < length ps → Lowest ps u i (getD t (256 + u) 0)
+  pub next : (c : ℕ) → c < length ps → i ≤ c → up ps c ≢ c → Lowest ps (up ps c) (c + 1) (getD t (512 + c) 0)
+
+-- with all nodes linked
+abbrev pub Tables : List ℕ → List ℕ → Type 0
+Tables ps t = Linked 0 ps t
+
+-- what making them asks: parents that are nodes
+pub record Parents (ps : List ℕ) : Type 0 where
+  pub few : length ps ≤ 256
+  pub node : (v : ℕ) → v < length ps → up ps v < length ps
+
+-- the tables with v before the children of p
+abbrev pub linkedTo : List ℕ → ℕ → ℕ → List ℕ
+linkedTo t v p = set (set t (512 + v) (getD t (256 + p) 0)) (256 + p) v
 
 -- two tables of 256 entries in a row: a node's demand, and its pebbles
 pub record Kept (y : Yard) (s : List ℤ) : Type 0 where
@@ -51,17 +75,16 @@ pub record Describes (y : Yard) (t : List ℕ) (s : List ℤ) : Type 0 where
 abbrev pub wants : Bool → ℤ → Bool
 wants away d = cond away (ltZ (pos 0) d) (ltZ d (pos 0))
 
--- a child of u that wants so; a child c of u before which there is none; and where to begin looking for one
+-- a child of u that wants so, and where to look for one from: at the lowest child from some number on, before which none wants (at u itself, if there
+-- is no child left)
 abbrev pub wantingChild : Bool → Yard → ℕ → ℕ → Bool
 wantingChild b y u v = (isChild (y .parents) u v) && (wants b (demand y v))
 
-pub record NoneBefore (b : Bool) (y : Yard) (u c : ℕ) : Type 0 where
-  pub child : Child (y .parents) u c
-  pub none : (v : ℕ) → v < c → wantingChild b y u v ≡ false
-
-pub data LookFrom (b : Bool) (y : Yard) (t : List ℕ) (u : ℕ) : ℕ → Type 0 where
-  no-child : getD t (256 + u) 0 ≡ u → LookFrom b y t u u
-  at-child : {c : ℕ} → NoneBefore b y u c → LookFrom b y t u c
+pub record LookFrom (b : Bool) (y : Yard) (u c : ℕ) : Type 0 where
+  pub low : ℕ
+  pub low-le : low ≤ size y
+  pub lowest : Lowest (y .parents) u low c
+  pub none : (v : ℕ) → v < low → wantingChild b y u v ≡ false
 
 -- what filling v (true) or drawing from it (false) asks: that a pebble is due over its edge, and a height that bounds the nodes inside v
 pub record AskedStart (b : Bool) (y : Yard) (t : List ℕ) (s : List ℤ) (v height : ℕ) : Type 0 where

@@ -23,29 +23,23 @@ fn wanted(demand: i16, away: bool) -> bool
     demand < 0
 }
 
-// The child of u that is served wherever one is chosen, or u itself if no child has a demand of the sign wanted. One scan of u's children, which
-// begins at a child before which there is none (at u itself if it has no child).
+// The child of u that is served wherever one is chosen, or u itself if no child has a demand of the sign wanted. One scan of u's children, from one
+// before which there is none.
 pub fn choose_from(t: &[u8; 768], s: &[i16; 512], u: usize, from: usize, away: bool) -> usize
-    requires { ⌜ ((y : Yard) × Describes y (now t) (now s) × (u < size y) × LookFrom away y (now t) u from) ⌝ }
-    ensures { λ r. ⌜ ((y : Yard) → Describes y (now (t .entry)) (now (s .entry)) → u < size y → LookFrom away y (now (t .entry)) u from → r ≡ choice (need y away) y u) ⌝ }
+    requires { ⌜ ((y : Yard) × Describes y (now t) (now s) × (u < size y) × LookFrom away y u from) ⌝ }
+    ensures { λ r. ⌜ ((y : Yard) → Describes y (now (t .entry)) (now (s .entry)) → u < size y → LookFrom away y u from → r ≡ choice (need y away) y u) ⌝ }
 {
-    if from == u {
-        return u;
-    }
     let mut c = from;
-    loop {
+    while c != u {
         if wanted(s[c], away) {
             return c;
         }
-        let next = t[512 + c] as usize;
-        if next == c {
-            return u;
-        }
-        c = next;
+        c = wide(t[512 + c]);
     }
+    u
 }
 
-// The same, with the scan from the lowest child on.
+// The same, from the lowest child on.
 pub fn choose(t: &[u8; 768], s: &[i16; 512], u: usize, away: bool) -> usize
     requires { ⌜ ((y : Yard) × Describes y (now t) (now s) × (u < size y)) ⌝ }
     ensures { λ r. ⌜ ((y : Yard) → Describes y (now (t .entry)) (now (s .entry)) → u < size y → r ≡ choice (need y away) y u) ⌝ }

@@ -1,34 +1,46 @@
 // The tables of a tree: parents, lowest children, next siblings.
-ghost use Prim.Native.Nat.{ℕ, _<_, _≤_};
+ghost use mathlib.Core.Path.{_≡_};
+ghost use Prim.Native.Nat.{_<_, _≤_};
 ghost use lib.ListN.{length};
-ghost use Rattle.model.specs.Yard.{up};
-ghost use Rattle.serve.specs.Serving.{Tables};
+ghost use Rattle.serve.specs.Serving.{Linked, Tables, Parents, linkedTo};
+use crate::choose::wide;
 
-// Made from the highest node down, so that each parent's children come in rising order.
-pub fn tables(parents: &[u8]) -> [u8; 768]
-    requires { ⌜ (length (now parents) ≤ 256) × ((v : ℕ) → v < length (now parents) → up (now parents) v < length (now parents)) ⌝ }
-    ensures { λ t. ⌜ Tables (now (parents .entry)) t ⌝ }
+// With no node linked yet: parents, and each node as its own lowest child.
+fn unlinked(parents: &[u8]) -> [u8; 768]
+    requires { ⌜ length (now parents) ≤ 256 ⌝ }
+    ensures { λ t. ⌜ Linked (length (now (parents .entry))) (now (parents .entry)) t ⌝ }
 {
     let mut t = [0u8; 768];
-    let n = parents.len();
     let mut v = 0;
-    while v < n {
-        let own = v as u8;
+    while v < parents.len() {
         t[v] = parents[v];
-        t[256 + v] = own;
-        t[512 + v] = own;
+        t[256 + v] = v as u8;
         v += 1;
     }
+    t
+}
+
+// Puts v before the children of p that are linked already.
+fn link(t: &mut [u8; 768], v: usize, p: usize)
+    requires { ⌜ (v < 256) × (p < 256) ⌝ }
+    ensures { λ _. ⌜ now (t .exit) ≡ linkedTo (now (t .entry)) v p ⌝ }
+{
+    t[512 + v] = t[256 + p];
+    t[256 + p] = v as u8;
+}
+
+// Linked from the highest node down, so that each parent's children come in rising order.
+pub fn tables(parents: &[u8]) -> [u8; 768]
+    requires { ⌜ Parents (now parents) ⌝ }
+    ensures { λ t. ⌜ Tables (now (parents .entry)) t ⌝ }
+{
+    let mut t = unlinked(parents);
+    let mut v = parents.len();
     while v > 0 {
         v -= 1;
-        let up = parents[v];
-        let p = up as usize;
+        let p = wide(parents[v]);
         if p != v {
-            let first = t[256 + p];
-            t[256 + p] = v as u8;
-            if first != up {
-                t[512 + v] = first;
-            }
+            link(&mut t, v, p);
         }
     }
     t

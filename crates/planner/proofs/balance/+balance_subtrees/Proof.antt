@@ -3,23 +3,25 @@
 use native.Mathlib.Omega.{arith}
 use Prim.Native.Nat.{ℕ, _+_, _-_, _*_, _≤_, _<_}
 use mathlib.Core.Path.{_≡_, sym, _∙_}
-use mathlib.Core.List.{List, _∷_}
+use mathlib.Core.List.{List}
 use lib.ListN.{length}
+use borrow.Author.Needs.{needs}
 use borrow.Fn.Kinds.{In}
 use borrow.Fn.PlainCycle.{Measures, is, falls, and}
 use Rattle.model.specs.Yard.{Yard}
 use Rattle.model.specs.Push.{run}
 use Rattle.model.proofs.Trees.{Child}
 use Rattle.planner.specs.Balancing.{AskedEven}
-use Rattle.serve.proofs.Looking.{node-small, first-lt, next-lt}
+use Rattle.serve.specs.Serving.{childrenFrom}
+use Rattle.serve.proofs.Looking.{node-small}
 use Rattle.serve.proofs.Stretches.{rest, back, made-length}
-use Rattle.serve.proofs.Siblings.{above, first-none, first-some, next-none, next-some}
-use Rattle.planner.proofs.Settle.{leaf-settled}
-use Rattle.planner.proofs.Children.{Left, left-none, AllLeft, all-left, child-lower, child-asked, left-next}
+use Rattle.serve.proofs.Siblings.{next-is, ahead, ahead-falls}
+use Rattle.planner.proofs.Children.{Left, LoopEnded, child-lower, child-asked, left-next, LeftFrom, left-first, left-last, left-child, left-here, left-behind, left-childless}
 use Rattle.planner.proofs.balance.balance_subtrees.Reads as tree
 use Rattle.planner.proofs.balance.balance_subtrees.Kinds as kinds
 use Rattle.planner.proofs.balance.+balance_subtrees.Lts-balance_subtrees as lts
 use Rattle.planner.proofs.balance.settle.Reads as settle
+use Rattle.serve.proofs.choose.wide.Reads as wide
 use Rattle.planner.proofs.balance.+balance_subtrees.{statement}
 use Rattle.planner.proofs.balance.+balance_subtrees.Tie.{close}
 
@@ -32,153 +34,178 @@ tree-at n = and 3 kinds.ps (is 3 kinds.ps μ-tree n) tree.Pre
 abbrev tree-below : ℕ → In 3 kinds.ps
 tree-below n = and 3 kinds.ps (falls 3 kinds.ps _<_ μ-tree n) tree.Pre
 
+abbrev claims : ℕ → lts.Claims
+claims n = (settle.Asked, settle.Learnt, wide.Asked, wide.Learnt, tree-below n, tree.Post)
+
 abbrev Inv-loop : lts.InvT-loop
-Inv-loop t s₀ plan₀ u height first k₀ c₀ s plan k c =
-    (y : Yard) (before : List ℕ) → AllLeft y before t s₀ plan₀ k₀ u height → Child (y .parents) u c × Left y u s before plan k (c ∷ above (y .parents) u c)
+Inv-loop t s₀ plan₀ u height k₀ c₀ s plan k c = (y : Yard) (before : List ℕ) → LoopEnded y before t s₀ plan₀ k₀ u height → LeftFrom y u s before plan k c
 
 abbrev μ-loop : lts.MeasureT-loop
-μ-loop t s₀ plan₀ u height first k₀ c₀ s plan k c = 256 - c
+μ-loop t s₀ plan₀ u height k₀ c₀ s plan k c = ahead u c
 
 module _ (n : ℕ) where
-  add-first : lts.Need-add-first (settle.Asked, settle.Learnt, tree-below n, tree.Post) (tree-at n) tree.Post Inv-loop μ-loop
-  add-first c = let a = c .before .pre .1 .1 in omega (arith, node-small (a .described) (a .node))
+  settle-requires : lts.Need-settle-requires (claims n) (tree-at n) tree.Post Inv-loop μ-loop
+  settle-requires c κs = c .before .before .before .pre .1
 
-  element-copy-out-first : lts.Need-element-copy-out-first (settle.Asked, settle.Learnt, tree-below n, tree.Post) (tree-at n) tree.Post Inv-loop μ-loop
-  element-copy-out-first c = let a = c .before .pre .1 .1 in omega (arith, node-small (a .described) (a .node))
+  add-wide : lts.Need-add-wide (claims n) (tree-at n) tree.Post Inv-loop μ-loop
+  add-wide c = let a = c .before .before .before .before .before .before .pre .1 .1 in omega (arith, node-small (a .described) (a .node))
 
-  cast-first : lts.Need-cast-first (settle.Asked, settle.Learnt, tree-below n, tree.Post) (tree-at n) tree.Post Inv-loop μ-loop
-  cast-first c = let a = c .before .before .pre .1 .1 in omega (arith, node-small (a .described) (first-lt (a .described) (a .node)))
+  element-copy-out-wide : lts.Need-element-copy-out-wide (claims n) (tree-at n) tree.Post Inv-loop μ-loop
+  element-copy-out-wide c = let a = c .before .before .before .before .before .before .pre .1 .1 in omega (arith, node-small (a .described) (a .node))
 
-  returns : lts.Need-returns (settle.Asked, settle.Learnt, tree-below n, tree.Post) (tree-at n) tree.Post Inv-loop μ-loop
-  returns c y a = left-none (rw (first-none (a .described .tables) (a .node) (c .if1 .taken)) at (all-left a (leaf-settled a (c .if1 .taken)) .left))
+  wide-requires : lts.Need-wide-requires (claims n) (tree-at n) tree.Post Inv-loop μ-loop
+  wide-requires c κs = search needs
 
-  settle-requires : lts.Need-settle-requires (settle.Asked, settle.Learnt, tree-below n, tree.Post) (tree-at n) tree.Post Inv-loop μ-loop
-  settle-requires c κs = c .before .before .before .before .before .pre .1
+  loop-holds : lts.Need-loop-holds (claims n) (tree-at n) tree.Post Inv-loop μ-loop
+  loop-holds c y before a = left-first (a .asked) (a .loop) (c .wide .ensures .0)
 
-  -- the loop at u has ended
-  start : (c : lts.After-settle (settle.Asked, settle.Learnt, tree-below n, tree.Post) (tree-at n) tree.Post Inv-loop μ-loop) (y : Yard)
-      → let s = c .before .before .before .before .before .before .args in
-      AskedEven y (s .t .now) (s .s .now) (s .plan .now) (s .u) (s .height)
-      → AllLeft y (s .plan .now) (s .t .now) (c .settle .last .1 .0) (c .settle .last .1 .1 .0) (c .settle .result) (s .u) (s .height)
-  start c y a = all-left a (c .settle .ensures y a)
+  -- the call that a loop's head belongs to, and what its loop at u left
+  abbrev call : lts.At-loop (claims n) (tree-at n) tree.Post Inv-loop μ-loop → lts.Start (claims n) (tree-at n) tree.Post Inv-loop μ-loop
+  call c = c .before .before .before .before .before .before .before .before .before
 
-  loop-holds : lts.Need-loop-holds (settle.Asked, settle.Learnt, tree-below n, tree.Post) (tree-at n) tree.Post Inv-loop μ-loop
-  loop-holds c y before a =
-      let f = first-some (a .asked .described .tables) (a .asked .node) (c .before .before .before .before .before .if1 .left) in
-      (f .0, rw (f .1) at (a .left))
+  abbrev Ended : lts.At-loop (claims n) (tree-at n) tree.Post Inv-loop μ-loop → Yard → List ℕ → Type 0
+  Ended c y before =
+      let s = call c .args in
+      let e = c .before .before .before .before .before .settle in
+      LoopEnded y before (s .t .now) (e .last .1 .0) (e .last .1 .1 .0) (e .result) (s .u) (s .height)
 
-  -- at the loop's head: the child at hand, what it asks, and what was used of the list
-  abbrev From : lts.At-loop (settle.Asked, settle.Learnt, tree-below n, tree.Post) (tree-at n) tree.Post Inv-loop μ-loop → Yard → List ℕ → Type 0
-  From c y before =
-      let s = c .before .before .before .before .before .before .before .before .before .args in
-      let e = c .before .before .before .settle in
-      AllLeft y before (s .t .now) (e .last .1 .0) (e .last .1 .1 .0) (e .result) (s .u) (s .height)
+  ended : (c : lts.At-loop (claims n) (tree-at n) tree.Post Inv-loop μ-loop) (y : Yard)
+      → let s = call c .args in
+      AskedEven y (s .t .now) (s .s .now) (s .plan .now) (s .u) (s .height) → Ended c y (s .plan .now)
+  ended c y a = record { entry = _; asked = a; loop = c .before .before .before .before .before .settle .ensures y a }
 
-  here : (c : lts.At-loop (settle.Asked, settle.Learnt, tree-below n, tree.Post) (tree-at n) tree.Post Inv-loop μ-loop) (y : Yard) (before : List ℕ) (a : From c y before)
-      → let s = c .before .before .before .before .before .before .before .before .before .args in
-      AskedEven (run y (c .loop .inv y before a .1 .begun .moves)) (s .t .now) (c .loop .s) (rest (c .loop .plan) (c .loop .k)) (c .loop .c) (s .height - 1)
-  here c y before a = let l = c .loop .inv y before a in child-asked (a .asked) (l .0) (l .1)
+  -- what is left at a loop's head, for the yard that the call asked for, and what was used of the list
+  left : (c : lts.At-loop (claims n) (tree-at n) tree.Post Inv-loop μ-loop) → LeftFrom (call c .pre .1 .0) (call c .args .u) (c .loop .s) (call c .args .plan .now) (c .loop .plan) (c .loop .k) (c .loop .c)
+  left c = c .loop .inv _ _ (ended c _ (call c .pre .1 .1))
 
-  first : (c : lts.At-loop (settle.Asked, settle.Learnt, tree-below n, tree.Post) (tree-at n) tree.Post Inv-loop μ-loop) → From c (c .before .before .before .before .before .before .before .before .before .pre .1 .0) (c .before .before .before .before .before .before .before .before .before .args .plan .now)
-  first c = start (c .before .before .before) _ (c .before .before .before .before .before .before .before .before .before .pre .1 .1)
+  used : (c : lts.At-loop (claims n) (tree-at n) tree.Post Inv-loop μ-loop) → (length (c .loop .plan) ≡ length (call c .args .plan .now)) × (2 * c .loop .k ≤ length (call c .args .plan .now))
+  used c = let b = left c .left .begun in made-length (b .good) (call c .pre .1 .1 .room) (b .made)
 
-  child : (c : lts.At-loop (settle.Asked, settle.Learnt, tree-below n, tree.Post) (tree-at n) tree.Post Inv-loop μ-loop) → Child (c .before .before .before .before .before .before .before .before .before .pre .1 .0 .parents) (c .before .before .before .before .before .before .before .before .before .args .u) (c .loop .c)
-  child c = c .loop .inv _ _ (first c) .0
+  -- the child at hand
+  child : (c : lts.In-loop (claims n) (tree-at n) tree.Post Inv-loop μ-loop) → Child (call (c .before) .pre .1 .0 .parents) (call (c .before) .args .u) (c .before .loop .c)
+  child c = left-child (call (c .before) .pre .1 .1) (left (c .before)) (c .loop-test .taken)
 
-  used : (c : lts.At-loop (settle.Asked, settle.Learnt, tree-below n, tree.Post) (tree-at n) tree.Post Inv-loop μ-loop)
-      → (length (c .loop .plan) ≡ length (c .before .before .before .before .before .before .before .before .before .args .plan .now)) × (2 * c .loop .k ≤ length (c .before .before .before .before .before .before .before .before .before .args .plan .now))
-  used c =
-      let b = c .loop .inv _ _ (first c) .1 .begun in
-      made-length (b .good) (c .before .before .before .before .before .before .before .before .before .pre .1 .1 .room) (b .made)
+  small : (c : lts.In-loop (claims n) (tree-at n) tree.Post Inv-loop μ-loop) → c .before .loop .c < 256
+  small c = node-small (call (c .before) .pre .1 .1 .described) (child c .lt)
 
-  mul-tree : lts.Need-mul-balance-subtrees (settle.Asked, settle.Learnt, tree-below n, tree.Post) (tree-at n) tree.Post Inv-loop μ-loop
-  mul-tree c = omega (arith, used (c .before), c .before .before .before .before .before .before .before .before .before .before .good)
+  add-wide-2 : lts.Need-add-wide-2 (claims n) (tree-at n) tree.Post Inv-loop μ-loop
+  add-wide-2 c = omega (arith, small c)
 
-  sub-tree : lts.Need-sub-balance-subtrees (settle.Asked, settle.Learnt, tree-below n, tree.Post) (tree-at n) tree.Post Inv-loop μ-loop
-  sub-tree c = omega (arith, used (c .before))
+  element-copy-out-wide-2 : lts.Need-element-copy-out-wide-2 (claims n) (tree-at n) tree.Post Inv-loop μ-loop
+  element-copy-out-wide-2 c = omega (arith, small c)
 
-  part-tree-start : lts.Need-part-balance-subtrees-start (settle.Asked, settle.Learnt, tree-below n, tree.Post) (tree-at n) tree.Post Inv-loop μ-loop
-  part-tree-start c = omega (arith, used (c .before))
+  wide-requires-2 : lts.Need-wide-requires-2 (claims n) (tree-at n) tree.Post Inv-loop μ-loop
+  wide-requires-2 c κs = search needs
 
-  part-tree-end : lts.Need-part-balance-subtrees-end (settle.Asked, settle.Learnt, tree-below n, tree.Post) (tree-at n) tree.Post Inv-loop μ-loop
+  add-wide-3 : lts.Need-add-wide-3 (claims n) (tree-at n) tree.Post Inv-loop μ-loop
+  add-wide-3 c = omega (arith, small (c .before .before))
+
+  element-copy-out-wide-3 : lts.Need-element-copy-out-wide-3 (claims n) (tree-at n) tree.Post Inv-loop μ-loop
+  element-copy-out-wide-3 c = omega (arith, small (c .before .before))
+
+  wide-requires-3 : lts.Need-wide-requires-3 (claims n) (tree-at n) tree.Post Inv-loop μ-loop
+  wide-requires-3 c κs = search needs
+
+  -- a turn whose child has children itself
+  abbrev turn : lts.Then1 (claims n) (tree-at n) tree.Post Inv-loop μ-loop → lts.In-loop (claims n) (tree-at n) tree.Post Inv-loop μ-loop
+  turn c = c .before .before .before .before .before
+
+  mul-tree : lts.Need-mul-balance-subtrees (claims n) (tree-at n) tree.Post Inv-loop μ-loop
+  mul-tree c = let l = turn (c .before) .before in omega (arith, used l, call l .good)
+
+  sub-tree : lts.Need-sub-balance-subtrees (claims n) (tree-at n) tree.Post Inv-loop μ-loop
+  sub-tree c = omega (arith, used (turn (c .before) .before))
+
+  part-tree-start : lts.Need-part-balance-subtrees-start (claims n) (tree-at n) tree.Post Inv-loop μ-loop
+  part-tree-start c = omega (arith, used (turn (c .before) .before))
+
+  part-tree-end : lts.Need-part-balance-subtrees-end (claims n) (tree-at n) tree.Post Inv-loop μ-loop
   part-tree-end c = omega arith
 
-  sub-tree-2 : lts.Need-sub-balance-subtrees-2 (settle.Asked, settle.Learnt, tree-below n, tree.Post) (tree-at n) tree.Post Inv-loop μ-loop
-  sub-tree-2 c = omega (arith, child-lower (c .before .before .before .before .before .before .before .before .before .before .before .pre .1 .1) (child (c .before .before)))
+  -- what it asks
+  asks : (c : lts.In-loop (claims n) (tree-at n) tree.Post Inv-loop μ-loop) (y : Yard) (before : List ℕ) (a : Ended (c .before) y before)
+      → let l = c .before in
+      AskedEven (run y (left-here (a .asked) (l .loop .inv y before a) (c .loop-test .taken) .begun .moves)) (call l .args .t .now) (l .loop .s) (rest (l .loop .plan) (l .loop .k)) (l .loop .c) (call l .args .height - 1)
+  asks c y before a =
+      let l = c .before .loop .inv y before a in
+      let d = c .loop-test .taken in
+      child-asked (a .asked) (left-child (a .asked) l d) (left-here (a .asked) l d)
 
-  tree-requires : lts.Need-balance-subtrees-requires (settle.Asked, settle.Learnt, tree-below n, tree.Post) (tree-at n) tree.Post Inv-loop μ-loop
+  sub-tree-2 : lts.Need-sub-balance-subtrees-2 (claims n) (tree-at n) tree.Post Inv-loop μ-loop
+  sub-tree-2 c = let i = turn (c .before .before) in omega (arith, child-lower (call (i .before) .pre .1 .1) (child i))
+
+  tree-requires : lts.Need-balance-subtrees-requires (claims n) (tree-at n) tree.Post Inv-loop μ-loop
   tree-requires c κs =
-      let p = c .before .before .before .before .before .before .before .before .before .before .before .pre in
-      (omega (arith, p .0, child-lower (p .1 .1) (child (c .before .before))), (_, here (c .before .before) _ _ (first (c .before .before))))
+      let i = turn (c .before .before) in
+      let p = call (i .before) .pre in
+      (omega (arith, p .0, child-lower (p .1 .1) (child i)), (_, asks i _ _ (ended (i .before) _ (p .1 .1))))
 
   -- one child more
-  stepped : (c : lts.After-balance-subtrees (settle.Asked, settle.Learnt, tree-below n, tree.Post) (tree-at n) tree.Post Inv-loop μ-loop) (y : Yard) (before : List ℕ)
-      → let l = c .before .before .before in
-      let u = l .before .before .before .before .before .before .before .before .before .args .u in
-      From l y before
-      → Left y u (c .balance-subtrees .last .1 .0) before (back (l .loop .plan) (l .loop .k) (c .balance-subtrees .last .1 .1 .0)) (l .loop .k + c .balance-subtrees .result) (above (y .parents) u (l .loop .c))
+  stepped : (c : lts.After-balance-subtrees (claims n) (tree-at n) tree.Post Inv-loop μ-loop) (y : Yard) (before : List ℕ)
+      → let l = turn (c .before .before .before) .before in
+      Ended l y before
+      → Left y (call l .args .u) (c .balance-subtrees .last .1 .0) before (back (l .loop .plan) (l .loop .k) (c .balance-subtrees .last .1 .1 .0)) (l .loop .k + c .balance-subtrees .result) (childrenFrom (y .parents) (call l .args .u) (l .loop .c + 1))
   stepped c y before a =
-      let l = c .before .before .before in
-      let i = l .loop .inv y before a in
-      left-next (a .asked) (i .0) (i .1) (c .balance-subtrees .ensures _ (here l y before a))
+      let i = turn (c .before .before .before) in
+      let l = i .before .loop .inv y before a in
+      let d = i .loop-test .taken in
+      left-next (a .asked) (left-child (a .asked) l d) (left-here (a .asked) l d) (c .balance-subtrees .ensures _ (asks i y before a))
 
-  used-after : (c : lts.After-balance-subtrees (settle.Asked, settle.Learnt, tree-below n, tree.Post) (tree-at n) tree.Post Inv-loop μ-loop)
-      → let l = c .before .before .before in
-      let plan = l .before .before .before .before .before .before .before .before .before .args .plan .now in
-      (length (back (l .loop .plan) (l .loop .k) (c .balance-subtrees .last .1 .1 .0)) ≡ length plan) × (2 * (l .loop .k + c .balance-subtrees .result) ≤ length plan)
-  used-after c =
-      let b = stepped c _ _ (first (c .before .before .before)) .begun in
-      made-length (b .good) (c .before .before .before .before .before .before .before .before .before .before .before .before .pre .1 .1 .room) (b .made)
+  add-k : lts.Need-add-k (claims n) (tree-at n) tree.Post Inv-loop μ-loop
+  add-k c =
+      let m = c .before .before in
+      let l = turn (m .before .before .before) .before in
+      let p = call l in
+      let b = stepped m _ _ (ended l _ (p .pre .1 .1)) .begun in
+      omega (arith, made-length (b .good) (p .pre .1 .1 .room) (b .made), p .good)
 
-  add-k : lts.Need-add-k (settle.Asked, settle.Learnt, tree-below n, tree.Post) (tree-at n) tree.Post Inv-loop μ-loop
-  add-k c = omega (arith, used-after (c .before .before), c .before .before .before .before .before .before .before .before .before .before .before .before .before .before .good)
+  -- the next child is behind
+  falls-on : (c : lts.After-wide2 (claims n) (tree-at n) tree.Post Inv-loop μ-loop) → ahead (call (c .before .before .before) .args .u) (c .wide2 .result) < ahead (call (c .before .before .before) .args .u) (c .before .before .before .loop .c)
+  falls-on c =
+      let i = c .before .before in
+      rw (c .wide2 .ensures .0) (ahead-falls (i .loop-test .taken) (small i) (next-is (call (i .before) .pre .1 .1 .described .tables) (child i)))
 
-  -- the child at hand is a node
-  child-small : (c : lts.At-loop (settle.Asked, settle.Learnt, tree-below n, tree.Post) (tree-at n) tree.Post Inv-loop μ-loop) → c .loop .c < 256
-  child-small c = node-small (c .before .before .before .before .before .before .before .before .before .pre .1 .1 .described) (child c .lt)
+  loop-less : lts.Need-loop-less (claims n) (tree-at n) tree.Post Inv-loop μ-loop
+  loop-less c = falls-on (c .before .before .before .before .before .before .before .before)
 
-  add-next : lts.Need-add-next (settle.Asked, settle.Learnt, tree-below n, tree.Post) (tree-at n) tree.Post Inv-loop μ-loop
-  add-next c = omega (arith, child-small (c .before .before .before .before .before))
-
-  element-copy-out-next : lts.Need-element-copy-out-next (settle.Asked, settle.Learnt, tree-below n, tree.Post) (tree-at n) tree.Post Inv-loop μ-loop
-  element-copy-out-next c = omega (arith, child-small (c .before .before .before .before .before))
-
-  cast-next : lts.Need-cast-next (settle.Asked, settle.Learnt, tree-below n, tree.Post) (tree-at n) tree.Post Inv-loop μ-loop
-  cast-next c =
-      let a = c .before .before .before .before .before .before .before .before .before .before .before .before .before .before .before .pre .1 .1 in
-      let f = child (c .before .before .before .before .before .before) in
-      omega (arith, node-small (a .described) (next-lt (a .described) (f .lt) (λ e. f .other (sym e ∙ f .up))))
-
-  same-length : lts.Need-same-length (settle.Asked, settle.Learnt, tree-below n, tree.Post) (tree-at n) tree.Post Inv-loop μ-loop
-  same-length c = used-after (c .before .before .before .before) .0
-
-  returns-2 : lts.Need-returns-2 (settle.Asked, settle.Learnt, tree-below n, tree.Post) (tree-at n) tree.Post Inv-loop μ-loop
-  returns-2 c y a =
-      let z = start (c .before .before .before .before .before .before .before .before .before .before) y a in
-      left-none (rw (next-none (a .described .tables) (c .before .before .before .before .before .before .before .loop .inv y _ z .0) (c .if2 .taken)) at (stepped (c .before .before .before .before) y _ z))
-
-  loop-less : lts.Need-loop-less (settle.Asked, settle.Learnt, tree-below n, tree.Post) (tree-at n) tree.Post Inv-loop μ-loop
-  loop-less c =
-      let a = c .before .before .before .before .before .before .before .before .before .before .before .before .before .before .before .before .pre .1 .1 in
-      let f = next-some (a .described .tables) (child (c .before .before .before .before .before .before .before)) (c .if2 .left) in
-      omega (arith, f .1, node-small (a .described) (f .0 .lt))
-
-  loop-again : lts.Need-loop-again (settle.Asked, settle.Learnt, tree-below n, tree.Post) (tree-at n) tree.Post Inv-loop μ-loop
+  loop-again : lts.Need-loop-again (claims n) (tree-at n) tree.Post Inv-loop μ-loop
   loop-again c y before a =
-      let f = next-some (a .asked .described .tables) (c .before .before .before .before .before .before .before .loop .inv y before a .0) (c .if2 .left) in
-      (f .0, rw (f .2) at (stepped (c .before .before .before .before) y before a))
+      let m = c .before .before in
+      let w = m .before .before .before .before .before .before in
+      let i = w .before .before in
+      left-behind (a .asked) (i .before .loop .inv y before a) (i .loop-test .taken) (w .wide2 .ensures .0) (stepped m y before a)
+
+  loop-less-2 : lts.Need-loop-less-2 (claims n) (tree-at n) tree.Post Inv-loop μ-loop
+  loop-less-2 c = falls-on (c .before .before .before)
+
+  loop-again-2 : lts.Need-loop-again-2 (claims n) (tree-at n) tree.Post Inv-loop μ-loop
+  loop-again-2 c y before a =
+      let w = c .before .before .before in
+      let i = w .before .before in
+      left-childless (a .asked) (i .before .loop .inv y before a) (i .loop-test .taken) (w .wide2 .ensures .0) (sym (c .before .wide3 .ensures .0) ∙ c .if1 .left)
+
+  same-length : lts.Need-same-length (claims n) (tree-at n) tree.Post Inv-loop μ-loop
+  same-length c = used (c .before) .0
+
+  returns : lts.Need-returns (claims n) (tree-at n) tree.Post Inv-loop μ-loop
+  returns c y a = left-last a (c .before .loop .inv y _ (ended (c .before) y a)) (c .loop-test .left)
 
 pub +balance-subtrees-spec : {M : Type 1} → statement M
 +balance-subtrees-spec =
     close
     μ-tree
-    λ n. lts.spec (settle.Asked, settle.Learnt, tree-below n, tree.Post) (tree-at n) tree.Post Inv-loop μ-loop
-    (add-first n)
-    (element-copy-out-first n)
-    (cast-first n)
-    (returns n)
+    λ n. lts.spec (claims n) (tree-at n) tree.Post Inv-loop μ-loop
     (settle-requires n)
+    (add-wide n)
+    (element-copy-out-wide n)
+    (wide-requires n)
     (loop-holds n)
+    (add-wide-2 n)
+    (element-copy-out-wide-2 n)
+    (wide-requires-2 n)
+    (add-wide-3 n)
+    (element-copy-out-wide-3 n)
+    (wide-requires-3 n)
     (mul-tree n)
     (sub-tree n)
     (part-tree-start n)
@@ -186,10 +213,9 @@ pub +balance-subtrees-spec : {M : Type 1} → statement M
     (sub-tree-2 n)
     (tree-requires n)
     (add-k n)
-    (add-next n)
-    (element-copy-out-next n)
-    (cast-next n)
-    (same-length n)
-    (returns-2 n)
     (loop-less n)
     (loop-again n)
+    (loop-less-2 n)
+    (loop-again-2 n)
+    (same-length n)
+    (returns n)

@@ -15,7 +15,7 @@ use Rattle.planner.proofs.balance.settle.Statement.{statement}
 use Rattle.planner.proofs.balance.settle.Tie as tie
 
 abbrev Inv-loop : tie.InvT-loop
-Inv-loop t s₀ plan₀ u height first k₀ injected₀ extracted₀ s plan k injected extracted = (y : Yard) → AskedEven y t s₀ plan₀ u height → Turned y t u s plan₀ plan k injected extracted
+Inv-loop t s₀ plan₀ u height first k₀ injected₀ extracted₀ s plan k injected extracted = (y : Yard) → AskedEven y t s₀ plan₀ u height → Turned y u s plan₀ plan k injected extracted
 
 abbrev μ-loop : tie.MeasureT-loop
 μ-loop t s₀ plan₀ u height first k₀ injected₀ extracted₀ s plan k injected extracted = length plan₀ - 2 * k
@@ -122,7 +122,7 @@ stepped : (c : tie.After-move-pebbles Inv-loop μ-loop) (y : Yard)
     let l = t .before .before .before .before .before .before .before .before in
     let s = call l .args in
     AskedEven y (s .t .now) (s .s .now) (s .plan .now) (s .u) (s .height)
-    → Turned y (s .t .now) (s .u) (c .move-pebbles .last .1 .0) (s .plan .now) (back (l .loop .plan) (l .loop .k) (c .move-pebbles .last .1 .1 .0)) (l .loop .k + c .move-pebbles .result) (t .before .before .before .either .result) (t .before .before .either2 .result)
+    → Turned y (s .u) (c .move-pebbles .last .1 .0) (s .plan .now) (back (l .loop .plan) (l .loop .k) (c .move-pebbles .last .1 .1 .0)) (l .loop .k + c .move-pebbles .result) (t .before .before .before .either .result) (t .before .before .either2 .result)
     × (0 < c .move-pebbles .result)
 stepped c y a =
     let t = c .before .before .before in

@@ -39,7 +39,7 @@ returns c =
 tables-requires : tie.Need-tables-requires
 tables-requires c κs =
     let t = c .before .before .before .before .before .before .before .before .before .before .pre .0 in
-    (facts _ t .few .1, wood _ t .parent-lt)
+    record { few = facts _ t .few .1; node = wood _ t .parent-lt }
 
 first-own-requires : tie.Need-first-own-requires
 first-own-requires c κs = search needs
