@@ -25,7 +25,7 @@ use Rattle.model.proofs.Shortest.{Good, keeps}
 use Rattle.model.proofs.Choice.{all-needy, none-needy}
 use Rattle.model.proofs.Serve.{Due, Serves, serves-shift}
 use Rattle.model.proofs.Balance.{Settles, settled, turned, turn-due, first-needy}
-use Rattle.serve.specs.Serving.{Describes, LookFrom, Made, AskedStart, Start, AskedMoves}
+use Rattle.serve.specs.Serving.{Describes, LookFrom, AskedChoice, AskedStart, Start, AskedMoves, Made, Served}
 use Rattle.planner.specs.Balancing.{AskedEven}
 use Rattle.serve.proofs.Serving.{mark-is}
 use Rattle.serve.proofs.Looking.{from-first, from-chosen, from-after}
@@ -54,17 +54,24 @@ even-after {y} {ms} {u = u} a g d = record {
   high = a .high;
 }
 
--- a turn at u, in a yard where u is even
-module _ {y : Yard} {t : List ℕ} {s : List ℤ} {plan : List ℕ} {u h : ℕ} (a : AskedEven y t s plan u h) {b : Bool} (e : b ≡ held y u) {c : ℕ} (q : c ≡ choice (need y b) y u) where
-  some-need : (v : ℕ) → 0 < need y b v → 0 < imbalance y v
-  some-need v n = go b n
-    where
-      go : (b : Bool) → 0 < need y b v → 0 < imbalance y v
-      go true n = omega arith
-      go false n = omega arith
+-- a turn at u, in a yard where u is even: whether u holds a pebble says which child is chosen
+pub record Turn (y : Yard) (t : List ℕ) (s : List ℤ) (plan : List ℕ) (u h c : ℕ) : Type 0 where
+  pub asked : AskedEven y t s plan u h
+  pub chosen : c ≡ choice (need y (readHeld s u)) y u
+
+some-need : (y : Yard) (b : Bool) (v : ℕ) → 0 < need y b v → 0 < imbalance y v
+some-need y true v n = omega arith
+some-need y false v n = omega arith
+
+module _ {y : Yard} {t : List ℕ} {s : List ℤ} {plan : List ℕ} {u h c : ℕ} (r : Turn y t s plan u h c) where
+  abbrev a : AskedEven y t s plan u h
+  a = r .asked
+
+  abbrev b : Bool
+  b = readHeld s u
 
   due-chosen : (v : ℕ) → Child (y .parents) u v → 0 < imbalance y v → Due y b c
-  due-chosen v k n = rw q (turn-due y (a .described .tree) u (a .node) (a .even) v k n b (sym e))
+  due-chosen v k n = rw (r .chosen) (turn-due y (a .described .tree) u (a .node) (a .even) v k n b (sym (read-held (a .described) (a .node))))
 
   -- the loop ends
   pub none-chosen : c ≡ u → Settles y u []
@@ -74,19 +81,19 @@ module _ {y : Yard} {t : List ℕ} {s : List ℤ} {plan : List ℕ} {u h : ℕ} 
       go [] p = settled p
       go (v ∷ l) p =
           let n = first-needy y u v l p in
-          absurd (omega (arith, a .even, some-need u (rw f at (due-chosen v (n .0) (n .1) .needs))))
+          absurd (omega (arith, a .even, some-need y b u (rw f at (due-chosen v (n .0) (n .1) .needs))))
 
   module _ (d : c ≢ u) where
     chosen-needs : Child (y .parents) u c × (0 < need y b c)
     unfolding choice
-    chosen-needs = go (needy (need y b) y u) (all-needy (need y b) y u) q
+    chosen-needs = go (needy (need y b) y u) (all-needy (need y b) y u) (r .chosen)
       where
         go : (l : List ℕ) → All (λ v. Child (y .parents) u v × (0 < need y b v)) l → c ≡ headOr u l → Child (y .parents) u c × (0 < need y b c)
         go [] n f = absurd (d f)
         go (v ∷ l) n f = rw f (n .0)
 
     due : Due y b c
-    due = due-chosen c (chosen-needs .0) (some-need c (chosen-needs .1))
+    due = due-chosen c (chosen-needs .0) (some-need y b c (chosen-needs .1))
 
     pub turn-asked : AskedStart b y t s c h
     turn-asked = record {
@@ -96,49 +103,60 @@ module _ {y : Yard} {t : List ℕ} {s : List ℤ} {plan : List ℕ} {u h : ℕ} 
     }
 
     pub turn-moves : {low : ℕ} → Start b y c low → AskedMoves b y t s plan low c
-    turn-moves r = record { described = a .described; due = due; start = r; room = a .room }
+    turn-moves f = record { described = a .described; due = due; start = f; room = a .room }
 
     module _ {ms : List Move} (v : Serves y b c ms) where
-      pub turn-good : Good y ms × (0 < length ms)
+      turn-good : Good y ms × (0 < length ms)
       turn-good = let w = serves-shift y (a .described .tree) v due in (w .good, w .some)
 
-      pub turn-settles : (ns : List Move) → Settles (run y ms) u ns → Settles y u (ms ++ ns)
-      turn-settles ns r = go (needy (imbalance y) y u) refl
+      turn-settles : (ns : List Move) → Settles (run y ms) u ns → Settles y u (ms ++ ns)
+      turn-settles ns f = go (needy (imbalance y) y u) refl
         where
           go : (l : List ℕ) → needy (imbalance y) y u ≡ l → Settles y u (ms ++ ns)
-          go [] p = absurd (omega (arith, some-need c (chosen-needs .1), none-needy (imbalance y) y u p c (chosen-needs .0)))
-          go (w ∷ l) p = turned p (rw (q, e) at v) r
+          go [] p = absurd (omega (arith, some-need y b c (chosen-needs .1), none-needy (imbalance y) y u p c (chosen-needs .0)))
+          go (w ∷ l) p = turned p (rw (r .chosen, read-held (a .described) (a .node)) at v) f
 
 -- where looking goes on in the loop: for a child to fill, at the one filled last, and for one to draw from, at the one drawn from last
 pub record LooksFrom (y : Yard) (u injected extracted : ℕ) : Type 0 where
   pub inject : LookFrom true y u injected
   pub extract : LookFrom false y u extracted
 
-pub look-for : {y : Yard} {u injected extracted : ℕ} (b : Bool) → LooksFrom y u injected extracted → LookFrom b y u (cond b injected extracted)
+look-for : {y : Yard} {u injected extracted : ℕ} (b : Bool) → LooksFrom y u injected extracted → LookFrom b y u (cond b injected extracted)
 look-for true h = h .inject
 look-for false h = h .extract
 
+pub choice-asked : {y : Yard} {t : List ℕ} {s : List ℤ} {plan : List ℕ} {u h injected extracted : ℕ} (b : Bool)
+    → AskedEven y t s plan u h → LooksFrom y u injected extracted → AskedChoice b y t s u (cond b injected extracted)
+choice-asked b a f = record { described = a .described; node = a .node; from = look-for b f }
+
 -- after a turn it is the child that was chosen, for its sign
-pub looks-next : {y : Yard} {ms : List Move} {u c injected extracted injected′ extracted′ : ℕ} (b : Bool) → LooksFrom y u injected extracted → Tree y → Good y ms
+looks-next : {y : Yard} {ms : List Move} {u c injected extracted injected′ extracted′ : ℕ} (b : Bool) → LooksFrom y u injected extracted → Tree y → Good y ms
     → c ≡ choice (need y b) y u → c ≢ u → injected′ ≡ cond b c injected → extracted′ ≡ cond b extracted c → LooksFrom (run y ms) u injected′ extracted′
 looks-next true h w g q d e f = rw (e, f) record { inject = from-after w g (from-chosen q d); extract = from-after w g (h .extract) }
 looks-next false h w g q d e f = rw (e, f) record { inject = from-after w g (h .inject); extract = from-after w g (from-chosen q d) }
 
--- some turns were made
+-- some turns were made, and one more, of one move at least
 pub record Turned (y : Yard) (u : ℕ) (s : List ℤ) (before plan : List ℕ) (k injected extracted : ℕ) : Type 0 where
   pub begun : Begun y s before plan k (Settles y u) (λ z. Settles z u)
   pub looks : LooksFrom (run y (begun .moves)) u injected extracted
 
 pub turn-none : {y : Yard} {t : List ℕ} {s : List ℤ} {plan : List ℕ} {u c h : ℕ} → AskedEven y t s plan u h → c ≡ getD t (256 + u) 0 → Turned y u s plan plan 0 c c
 unfolding begin after
-turn-none {y} {t} {s} {u = u} a e = record {
+turn-none {u = u} a e = record {
   begun = begin {Ahead = λ z. Settles z u} (a .described .kept);
   looks = record { inject = from-first (a .described) (a .node) e; extract = from-first (a .described) (a .node) e };
 }
 
-pub turn-more : {y : Yard} {u : ℕ} {s s′ : List ℤ} {before plan part : List ℕ} {k m injected extracted injected′ extracted′ : ℕ}
-    (w : Turned y u s before plan k injected extracted) (ns : List Move) → Good (run y (w .begun .moves)) ns → Made (run y (w .begun .moves)) ns s′ (rest plan k) part m
-    → ((ps : List Move) → Settles (run (run y (w .begun .moves)) ns) u ps → Settles (run y (w .begun .moves)) u (ns ++ ps))
-    → LooksFrom (run (run y (w .begun .moves)) ns) u injected′ extracted′ → Turned y u s′ before (back plan k part) (k + m) injected′ extracted′
+pub turn-more : {y : Yard} {t : List ℕ} {u h c : ℕ} {s s′ : List ℤ} {before plan part : List ℕ} {k m injected extracted injected′ extracted′ : ℕ}
+    (w : Turned y u s before plan k injected extracted) → Turn (run y (w .begun .moves)) t s (rest plan k) u h c → c ≢ u
+    → Served (readHeld s u) (run y (w .begun .moves)) c s′ (rest plan k) part m → injected′ ≡ cond (readHeld s u) c injected → extracted′ ≡ cond (readHeld s u) extracted c
+    → Turned y u s′ before (back plan k part) (k + m) injected′ extracted′ × (0 < m)
 unfolding go-on
-turn-more {y} w ns g d f h = record { begun = go-on (w .begun) ns g d f; looks = rw (after-append (w .begun .moves) ns y) h }
+turn-more {y} {u = u} {s = s} w r d v e f =
+    let g = turn-good r d (v .serves) in (
+      record {
+        begun = go-on (w .begun) (v .moves) (g .0) (v .made) (turn-settles r d (v .serves));
+        looks = rw (after-append (w .begun .moves) (v .moves) y) (looks-next (readHeld s u) (w .looks) (r .asked .described .tree) (g .0) (r .chosen) d e f);
+      },
+      omega (arith, g .1, v .made .counted),
+    )

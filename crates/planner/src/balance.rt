@@ -1,11 +1,11 @@
 // Algorithm 1: balancing the subtrees of a node.
 ghost use mathlib.Core.Path.{_≡_};
 ghost use mathlib.Core.Bool.{cond};
-ghost use Prim.Native.Nat.{_<_};
-ghost use Rattle.model.specs.Yard.{Yard, size};
+ghost use Rattle.model.specs.Yard.{Yard};
 ghost use Rattle.model.specs.Plan.{choice};
 ghost use Rattle.model.proofs.Step.{need};
-ghost use Rattle.serve.specs.Serving.{Describes, LookFrom, AskedStart, Start};
+ghost use Rattle.serve.specs.Lent.{was, became};
+ghost use Rattle.serve.specs.Serving.{AskedChoice, AskedStart, Start};
 ghost use Rattle.planner.specs.Balancing.{AskedEven, Settled, Balanced};
 use serve::choose::choose_from;
 use serve::choose::wide;
@@ -16,7 +16,7 @@ use serve::pebble::move_pebbles;
 // Where a turn of the loop begins, which fills the child c or draws from it.
 fn turn_start(t: &[u8; 768], s: &[i16; 512], c: usize, away: bool, height: usize) -> usize
     requires { ⌜ ((y : Yard) × AskedStart away y (now t) (now s) c height) ⌝ }
-    ensures { λ r. ⌜ ((y : Yard) → AskedStart away y (now (t .entry)) (now (s .entry)) c height → Start away y c r) ⌝ }
+    ensures { λ r. ⌜ ((y : Yard) → AskedStart away y (was t) (was s) c height → Start away y c r) ⌝ }
 {
     if away {
         return inject_start(t, s, c, height);
@@ -44,8 +44,8 @@ fn choose_next(
     extracted: usize,
     away: bool,
 ) -> usize
-    requires { ⌜ ((y : Yard) × Describes y (now t) (now s) × (u < size y) × LookFrom away y u (cond away injected extracted)) ⌝ }
-    ensures { λ r. ⌜ ((y : Yard) → Describes y (now (t .entry)) (now (s .entry)) → u < size y → LookFrom away y u (cond away injected extracted) → r ≡ choice (need y away) y u) ⌝ }
+    requires { ⌜ ((y : Yard) × AskedChoice away y (now t) (now s) u (cond away injected extracted)) ⌝ }
+    ensures { λ r. ⌜ ((y : Yard) → AskedChoice away y (was t) (was s) u (cond away injected extracted) → r ≡ choice (need y away) y u) ⌝ }
 {
     if away {
         return choose_from(t, s, u, injected, true);
@@ -57,7 +57,7 @@ fn choose_next(
 // then none has any, as u's own demand is 0. No demand grows, so a child passed over once for a sign is not looked at again.
 fn settle(t: &[u8; 768], s: &mut [i16; 512], plan: &mut [u8], u: usize, height: usize) -> usize
     requires { ⌜ ((y : Yard) × AskedEven y (now t) (now s) (now plan) u height) ⌝ }
-    ensures { λ r. ⌜ ((y : Yard) → AskedEven y (now (t .entry)) (now (s .entry)) (now (plan .entry)) u height → Settled y u (now (s .exit)) (now (plan .entry)) (now (plan .exit)) r) ⌝ }
+    ensures { λ r. ⌜ ((y : Yard) → AskedEven y (was t) (was s) (was plan) u height → Settled y u (became s) (was plan) (became plan) r) ⌝ }
 {
     let first = wide(t[256 + u]);
     let mut k = 0;
@@ -87,7 +87,7 @@ pub fn balance_subtrees(
     height: usize,
 ) -> usize
     requires { ⌜ ((y : Yard) × AskedEven y (now t) (now s) (now plan) u height) ⌝ }
-    ensures { λ r. ⌜ ((y : Yard) → AskedEven y (now (t .entry)) (now (s .entry)) (now (plan .entry)) u height → Balanced y u (now (s .exit)) (now (plan .entry)) (now (plan .exit)) r) ⌝ }
+    ensures { λ r. ⌜ ((y : Yard) → AskedEven y (was t) (was s) (was plan) u height → Balanced y u (became s) (was plan) (became plan) r) ⌝ }
 {
     let mut k = settle(t, s, plan, u, height);
     let mut c = wide(t[256 + u]);

@@ -19,15 +19,15 @@ use Rattle.serve.specs.Serving.{isChildFrom, Lowest, Linked, linkedTo}
 
 -- the nodes below i are entered
 pub record Entered (i : ℕ) (ps t : List ℕ) : Type 0 where
-  pub room : length t ≡ 768
+  pub long : length t ≡ 768
   pub parent : (v : ℕ) → v < i → getD t v 0 ≡ up ps v
   pub first : (u : ℕ) → u < i → getD t (256 + u) 0 ≡ u
 
 pub enter : {i : ℕ} {ps t : List ℕ} → Entered i ps t → i < 256 → Entered (i + 1) ps (set (set t i (up ps i)) (256 + i) i)
 enter {i} {ps} {t} f l =
-    let r = f .room in
+    let r = f .long in
     record {
-      room = simp length-set r;
+      long = simp length-set r;
       parent = below-more _ i (λ v k. rest v (omega arith) (omega arith) ∙ f .parent v k)
           (getD-set-other (set t i (up ps i)) (256 + i) i i 0 (omega arith) ∙ getD-set-same t i (up ps i) 0 (omega arith));
       first = below-more _ i (λ u k. rest (256 + u) (omega arith) (omega arith) ∙ f .first u k)
@@ -41,7 +41,7 @@ enter {i} {ps} {t} f l =
 pub entered : {i : ℕ} {ps t : List ℕ} → Entered i ps t → length ps ≤ i → Linked (length ps) ps t
 entered {i} {ps} f l =
     record {
-      room = f .room;
+      long = f .long;
       parent = λ v k. f .parent v (omega arith);
       first = λ u k. record { is = f .first u (omega arith) ∙ missed (length ps) u (isChildFrom ps u (length ps)) (λ v m. rw (lt-leb (length ps) v m)) };
       next = λ c k m d. absurd (omega arith);
@@ -61,7 +61,7 @@ module _ (v : ℕ) {ps t : List ℕ} (f : Linked (v + 1) ps t) where
   pub root-link : up ps v ≡ v → Linked v ps t
   root-link e =
       record {
-        room = f .room;
+        long = f .long;
         parent = f .parent;
         first = λ u k. other-parent u (free u (ℕ-discrete v u)) (f .first u k);
         next = λ c k m d. f .next c k (higher c m d (ℕ-discrete c v)) d;
@@ -79,7 +79,7 @@ module _ (v : ℕ) {ps t : List ℕ} (f : Linked (v + 1) ps t) where
   pub child-link : v < length ps → length ps ≤ 256 → up ps v < length ps → up ps v ≢ v → Linked v ps (linkedTo t v (up ps v))
   child-link l small k d =
       record {
-        room = simp length-set (f .room);
+        long = simp length-set (f .long);
         parent = λ w m. rest w (omega arith) (omega arith) ∙ f .parent w m;
         first = λ u m. first u m (ℕ-discrete (up ps v) u);
         next = λ c m b n. next c m b n (ℕ-discrete c v);
@@ -92,12 +92,12 @@ module _ (v : ℕ) {ps t : List ℕ} (f : Linked (v + 1) ps t) where
       first u m (yes q) =
           let child = child-is ps (up ps v) v record { lt = l; up = refl; other = λ b. d (sym b) } in
           rw (← q) (record {
-            is = getD-set-same (set t (512 + v) (getD t (256 + up ps v) 0)) (256 + up ps v) v 0 (simp length-set (omega (arith, f .room)))
+            is = getD-set-same (set t (512 + v) (getD t (256 + up ps v) 0)) (256 + up ps v) v 0 (simp length-set (omega (arith, f .long)))
                 ∙ found (length ps) (up ps v) v (isChildFrom ps (up ps v) v) l (λ w b. rw (lt-leb v w b)) (rw (le-leb v v (omega arith)) child);
           })
       first u m (no q) = rw (rest (256 + u) (omega arith) (omega arith)) (other-parent u (rw (ne-eqb (up ps v) u q)) (f .first u m))
 
       next : (c : ℕ) → c < length ps → v ≤ c → up ps c ≢ c → Dec (c ≡ v) → Lowest ps (up ps c) (c + 1) (getD (linkedTo t v (up ps v)) (512 + c) 0)
       next c m b n (yes q) =
-          rw (q, getD-set-other (set t (512 + v) (getD t (256 + up ps v) 0)) (256 + up ps v) (512 + v) v 0 (omega arith), getD-set-same t (512 + v) (getD t (256 + up ps v) 0) 0 (omega (arith, f .room))) (f .first (up ps v) k)
+          rw (q, getD-set-other (set t (512 + v) (getD t (256 + up ps v) 0)) (256 + up ps v) (512 + v) v 0 (omega arith), getD-set-same t (512 + v) (getD t (256 + up ps v) 0) 0 (omega (arith, f .long))) (f .first (up ps v) k)
       next c m b n (no q) = rw (rest (512 + c) (omega arith) (omega arith)) (f .next c m (omega arith) n)

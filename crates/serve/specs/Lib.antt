@@ -1,2 +1,3 @@
 -- What the helpers of the planner promise one another.
+pub mod Lent
 pub mod Serving

@@ -33,7 +33,7 @@ pub record Lowest (ps : List ℕ) (u i c : ℕ) : Type 0 where
 -- three tables of 256 entries in a row, with the nodes from i on linked: a node's parent; its lowest child, or itself; the next child of its parent,
 -- or the parent itself
 pub record Linked (i : ℕ) (ps t : List ℕ) : Type 0 where
-  pub room : length t ≡ 768
+  pub long : length t ≡ 768
   pub parent : (v : ℕ) → v < length ps → getD t v 0 ≡ up ps v
   pub first : (u : ℕ) → u < length ps → Lowest ps u i (getD t (256 + u) 0)
   pub next : (c : ℕ) → c < length ps → i ≤ c → up ps c ≢ c → Lowest ps (up ps c) (c + 1) (getD t (512 + c) 0)
@@ -43,7 +43,7 @@ abbrev pub Tables : List ℕ → List ℕ → Type 0
 Tables ps t = Linked 0 ps t
 
 -- what making them asks: parents that are nodes
-pub record Parents (ps : List ℕ) : Type 0 where
+pub record AskedTables (ps : List ℕ) : Type 0 where
   pub few : length ps ≤ 256
   pub node : (v : ℕ) → v < length ps → up ps v < length ps
 
@@ -85,6 +85,12 @@ pub record LookFrom (b : Bool) (y : Yard) (u c : ℕ) : Type 0 where
   pub low-le : low ≤ size y
   pub lowest : Lowest (y .parents) u low c
   pub none : (v : ℕ) → v < low → wantingChild b y u v ≡ false
+
+-- what the choice of a child of u asks, looked for from a child on
+pub record AskedChoice (b : Bool) (y : Yard) (t : List ℕ) (s : List ℤ) (u c : ℕ) : Type 0 where
+  pub described : Describes y t s
+  pub node : u < size y
+  pub from : LookFrom b y u c
 
 -- what filling v (true) or drawing from it (false) asks: that a pebble is due over its edge, and a height that bounds the nodes inside v
 pub record AskedStart (b : Bool) (y : Yard) (t : List ℕ) (s : List ℤ) (v height : ℕ) : Type 0 where

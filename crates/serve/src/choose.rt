@@ -4,7 +4,8 @@ ghost use Prim.Native.Nat.{_<_};
 ghost use Rattle.model.specs.Yard.{Yard, size};
 ghost use Rattle.model.specs.Plan.{choice};
 ghost use Rattle.model.proofs.Step.{need};
-ghost use Rattle.serve.specs.Serving.{wants, Describes, LookFrom};
+ghost use Rattle.serve.specs.Lent.{was};
+ghost use Rattle.serve.specs.Serving.{wants, Describes, AskedChoice};
 
 // A byte as a number.
 pub fn wide(x: u8) -> usize
@@ -26,8 +27,8 @@ fn wanted(demand: i16, away: bool) -> bool
 // The child of u that is served wherever one is chosen, or u itself if no child has a demand of the sign wanted. One scan of u's children, from one
 // before which there is none.
 pub fn choose_from(t: &[u8; 768], s: &[i16; 512], u: usize, from: usize, away: bool) -> usize
-    requires { ⌜ ((y : Yard) × Describes y (now t) (now s) × (u < size y) × LookFrom away y u from) ⌝ }
-    ensures { λ r. ⌜ ((y : Yard) → Describes y (now (t .entry)) (now (s .entry)) → u < size y → LookFrom away y u from → r ≡ choice (need y away) y u) ⌝ }
+    requires { ⌜ ((y : Yard) × AskedChoice away y (now t) (now s) u from) ⌝ }
+    ensures { λ r. ⌜ ((y : Yard) → AskedChoice away y (was t) (was s) u from → r ≡ choice (need y away) y u) ⌝ }
 {
     let mut c = from;
     while c != u {
@@ -42,7 +43,7 @@ pub fn choose_from(t: &[u8; 768], s: &[i16; 512], u: usize, from: usize, away: b
 // The same, from the lowest child on.
 pub fn choose(t: &[u8; 768], s: &[i16; 512], u: usize, away: bool) -> usize
     requires { ⌜ ((y : Yard) × Describes y (now t) (now s) × (u < size y)) ⌝ }
-    ensures { λ r. ⌜ ((y : Yard) → Describes y (now (t .entry)) (now (s .entry)) → u < size y → r ≡ choice (need y away) y u) ⌝ }
+    ensures { λ r. ⌜ ((y : Yard) → Describes y (was t) (was s) → u < size y → r ≡ choice (need y away) y u) ⌝ }
 {
     choose_from(t, s, u, wide(t[256 + u]), away)
 }

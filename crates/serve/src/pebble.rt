@@ -6,6 +6,7 @@ ghost use lib.ListN.{length, getD, set};
 ghost use lib.IntN.{pos, natAbs};
 ghost use Rattle.model.specs.Yard.{Yard};
 ghost use Rattle.model.proofs.Serve.{blocked};
+ghost use Rattle.serve.specs.Lent.{was, became};
 ghost use Rattle.serve.specs.Serving.{movedState, movedPlan, AskedStart, Start, AskedMoves, Served};
 use crate::choose::choose;
 use crate::choose::wide;
@@ -13,8 +14,8 @@ use crate::choose::wide;
 // Writes a move at place k of the list, and the pebble's at the two nodes.
 fn record_move(s: &mut [i16; 512], plan: &mut [u8], k: usize, from: usize, to: usize)
     requires { ⌜ (from < 256) × (to < 256) × (2 * k + 2 ≤ length (now plan)) ⌝ }
-    ensures { λ _. ⌜ now (s .exit) ≡ set (set (now (s .entry)) (256 + from) (pos 0)) (256 + to) (pos 1) ⌝ }
-    ensures { λ _. ⌜ now (plan .exit) ≡ set (set (now (plan .entry)) (2 * k) from) (2 * k + 1) to ⌝ }
+    ensures { λ _. ⌜ became s ≡ set (set (was s) (256 + from) (pos 0)) (256 + to) (pos 1) ⌝ }
+    ensures { λ _. ⌜ became plan ≡ set (set (was plan) (2 * k) from) (2 * k + 1) to ⌝ }
 {
     s[256 + from] = 0;
     s[256 + to] = 1;
@@ -25,8 +26,8 @@ fn record_move(s: &mut [i16; 512], plan: &mut [u8], k: usize, from: usize, to: u
 // Algorithm 4: the pebble goes over the edge of v, away from the root or towards it, and the demand of v changes by one.
 fn move_pebble(t: &[u8; 768], s: &mut [i16; 512], plan: &mut [u8], k: usize, v: usize, away: bool)
     requires { ⌜ (v < 256) × (2 * k + 2 ≤ length (now plan)) × (natAbs (getD (now s) v (pos 0)) ≤ 256) ⌝ }
-    ensures { λ _. ⌜ now (s .exit) ≡ movedState (now (t .entry)) away v (now (s .entry)) ⌝ }
-    ensures { λ _. ⌜ now (plan .exit) ≡ movedPlan (now (t .entry)) away v k (now (plan .entry)) ⌝ }
+    ensures { λ _. ⌜ became s ≡ movedState (was t) away v (was s) ⌝ }
+    ensures { λ _. ⌜ became plan ≡ movedPlan (was t) away v k (was plan) ⌝ }
 {
     let p = wide(t[v]);
     if away {
@@ -41,7 +42,7 @@ fn move_pebble(t: &[u8; 768], s: &mut [i16; 512], plan: &mut [u8], k: usize, v: 
 // Algorithm 2: where filling v from its parent begins. A full v is cleared first.
 pub fn inject_start(t: &[u8; 768], s: &[i16; 512], v: usize, height: usize) -> usize
     requires { ⌜ ((y : Yard) × AskedStart true y (now t) (now s) v height) ⌝ }
-    ensures { λ r. ⌜ ((y : Yard) → AskedStart true y (now (t .entry)) (now (s .entry)) v height → Start true y v r) ⌝ }
+    ensures { λ r. ⌜ ((y : Yard) → AskedStart true y (was t) (was s) v height → Start true y v r) ⌝ }
 {
     if s[256 + v] == 0 {
         return v;
@@ -52,7 +53,7 @@ pub fn inject_start(t: &[u8; 768], s: &[i16; 512], v: usize, height: usize) -> u
 // Where clearing v begins, which is full: to clear it, fill the child that is chosen.
 fn clear_start(t: &[u8; 768], s: &[i16; 512], v: usize, height: usize) -> usize
     requires { ⌜ ((y : Yard) × AskedStart true y (now t) (now s) v height × (blocked y true v ≡ true)) ⌝ }
-    ensures { λ r. ⌜ ((y : Yard) → AskedStart true y (now (t .entry)) (now (s .entry)) v height → blocked y true v ≡ true → Start true y v r) ⌝ }
+    ensures { λ r. ⌜ ((y : Yard) → AskedStart true y (was t) (was s) v height → blocked y true v ≡ true → Start true y v r) ⌝ }
 {
     let c = choose(t, s, v, true);
     inject_start(t, s, c, height - 1)
@@ -61,7 +62,7 @@ fn clear_start(t: &[u8; 768], s: &[i16; 512], v: usize, height: usize) -> usize
 // Algorithm 3: where drawing from v into its parent begins. Into an empty v a pebble is drawn first.
 pub fn extract_start(t: &[u8; 768], s: &[i16; 512], v: usize, height: usize) -> usize
     requires { ⌜ ((y : Yard) × AskedStart false y (now t) (now s) v height) ⌝ }
-    ensures { λ r. ⌜ ((y : Yard) → AskedStart false y (now (t .entry)) (now (s .entry)) v height → Start false y v r) ⌝ }
+    ensures { λ r. ⌜ ((y : Yard) → AskedStart false y (was t) (was s) v height → Start false y v r) ⌝ }
 {
     if s[256 + v] != 0 {
         return v;
@@ -81,7 +82,9 @@ pub fn move_pebbles(
     away: bool,
 ) -> usize
     requires { ⌜ ((y : Yard) × AskedMoves away y (now t) (now s) (now plan) low top) ⌝ }
-    ensures { λ r. ⌜ ((y : Yard) → AskedMoves away y (now (t .entry)) (now (s .entry)) (now (plan .entry)) low top → Served away y top (now (s .exit)) (now (plan .entry)) (now (plan .exit)) r) ⌝ }
+    ensures { λ r. ⌜ (
+        (y : Yard) → AskedMoves away y (was t) (was s) (was plan) low top
+        → Served away y top (became s) (was plan) (became plan) r) ⌝ }
 {
     let mut k = 0;
     let mut v = low;

@@ -2,13 +2,14 @@
 ghost use mathlib.Core.Path.{_≡_};
 ghost use Prim.Native.Nat.{_<_, _≤_};
 ghost use lib.ListN.{length};
-ghost use Rattle.serve.specs.Serving.{Linked, Tables, Parents, linkedTo};
+ghost use Rattle.serve.specs.Lent.{was, became};
+ghost use Rattle.serve.specs.Serving.{Linked, Tables, AskedTables, linkedTo};
 use crate::choose::wide;
 
 // With no node linked yet: parents, and each node as its own lowest child.
 fn unlinked(parents: &[u8]) -> [u8; 768]
     requires { ⌜ length (now parents) ≤ 256 ⌝ }
-    ensures { λ t. ⌜ Linked (length (now (parents .entry))) (now (parents .entry)) t ⌝ }
+    ensures { λ t. ⌜ Linked (length (was parents)) (was parents) t ⌝ }
 {
     let mut t = [0u8; 768];
     let mut v = 0;
@@ -23,7 +24,7 @@ fn unlinked(parents: &[u8]) -> [u8; 768]
 // Puts v before the children of p that are linked already.
 fn link(t: &mut [u8; 768], v: usize, p: usize)
     requires { ⌜ (v < 256) × (p < 256) ⌝ }
-    ensures { λ _. ⌜ now (t .exit) ≡ linkedTo (now (t .entry)) v p ⌝ }
+    ensures { λ _. ⌜ became t ≡ linkedTo (was t) v p ⌝ }
 {
     t[512 + v] = t[256 + p];
     t[256 + p] = v as u8;
@@ -31,8 +32,8 @@ fn link(t: &mut [u8; 768], v: usize, p: usize)
 
 // Linked from the highest node down, so that each parent's children come in rising order.
 pub fn tables(parents: &[u8]) -> [u8; 768]
-    requires { ⌜ Parents (now parents) ⌝ }
-    ensures { λ t. ⌜ Tables (now (parents .entry)) t ⌝ }
+    requires { ⌜ AskedTables (now parents) ⌝ }
+    ensures { λ t. ⌜ Tables (was parents) t ⌝ }
 {
     let mut t = unlinked(parents);
     let mut v = parents.len();

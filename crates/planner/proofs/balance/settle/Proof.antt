@@ -8,9 +8,10 @@ use lib.ListN.{length}
 use Rattle.model.specs.Yard.{Yard}
 use Rattle.model.specs.Push.{run}
 use Rattle.planner.specs.Balancing.{AskedEven}
+use Rattle.serve.specs.Serving.{AskedMoves}
 use Rattle.serve.proofs.Looking.{node-small}
 use Rattle.serve.proofs.Stretches.{rest, back, made-length, ended}
-use Rattle.planner.proofs.Settle.{readHeld, read-held, even-after, none-chosen, turn-asked, turn-moves, turn-good, turn-settles, look-for, looks-next, Turned, turn-none, turn-more}
+use Rattle.planner.proofs.Settle.{readHeld, even-after, Turn, none-chosen, turn-asked, turn-moves, choice-asked, Turned, turn-none, turn-more}
 use Rattle.planner.proofs.balance.settle.Statement.{statement}
 use Rattle.planner.proofs.balance.settle.Tie as tie
 
@@ -62,22 +63,26 @@ choose-next-requires : tie.Need-choose-next-requires Inv-loop μ-loop
 choose-next-requires c κs =
     let l = c .before .before in
     let p = call l .pre in
-    let z = here l (p .0) (p .1) in
-    (_, z .described, z .node, look-for _ (l .loop .inv (p .0) (p .1) .looks))
+    (_, choice-asked _ (here l (p .0) (p .1)) (l .loop .inv (p .0) (p .1) .looks))
+
+-- the turn that the choice of a child begins
+turn : (c : tie.After-choose-next Inv-loop μ-loop) (y : Yard)
+    → let l = c .before .before .before in
+    let s = call l .args in
+    (a : AskedEven y (s .t .now) (s .s .now) (s .plan .now) (s .u) (s .height))
+    → Turn (run y (l .loop .inv y a .begun .moves)) (s .t .now) (l .loop .s) (rest (l .loop .plan) (l .loop .k)) (s .u) (s .height) (c .choose-next .result)
+turn c y a =
+    let l = c .before .before .before in
+    let z = here l y a in
+    record { asked = z; chosen = c .choose-next .ensures _ (choice-asked _ z (l .loop .inv y a .looks)) }
 
 same-length : tie.Need-same-length Inv-loop μ-loop
 same-length c = used (c .before .before .before .before) .0
 
 returns : tie.Need-returns Inv-loop μ-loop
 returns c y a =
-    let l = c .before .before .before .before in
-    let w = l .loop .inv y a in
-    let z = here l y a in
-    record {
-      moves = w .begun .moves;
-      settles = ended (w .begun) (none-chosen z (read-held (z .described) (z .node)) (c .before .choose-next .ensures _ (z .described) (z .node) (look-for _ (w .looks))) (omega (arith, c .if1 .taken)));
-      made = w .begun .made;
-    }
+    let b = c .before .before .before .before .loop .inv y a .begun in
+    record { moves = b .moves; settles = ended b (none-chosen (turn (c .before) y a) (omega (arith, c .if1 .taken))); made = b .made }
 
 either-requires : tie.Need-either-requires Inv-loop μ-loop
 either-requires c κs = search needs
@@ -88,38 +93,46 @@ either-requires-2 c κs = search needs
 turn-start-requires : tie.Need-turn-start-requires Inv-loop μ-loop
 turn-start-requires c κs =
     let d = c .before .before .before in
-    let l = d .before .before .before .before in
-    let p = call l .pre in
-    let z = here l (p .0) (p .1) in
-    (_, turn-asked z (read-held (z .described) (z .node)) (d .before .choose-next .ensures _ (z .described) (z .node) (look-for _ (l .loop .inv (p .0) (p .1) .looks))) (d .if1 .left))
+    let p = call (d .before .before .before .before) .pre in
+    (_, turn-asked (turn (d .before) (p .0) (p .1)) (d .if1 .left))
+
+-- the loop's head that a place after the start of the moves belongs to
+abbrev head : tie.After-turn-start Inv-loop μ-loop → tie.At-loop Inv-loop μ-loop
+head c = c .before .before .before .before .before .before .before .before
 
 mul-move-pebbles : tie.Need-mul-move-pebbles Inv-loop μ-loop
-mul-move-pebbles c = let l = c .before .before .before .before .before .before .before .before .before in omega (arith, used l, call l .good)
+mul-move-pebbles c = let l = head (c .before) in omega (arith, used l, call l .good)
 
 sub-move-pebbles : tie.Need-sub-move-pebbles Inv-loop μ-loop
-sub-move-pebbles c = omega (arith, used (c .before .before .before .before .before .before .before .before .before))
+sub-move-pebbles c = omega (arith, used (head (c .before)))
 
 part-move-pebbles-start : tie.Need-part-move-pebbles-start Inv-loop μ-loop
-part-move-pebbles-start c = omega (arith, used (c .before .before .before .before .before .before .before .before .before))
+part-move-pebbles-start c = omega (arith, used (head (c .before)))
 
 part-move-pebbles-end : tie.Need-part-move-pebbles-end Inv-loop μ-loop
 part-move-pebbles-end c = omega arith
 
+-- what the moves ask
+moves-asked : (c : tie.After-turn-start Inv-loop μ-loop) (y : Yard)
+    → let l = head c in
+    let s = call l .args in
+    (a : AskedEven y (s .t .now) (s .s .now) (s .plan .now) (s .u) (s .height))
+    → AskedMoves (readHeld (l .loop .s) (s .u)) (run y (l .loop .inv y a .begun .moves)) (s .t .now) (l .loop .s) (rest (l .loop .plan) (l .loop .k)) (c .turn-start .result) (c .before .before .before .before .before .choose-next .result)
+moves-asked c y a =
+    let d = c .before .before .before .before in
+    let r = turn (d .before) y a in
+    turn-moves r (d .if1 .left) (c .turn-start .ensures _ (turn-asked r (d .if1 .left)))
+
 move-pebbles-requires : tie.Need-move-pebbles-requires Inv-loop μ-loop
 move-pebbles-requires c κs =
     let t = c .before .before in
-    let d = t .before .before .before .before in
-    let l = d .before .before .before .before in
-    let p = call l .pre in
-    let z = here l (p .0) (p .1) in
-    let e = read-held (z .described) (z .node) in
-    let q = d .before .choose-next .ensures _ (z .described) (z .node) (look-for _ (l .loop .inv (p .0) (p .1) .looks)) in
-    (_, turn-moves z e q (d .if1 .left) (t .turn-start .ensures _ (turn-asked z e q (d .if1 .left))))
+    let p = call (head t) .pre in
+    (_, moves-asked t (p .0) (p .1))
 
--- one turn more, of one move at least
+-- one turn more
 stepped : (c : tie.After-move-pebbles Inv-loop μ-loop) (y : Yard)
     → let t = c .before .before .before in
-    let l = t .before .before .before .before .before .before .before .before in
+    let l = head t in
     let s = call l .args in
     AskedEven y (s .t .now) (s .s .now) (s .plan .now) (s .u) (s .height)
     → Turned y (s .u) (c .move-pebbles .last .1 .0) (s .plan .now) (back (l .loop .plan) (l .loop .k) (c .move-pebbles .last .1 .1 .0)) (l .loop .k + c .move-pebbles .result) (t .before .before .before .either .result) (t .before .before .either2 .result)
@@ -127,28 +140,19 @@ stepped : (c : tie.After-move-pebbles Inv-loop μ-loop) (y : Yard)
 stepped c y a =
     let t = c .before .before .before in
     let d = t .before .before .before .before in
-    let l = d .before .before .before .before in
-    let w = l .loop .inv y a in
-    let z = here l y a in
-    let e = read-held (z .described) (z .node) in
-    let q = d .before .choose-next .ensures _ (z .described) (z .node) (look-for _ (w .looks)) in
-    let v = c .move-pebbles .ensures _ (turn-moves z e q (d .if1 .left) (t .turn-start .ensures _ (turn-asked z e q (d .if1 .left)))) in
-    let g = turn-good z e q (d .if1 .left) (v .serves) in (
-      turn-more w (v .moves) (g .0) (v .made) (turn-settles z e q (d .if1 .left) (v .serves)) (looks-next (readHeld (l .loop .s) (call l .args .u)) (w .looks) (z .described .tree) (g .0) q (d .if1 .left) (t .before .before .before .either .ensures) (t .before .before .either2 .ensures)),
-      omega (arith, g .1, v .made .counted),
-    )
+    turn-more (head t .loop .inv y a) (turn (d .before) y a) (d .if1 .left) (c .move-pebbles .ensures _ (moves-asked t y a)) (t .before .before .before .either .ensures) (t .before .before .either2 .ensures)
 
 add-k : tie.Need-add-k Inv-loop μ-loop
 add-k c =
     let m = c .before .before in
-    let p = call (m .before .before .before .before .before .before .before .before .before .before .before) in
+    let p = call (head (m .before .before .before)) in
     let b = stepped m (p .pre .0) (p .pre .1) .0 .begun in
     omega (arith, made-length (b .good) (p .pre .1 .room) (b .made), p .good)
 
 loop-less : tie.Need-loop-less Inv-loop μ-loop
 loop-less c =
     let m = c .before .before in
-    let p = call (m .before .before .before .before .before .before .before .before .before .before .before) .pre in
+    let p = call (head (m .before .before .before)) .pre in
     let b = stepped m (p .0) (p .1) in
     omega (arith, b .1, made-length (b .0 .begun .good) (p .1 .room) (b .0 .begun .made))
 

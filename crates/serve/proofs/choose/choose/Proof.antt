@@ -17,10 +17,10 @@ wide-requires c κs = search needs
 choose-from-requires : tie.Need-choose-from-requires
 choose-from-requires c κs =
     let p = c .before .before .pre in
-    (p .0, p .1, p .2, from-first (p .1) (p .2) (c .wide .ensures .0))
+    (p .0, record { described = p .1; node = p .2; from = from-first (p .1) (p .2) (c .wide .ensures .0) })
 
 returns : tie.Need-returns
-returns c y r l = c .choose-from .ensures y r l (from-first r l (c .before .wide .ensures .0))
+returns c y r l = c .choose-from .ensures y record { described = r; node = l; from = from-first r l (c .before .wide .ensures .0) }
 
 pub choose-spec : {M : Type 1} → statement M
 choose-spec =

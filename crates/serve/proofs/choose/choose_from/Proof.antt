@@ -7,26 +7,26 @@ use mathlib.Core.Path.{_≡_, sym, ap, _∙_}
 use lib.ListN.{getD}
 use lib.IntN.{pos}
 use Rattle.model.specs.Yard.{Yard, size}
-use Rattle.serve.specs.Serving.{wants, Describes, LookFrom}
+use Rattle.serve.specs.Serving.{wants, Describes, LookFrom, AskedChoice}
 use Rattle.serve.proofs.Siblings.{next-is, ahead, ahead-falls}
 use Rattle.serve.proofs.Looking.{node-small, demand-back, look-none, look-child, look-found, look-next}
 use Rattle.serve.proofs.choose.choose_from.Statement.{statement}
 use Rattle.serve.proofs.choose.choose_from.Tie as tie
 
 abbrev Inv-loop : tie.InvT-loop
-Inv-loop t s u from away c₀ c = (y : Yard) → Describes y t s → u < size y → LookFrom away y u from → LookFrom away y u c
+Inv-loop t s u from away c₀ c = (y : Yard) → AskedChoice away y t s u from → LookFrom away y u c
 
 abbrev μ-loop : tie.MeasureT-loop
 μ-loop t s u from away c₀ c = ahead u c
 
 loop-holds : tie.Need-loop-holds Inv-loop μ-loop
-loop-holds c y r l f = f
+loop-holds c y a = a .from
 
 -- the child at hand is a node
 node : (c : tie.In-loop Inv-loop μ-loop) → c .before .loop .c < 256
 node c =
     let p = c .before .before .pre in
-    node-small (p .1) (look-child (c .before .loop .inv (p .0) (p .1) (p .2) (p .3)) (c .loop-test .taken) .lt)
+    node-small (p .1 .described) (look-child (c .before .loop .inv (p .0) (p .1)) (c .loop-test .taken) .lt)
 
 mul-wanted : tie.Need-mul-wanted Inv-loop μ-loop
 mul-wanted c = omega (arith, node c)
@@ -45,10 +45,11 @@ answer : (c : tie.After-wanted Inv-loop μ-loop) {y : Yard}
 answer c r l = sym (c .wanted .ensures ∙ ap (wants (c .before .before .before .before .args .away)) (demand-back r l))
 
 returns : tie.Need-returns Inv-loop μ-loop
-returns c y r l f =
+returns c y a =
     let i = c .before .before .before in
-    let h = i .before .loop .inv y r l f in
-    omega (arith, look-found h (i .loop-test .taken) r (answer (c .before) r (look-child h (i .loop-test .taken) .lt) ∙ c .if1 .taken))
+    let h = i .before .loop .inv y a in
+    let d = i .loop-test .taken in
+    omega (arith, look-found h d (a .described) (answer (c .before) (a .described) (look-child h d .lt) ∙ c .if1 .taken))
 
 add-wide : tie.Need-add-wide Inv-loop μ-loop
 add-wide c = omega (arith, node (c .before .before .before))
@@ -64,18 +65,18 @@ loop-less c =
     let i = c .before .before .before .before .before in
     let p = i .before .before .pre in
     let d = i .loop-test .taken in
-    rw (c .wide .ensures .0) (ahead-falls d (node i) (next-is (p .1 .tables) (look-child (i .before .loop .inv (p .0) (p .1) (p .2) (p .3)) d)))
+    rw (c .wide .ensures .0) (ahead-falls d (node i) (next-is (p .1 .described .tables) (look-child (i .before .loop .inv (p .0) (p .1)) d)))
 
 loop-again : tie.Need-loop-again Inv-loop μ-loop
-loop-again c y r l f =
+loop-again c y a =
     let e = c .before .before in
     let i = e .before .before .before in
     let d = i .loop-test .taken in
-    let h = i .before .loop .inv y r l f in
-    rw (c .wide .ensures .0) (look-next h d r (answer (e .before) r (look-child h d .lt) ∙ e .if1 .left))
+    let h = i .before .loop .inv y a in
+    rw (c .wide .ensures .0) (look-next h d (a .described) (answer (e .before) (a .described) (look-child h d .lt) ∙ e .if1 .left))
 
 returns-2 : tie.Need-returns-2 Inv-loop μ-loop
-returns-2 c y r l f = look-none (rw (c .loop-test .left) at (c .before .loop .inv y r l f))
+returns-2 c y a = look-none (rw (c .loop-test .left) at (c .before .loop .inv y a))
 
 pub choose-from-spec : {M : Type 1} → statement M
 choose-from-spec =

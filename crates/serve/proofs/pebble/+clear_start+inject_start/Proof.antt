@@ -36,44 +36,50 @@ inject-start-at n = and 2 inject-start-kinds.ps (is 2 inject-start-kinds.ps μ-i
 abbrev inject-start-below : ℕ → In 2 inject-start-kinds.ps
 inject-start-below n = and 2 inject-start-kinds.ps (falls 2 inject-start-kinds.ps _<_ μ-inject-start n) inject-start.Pre
 
+abbrev clear-claims : ℕ → clear-start-lts.Claims
+clear-claims n = (choose.Asked, choose.Learnt, inject-start-below n, inject-start.Post)
+
+abbrev inject-claims : ℕ → inject-start-lts.Claims
+inject-claims n = (clear-start-below n, clear-start.Post)
+
 -- clearing
 module _ (n : ℕ) where
-  choose-requires : clear-start-lts.Need-choose-requires (choose.Asked, choose.Learnt, inject-start-below n, inject-start.Post) (clear-start-at n) clear-start.Post
+  choose-requires : clear-start-lts.Need-choose-requires (clear-claims n) (clear-start-at n) clear-start.Post
   choose-requires c κs = let p = c .pre .1 in (p .0, p .1 .described, p .1 .due .lt)
 
-  sub-inject-start : clear-start-lts.Need-sub-inject-start (choose.Asked, choose.Learnt, inject-start-below n, inject-start.Post) (clear-start-at n) clear-start.Post
+  sub-inject-start : clear-start-lts.Need-sub-inject-start (clear-claims n) (clear-start-at n) clear-start.Post
   sub-inject-start c = let p = c .before .pre .1 in high-enough (p .1) (p .2)
 
-  inject-start-requires : clear-start-lts.Need-inject-start-requires (choose.Asked, choose.Learnt, inject-start-below n, inject-start.Post) (clear-start-at n) clear-start.Post
+  inject-start-requires : clear-start-lts.Need-inject-start-requires (clear-claims n) (clear-start-at n) clear-start.Post
   inject-start-requires c κs =
       let p = c .before .pre in
       (omega (arith, p .0, high-enough (p .1 .1) (p .1 .2)), (p .1 .0, chosen-asked (p .1 .1) (p .1 .2) (omega (arith, c .choose .ensures (p .1 .0) (p .1 .1 .described) (p .1 .1 .due .lt)))))
 
-  clear-start-returns : clear-start-lts.Need-returns (choose.Asked, choose.Learnt, inject-start-below n, inject-start.Post) (clear-start-at n) clear-start.Post
+  clear-start-returns : clear-start-lts.Need-returns (clear-claims n) (clear-start-at n) clear-start.Post
   clear-start-returns c y a e =
       let q = c .before .choose .ensures y (a .described) (a .due .lt) in
       start-below e q (c .inject-start .ensures y (chosen-asked a e q))
 
 -- filling
 module _ (n : ℕ) where
-  add-if1 : inject-start-lts.Need-add-if1 (clear-start-below n, clear-start.Post) (inject-start-at n) inject-start.Post
+  add-if1 : inject-start-lts.Need-add-if1 (inject-claims n) (inject-start-at n) inject-start.Post
   add-if1 c = let p = c .pre .1 in omega (arith, node-small (p .1 .described) (p .1 .due .lt))
 
-  mul-if1 : inject-start-lts.Need-mul-if1 (clear-start-below n, clear-start.Post) (inject-start-at n) inject-start.Post
+  mul-if1 : inject-start-lts.Need-mul-if1 (inject-claims n) (inject-start-at n) inject-start.Post
   mul-if1 c = let p = c .pre .1 in omega (arith, node-small (p .1 .described) (p .1 .due .lt))
 
-  element-copy-out-if1 : inject-start-lts.Need-element-copy-out-if1 (clear-start-below n, clear-start.Post) (inject-start-at n) inject-start.Post
+  element-copy-out-if1 : inject-start-lts.Need-element-copy-out-if1 (inject-claims n) (inject-start-at n) inject-start.Post
   element-copy-out-if1 c = let p = c .pre .1 in omega (arith, node-small (p .1 .described) (p .1 .due .lt))
 
-  inject-start-returns : inject-start-lts.Need-returns (clear-start-below n, clear-start.Post) (inject-start-at n) inject-start.Post
+  inject-start-returns : inject-start-lts.Need-returns (inject-claims n) (inject-start-at n) inject-start.Post
   inject-start-returns c y a = start-here (free-node true y _ (omega (arith, mark-is (a .described .kept) (a .due .lt), c .if1 .taken)))
 
-  clear-start-requires : inject-start-lts.Need-clear-start-requires (clear-start-below n, clear-start.Post) (inject-start-at n) inject-start.Post
+  clear-start-requires : inject-start-lts.Need-clear-start-requires (inject-claims n) (inject-start-at n) inject-start.Post
   clear-start-requires c κs =
       let p = c .before .before .pre in
       (omega (arith, p .0), (p .1 .0, p .1 .1, blocked-node true (p .1 .0) _ (mark-one (p .1 .1 .described) (p .1 .1 .due .lt) (c .if1 .left))))
 
-  inject-start-returns-2 : inject-start-lts.Need-returns-2 (clear-start-below n, clear-start.Post) (inject-start-at n) inject-start.Post
+  inject-start-returns-2 : inject-start-lts.Need-returns-2 (inject-claims n) (inject-start-at n) inject-start.Post
   inject-start-returns-2 c y a = c .clear-start .ensures y a (blocked-node true y _ (mark-one (a .described) (a .due .lt) (c .before .if1 .left)))
 
 pub +clear-start+inject-start-spec : {M : Type 1} → statement M
@@ -81,12 +87,12 @@ pub +clear-start+inject-start-spec : {M : Type 1} → statement M
     close
     μ-clear-start
     μ-inject-start
-    (λ n. clear-start-lts.spec (choose.Asked, choose.Learnt, inject-start-below n, inject-start.Post) (clear-start-at n) clear-start.Post
+    (λ n. clear-start-lts.spec (clear-claims n) (clear-start-at n) clear-start.Post
     (choose-requires n)
     (sub-inject-start n)
     (inject-start-requires n)
     (clear-start-returns n))
-    λ n. inject-start-lts.spec (clear-start-below n, clear-start.Post) (inject-start-at n) inject-start.Post
+    λ n. inject-start-lts.spec (inject-claims n) (inject-start-at n) inject-start.Post
     (add-if1 n)
     (mul-if1 n)
     (element-copy-out-if1 n)

@@ -27,38 +27,41 @@ extract-start-at n = and 2 extract-start-kinds.ps (is 2 extract-start-kinds.ps �
 abbrev extract-start-below : ℕ → In 2 extract-start-kinds.ps
 extract-start-below n = and 2 extract-start-kinds.ps (falls 2 extract-start-kinds.ps _<_ μ-extract-start n) extract-start.Pre
 
+abbrev claims : ℕ → lts.Claims
+claims n = (choose.Asked, choose.Learnt, extract-start-below n, extract-start.Post)
+
 module _ (n : ℕ) where
-  add-if1 : lts.Need-add-if1 (choose.Asked, choose.Learnt, extract-start-below n, extract-start.Post) (extract-start-at n) extract-start.Post
+  add-if1 : lts.Need-add-if1 (claims n) (extract-start-at n) extract-start.Post
   add-if1 c = let p = c .pre .1 in omega (arith, node-small (p .1 .described) (p .1 .due .lt))
 
-  mul-if1 : lts.Need-mul-if1 (choose.Asked, choose.Learnt, extract-start-below n, extract-start.Post) (extract-start-at n) extract-start.Post
+  mul-if1 : lts.Need-mul-if1 (claims n) (extract-start-at n) extract-start.Post
   mul-if1 c = let p = c .pre .1 in omega (arith, node-small (p .1 .described) (p .1 .due .lt))
 
-  element-copy-out-if1 : lts.Need-element-copy-out-if1 (choose.Asked, choose.Learnt, extract-start-below n, extract-start.Post) (extract-start-at n) extract-start.Post
+  element-copy-out-if1 : lts.Need-element-copy-out-if1 (claims n) (extract-start-at n) extract-start.Post
   element-copy-out-if1 c = let p = c .pre .1 in omega (arith, node-small (p .1 .described) (p .1 .due .lt))
 
-  returns : lts.Need-returns (choose.Asked, choose.Learnt, extract-start-below n, extract-start.Post) (extract-start-at n) extract-start.Post
+  returns : lts.Need-returns (claims n) (extract-start-at n) extract-start.Post
   returns c y a = start-here (free-node false y _ (mark-one (a .described) (a .due .lt) (c .if1 .taken)))
 
   -- else v is blocked
-  empty : (c : lts.After-choose (choose.Asked, choose.Learnt, extract-start-below n, extract-start.Post) (extract-start-at n) extract-start.Post) (y : Yard)
+  empty : (c : lts.After-choose (claims n) (extract-start-at n) extract-start.Post) (y : Yard)
       → let s = c .before .before .before .args in
       AskedStart false y (s .t .now) (s .s .now) (s .v) (s .height) → blocked y false (s .v) ≡ true
   empty c y a = blocked-node false y _ (sym (mark-is (a .described .kept) (a .due .lt)) ∙ c .before .if1 .left)
 
-  choose-requires : lts.Need-choose-requires (choose.Asked, choose.Learnt, extract-start-below n, extract-start.Post) (extract-start-at n) extract-start.Post
+  choose-requires : lts.Need-choose-requires (claims n) (extract-start-at n) extract-start.Post
   choose-requires c κs = let p = c .before .before .pre .1 in (p .0, p .1 .described, p .1 .due .lt)
 
-  sub-extract-start : lts.Need-sub-extract-start (choose.Asked, choose.Learnt, extract-start-below n, extract-start.Post) (extract-start-at n) extract-start.Post
+  sub-extract-start : lts.Need-sub-extract-start (claims n) (extract-start-at n) extract-start.Post
   sub-extract-start c = let p = c .before .before .before .pre .1 in high-enough (p .1) (empty c (p .0) (p .1))
 
-  extract-start-requires : lts.Need-extract-start-requires (choose.Asked, choose.Learnt, extract-start-below n, extract-start.Post) (extract-start-at n) extract-start.Post
+  extract-start-requires : lts.Need-extract-start-requires (claims n) (extract-start-at n) extract-start.Post
   extract-start-requires c κs =
       let p = c .before .before .before .pre in
       let e = empty c (p .1 .0) (p .1 .1) in
       (omega (arith, p .0, high-enough (p .1 .1) e), (p .1 .0, chosen-asked (p .1 .1) e (omega (arith, c .choose .ensures (p .1 .0) (p .1 .1 .described) (p .1 .1 .due .lt)))))
 
-  returns-2 : lts.Need-returns-2 (choose.Asked, choose.Learnt, extract-start-below n, extract-start.Post) (extract-start-at n) extract-start.Post
+  returns-2 : lts.Need-returns-2 (claims n) (extract-start-at n) extract-start.Post
   returns-2 c y a =
       let e = empty (c .before) y a in
       let q = c .before .choose .ensures y (a .described) (a .due .lt) in
@@ -68,7 +71,7 @@ pub +extract-start-spec : {M : Type 1} → statement M
 +extract-start-spec =
     close
     μ-extract-start
-    λ n. lts.spec (choose.Asked, choose.Learnt, extract-start-below n, extract-start.Post) (extract-start-at n) extract-start.Post
+    λ n. lts.spec (claims n) (extract-start-at n) extract-start.Post
     (add-if1 n)
     (mul-if1 n)
     (element-copy-out-if1 n)

@@ -14,7 +14,7 @@ abbrev μ-loop : tie.MeasureT-loop
 μ-loop parents t₀ v₀ t v = length parents - v
 
 loop-holds : tie.Need-loop-holds Inv-loop μ-loop
-loop-holds c = (omega arith, record { room = refl; parent = λ v l. absurd (omega arith); first = λ u l. absurd (omega arith) })
+loop-holds c = (omega arith, record { long = refl; parent = λ v l. absurd (omega arith); first = λ u l. absurd (omega arith) })
 
 shared-slice-read-t : tie.Need-shared-slice-read-t Inv-loop μ-loop
 shared-slice-read-t c = omega arith
