@@ -1,13 +1,14 @@
 // Cases as text, one to a line: a kind, a label, then lists and numbers, between bars. A line that begins with # is a comment.
 ghost use Prim.Native.Nat.{_≤_, _<_};
 ghost use lib.ListN.{length};
+ghost use Rattle.model.specs.Given.{was};
 ghost use Rattle.io.specs.Counts.{Counts};
 use crate::print::text;
 
 // The first place from an index on where a byte stands, or the end.
 pub fn find(bytes: &[u8], from: usize, byte: u8) -> usize
     requires { ⌜ from ≤ length (now bytes) ⌝ }
-    ensures { λ r. ⌜ (from ≤ r) × Counts r (now (bytes .entry)) ⌝ }
+    ensures { λ r. ⌜ (from ≤ r) × Counts r (was bytes) ⌝ }
 {
     let mut i = from;
     while i < bytes.len() {
@@ -37,7 +38,7 @@ pub fn is_case(line: &[u8]) -> bool {
 // The place past the next such byte, or the end.
 fn past(bytes: &[u8], from: usize, byte: u8) -> usize
     requires { ⌜ from ≤ length (now bytes) ⌝ }
-    ensures { λ r. ⌜ r ≤ length (now (bytes .entry)) ⌝ }
+    ensures { λ r. ⌜ r ≤ length (was bytes) ⌝ }
 {
     let at = find(bytes, from, byte);
     if at < bytes.len() {
@@ -68,7 +69,7 @@ pub fn next_line(input: &[u8], at: usize) -> usize
 
 // Where a field begins; the first field is 0.
 fn start(line: &[u8], number: usize) -> usize
-    ensures { λ r. ⌜ r ≤ length (now (line .entry)) ⌝ }
+    ensures { λ r. ⌜ r ≤ length (was line) ⌝ }
 {
     let mut at = 0;
     let mut i = 0;

@@ -2,6 +2,7 @@
 // it in the list, over and over, up to 9 entries.
 ghost use Prim.Native.Nat.{_≤_};
 ghost use lib.ListN.{length};
+ghost use Rattle.model.specs.Given.{was};
 use crate::lines::bad;
 use crate::lines::find;
 
@@ -94,7 +95,7 @@ fn put(list: &mut [u8], at: usize, entry: u8) {
 // So many entries behind the first n, each a step above the one before; the new number of entries.
 fn extend(item: &[u8], list: &mut [u8], n: usize, count: usize, first: usize, step: u8) -> usize
     requires { ⌜ n ≤ length (now list) ⌝ }
-    ensures { λ r. ⌜ r ≤ length (now (list .entry)) ⌝ }
+    ensures { λ r. ⌜ r ≤ length (was list) ⌝ }
 {
     if first <= 255 {
         if count > 0 {
@@ -111,7 +112,7 @@ fn extend(item: &[u8], list: &mut [u8], n: usize, count: usize, first: usize, st
 
 // The first n entries over and over, up to an index.
 fn again(item: &[u8], list: &mut [u8], n: usize, to: usize) -> usize
-    ensures { λ r. ⌜ r ≤ length (now (list .entry)) ⌝ }
+    ensures { λ r. ⌜ r ≤ length (was list) ⌝ }
 {
     if n > 0 {
         if n <= to {
@@ -139,7 +140,7 @@ fn reach(first: usize, last: usize) -> usize {
 // An item's entries behind the first n; the new number of entries.
 fn read_item(item: &[u8], list: &mut [u8], n: usize) -> usize
     requires { ⌜ n ≤ length (now list) ⌝ }
-    ensures { λ r. ⌜ r ≤ length (now (list .entry)) ⌝ }
+    ensures { λ r. ⌜ r ≤ length (was list) ⌝ }
 {
     if before(item, b'^').len() == 0 {
         return again(item, list, n, decimal(behind(item, b'^')));

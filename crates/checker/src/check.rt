@@ -1,7 +1,7 @@
 // The checker.
 ghost use mathlib.Core.Path.{_≡_};
 ghost use Rattle.model.specs.Yard.{Matched};
-ghost use Rattle.model.specs.Given.{given, handed};
+ghost use Rattle.model.specs.Given.{given, handed, was};
 ghost use Rattle.model.specs.Judge.{firstOf, Tree};
 ghost use Rattle.model.specs.Calls.Plans.{movesOf};
 ghost use Rattle.model.specs.Calls.Checks.{obeyTests, checkFault, checkAnswer};
@@ -18,7 +18,7 @@ use model::Refusal;
 // Obeys a whole plan on a copy of the pebbles of a tree: refusals 10 to 13 move by move, then 14.
 fn obey_to_end(parents: &[u8], pebbles: &[u8], targets: &[u8], plan: &[u8]) -> Done
     requires { ⌜ Tree (handed parents pebbles targets) ⌝ }
-    ensures { λ r. ⌜ paperDone r ≡ firstOf (obeyTests (given parents pebbles targets) (movesOf (now (plan .entry)))) ⌝ }
+    ensures { λ r. ⌜ paperDone r ≡ firstOf (obeyTests (given parents pebbles targets) (movesOf (was plan))) ⌝ }
 {
     let n = parents.len();
     let mut marks = [0u8; 256];
@@ -43,7 +43,7 @@ fn obey_to_end(parents: &[u8], pebbles: &[u8], targets: &[u8], plan: &[u8]) -> D
 // Judges a plan for a tree with as many pebbles as targets: refusals 9, 10 to 13 move by move, 14.
 fn test_matched_plan(parents: &[u8], pebbles: &[u8], targets: &[u8], plan: &[u8]) -> Done
     requires { ⌜ Tree (handed parents pebbles targets) × Matched (handed parents pebbles targets) ⌝ }
-    ensures { λ r. ⌜ paperDone r ≡ checkFault (given parents pebbles targets) (now (plan .entry)) ⌝ }
+    ensures { λ r. ⌜ paperDone r ≡ checkFault (given parents pebbles targets) (was plan) ⌝ }
 {
     if !whole_plan(plan) {
         return Done::Refused(Refusal::PlanLength);
@@ -54,7 +54,7 @@ fn test_matched_plan(parents: &[u8], pebbles: &[u8], targets: &[u8], plan: &[u8]
 // The checker without its figures: refusals 1 to 6, 7, 9, 10 to 13 for each move in turn with its number as place, then 14 with the lowest empty
 // target. A plan need not be shortest.
 pub fn test_plan(parents: &[u8], pebbles: &[u8], targets: &[u8], plan: &[u8]) -> Done
-    ensures { λ r. ⌜ paperDone r ≡ checkFault (given parents pebbles targets) (now (plan .entry)) ⌝ }
+    ensures { λ r. ⌜ paperDone r ≡ checkFault (given parents pebbles targets) (was plan) ⌝ }
 {
     let tested = test_matched(parents, pebbles, targets);
     if let Done::Refused(fault) = tested {
@@ -65,7 +65,7 @@ pub fn test_plan(parents: &[u8], pebbles: &[u8], targets: &[u8], plan: &[u8]) ->
 
 // The checker: refused as above, else the number of moves and the excess (spare), moves minus shortest length.
 pub fn check(parents: &[u8], pebbles: &[u8], targets: &[u8], plan: &[u8]) -> Checked
-    ensures { λ r. ⌜ paperChecked r ≡ checkAnswer (given parents pebbles targets) (now (plan .entry)) ⌝ }
+    ensures { λ r. ⌜ paperChecked r ≡ checkAnswer (given parents pebbles targets) (was plan) ⌝ }
 {
     let tested = test_plan(parents, pebbles, targets, plan);
     if let Done::Refused(r) = tested {

@@ -2,7 +2,7 @@
 ghost use mathlib.Core.Path.{_≡_};
 ghost use Prim.Native.Nat.{_*_, _≤_};
 ghost use lib.ListN.{length};
-ghost use Rattle.model.specs.Given.{given, handed};
+ghost use Rattle.model.specs.Given.{given, handed, was, became};
 ghost use Rattle.model.specs.Judge.{fault, unless, Tree};
 ghost use Rattle.model.specs.Push.{after};
 ghost use Rattle.model.specs.Calls.Checks.{bytesFault, movesFault, within};
@@ -14,7 +14,7 @@ use yard::step::step;
 
 // Whether a plan's length is even and at most 131,070 bytes: else refusal 9 meets it.
 pub fn whole_plan(plan: &[u8]) -> bool
-    ensures { λ r. ⌜ bytesFault (now (plan .entry)) ≡ unless r (fault 9 0) ⌝ }
+    ensures { λ r. ⌜ bytesFault (was plan) ≡ unless r (fault 9 0) ⌝ }
 {
     if plan.len() % 2 != 0 {
         return false;
@@ -26,8 +26,8 @@ pub fn whole_plan(plan: &[u8]) -> bool
 // place; the moves before it are obeyed, so callers lend a copy.
 fn obey(parents: &[u8], pebbles: &mut [u8], targets: &[u8], plan: &[u8], count: usize) -> Done
     requires { ⌜ Tree (handed parents pebbles targets) × (2 * count ≤ length (now plan)) ⌝ }
-    ensures { λ r. ⌜ paperDone r ≡ movesFault 0 (given parents pebbles targets) (within (now (plan .entry)) count) ⌝ }
-    ensures { λ r. ⌜ now (pebbles .exit) ≡ after (given parents pebbles targets) (obeyed (paperDone r) (now (plan .entry)) count) ⌝ }
+    ensures { λ r. ⌜ paperDone r ≡ movesFault 0 (given parents pebbles targets) (within (was plan) count) ⌝ }
+    ensures { λ r. ⌜ became pebbles ≡ after (given parents pebbles targets) (obeyed (paperDone r) (was plan) count) ⌝ }
 {
     let mut i = 0;
     while i < count {
@@ -53,8 +53,8 @@ pub fn obey_copy(
 ) -> Done
     requires { ⌜ Tree (handed parents pebbles targets) × (2 * count ≤ length (now plan)) ⌝ }
     requires { ⌜ length (now marks) ≡ length (now pebbles) ⌝ }
-    ensures { λ r. ⌜ paperDone r ≡ movesFault 0 (given parents pebbles targets) (within (now (plan .entry)) count) ⌝ }
-    ensures { λ r. ⌜ now (marks .exit) ≡ after (given parents pebbles targets) (obeyed (paperDone r) (now (plan .entry)) count) ⌝ }
+    ensures { λ r. ⌜ paperDone r ≡ movesFault 0 (given parents pebbles targets) (within (was plan) count) ⌝ }
+    ensures { λ r. ⌜ became marks ≡ after (given parents pebbles targets) (obeyed (paperDone r) (was plan) count) ⌝ }
 {
     copy(pebbles, marks);
     obey(parents, marks, targets, plan, count)

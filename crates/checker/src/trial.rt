@@ -2,7 +2,7 @@
 ghost use mathlib.Core.Path.{_≡_};
 ghost use Prim.Native.Nat.{_*_, _≤_};
 ghost use lib.ListN.{length};
-ghost use Rattle.model.specs.Given.{given, handed};
+ghost use Rattle.model.specs.Given.{given, handed, was, became};
 ghost use Rattle.model.specs.Judge.{Tree};
 ghost use Rattle.model.specs.Calls.Checks.{movesFault, within, trialAnswer, trialPebbles};
 ghost use Rattle.model.specs.Paper.{paperDone, paperTried};
@@ -25,8 +25,8 @@ fn obey_or_leave(
     count: usize,
 ) -> Done
     requires { ⌜ Tree (handed parents pebbles targets) × (2 * count ≤ length (now plan)) ⌝ }
-    ensures { λ r. ⌜ paperDone r ≡ movesFault 0 (given parents pebbles targets) (within (now (plan .entry)) count) ⌝ }
-    ensures { λ r. ⌜ now (pebbles .exit) ≡ obeyedOrLeft (paperDone r) (given parents pebbles targets) (within (now (plan .entry)) count) ⌝ }
+    ensures { λ r. ⌜ paperDone r ≡ movesFault 0 (given parents pebbles targets) (within (was plan) count) ⌝ }
+    ensures { λ r. ⌜ became pebbles ≡ obeyedOrLeft (paperDone r) (given parents pebbles targets) (within (was plan) count) ⌝ }
 {
     let n = parents.len();
     let mut marks = [0u8; 256];
@@ -41,8 +41,8 @@ fn obey_or_leave(
 // Refusals 1 to 6, 9, then 10 to 13 on the moves obeyed; it writes the new marks, and answers the moves taken and which of the two ended it
 // (together: the plan). Moves past the budget are not examined, totals may differ, and a refusal leaves the marks as they were.
 pub fn trial(parents: &[u8], pebbles: &mut [u8], targets: &[u8], plan: &[u8], budget: u16) -> Tried
-    ensures { λ r. ⌜ paperTried r ≡ trialAnswer (given parents pebbles targets) (now (plan .entry)) budget ⌝ }
-    ensures { λ r. ⌜ now (pebbles .exit) ≡ trialPebbles (given parents pebbles targets) (now (plan .entry)) budget ⌝ }
+    ensures { λ r. ⌜ paperTried r ≡ trialAnswer (given parents pebbles targets) (was plan) budget ⌝ }
+    ensures { λ r. ⌜ became pebbles ≡ trialPebbles (given parents pebbles targets) (was plan) budget ⌝ }
 {
     let tested = test_yard(parents, pebbles, targets);
     if let Done::Refused(r) = tested {

@@ -3,7 +3,7 @@ ghost use mathlib.Core.Path.{_≡_};
 ghost use Prim.Native.Nat.{_-_, _≤_};
 ghost use lib.ListN.{length, getD};
 ghost use Rattle.model.specs.Yard.{sum, maxSize, shortest};
-ghost use Rattle.model.specs.Given.{given, handed};
+ghost use Rattle.model.specs.Given.{given, handed, was, became};
 ghost use Rattle.model.specs.Judge.{Tree};
 ghost use Rattle.model.specs.Calls.Demands.{demandsFault, demandsList, boundAnswer, displacedAnswer};
 ghost use Rattle.model.specs.Paper.{paperDone, paperCounted};
@@ -19,8 +19,8 @@ use model::Refusal;
 // The account call: the demands of all nodes into a list of exactly one entry a node. Refusals 1 to 6, then 2 for a list of another length;
 // unequal totals are no fault. Linear work.
 pub fn demands(parents: &[u8], pebbles: &[u8], targets: &[u8], list: &mut [i16]) -> Done
-    ensures { λ r. ⌜ paperDone r ≡ demandsFault (given parents pebbles targets) (now (list .entry)) ⌝ }
-    ensures { λ r. ⌜ now (list .exit) ≡ demandsList (given parents pebbles targets) (now (list .entry)) ⌝ }
+    ensures { λ r. ⌜ paperDone r ≡ demandsFault (given parents pebbles targets) (was list) ⌝ }
+    ensures { λ r. ⌜ became list ≡ demandsList (given parents pebbles targets) (was list) ⌝ }
 {
     let tested = test_yard(parents, pebbles, targets);
     if let Done::Refused(r) = tested {
@@ -70,7 +70,7 @@ fn above(a: u8, b: u8) -> usize
 // The sum over the nodes of pebble above target.
 fn excess_marks(pebbles: &[u8], targets: &[u8]) -> usize
     requires { ⌜ (length (now pebbles) ≤ maxSize) × (length (now targets) ≡ length (now pebbles)) ⌝ }
-    ensures { λ r. ⌜ r ≡ sum (length (now (pebbles .entry))) (λ v. getD (now (pebbles .entry)) v 0 - getD (now (targets .entry)) v 0) ⌝ }
+    ensures { λ r. ⌜ r ≡ sum (length (was pebbles)) (λ v. getD (was pebbles) v 0 - getD (was targets) v 0) ⌝ }
 {
     let mut count = 0;
     let mut i = 0;

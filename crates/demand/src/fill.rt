@@ -6,7 +6,7 @@ ghost use lib.ListN.{length, getD};
 ghost use lib.Dec.{eqb};
 ghost use lib.IntN.{pos, subℕ};
 ghost use Rattle.model.specs.Yard.{up, one, sum, demand};
-ghost use Rattle.model.specs.Given.{given, handed};
+ghost use Rattle.model.specs.Given.{given, handed, was, became};
 ghost use Rattle.model.specs.Judge.{Tree};
 ghost use Rattle.model.specs.Calls.Answers.{range};
 use crate::signed::difference;
@@ -17,7 +17,7 @@ use crate::signed::plus;
 // ready, and so on up, so that each node is added once. The root, its own parent, is never ready.
 pub fn fill(parents: &[u8], pebbles: &[u8], targets: &[u8], list: &mut [i16])
     requires { ⌜ Tree (handed parents pebbles targets) × (length (now list) ≡ length (now parents)) ⌝ }
-    ensures { λ _. ⌜ now (list .exit) ≡ map (demand (given parents pebbles targets)) (range 0 (length (now (parents .entry)))) ⌝ }
+    ensures { λ _. ⌜ became list ≡ map (demand (given parents pebbles targets)) (range 0 (length (was parents))) ⌝ }
 {
     let n = parents.len();
     own(pebbles, targets, list);
@@ -39,7 +39,7 @@ pub fn fill(parents: &[u8], pebbles: &[u8], targets: &[u8], list: &mut [i16])
 // Writes the difference of its marks into the entry of each node.
 fn own(pebbles: &[u8], targets: &[u8], list: &mut [i16])
     requires { ⌜ (length (now pebbles) ≡ length (now list)) × (length (now targets) ≡ length (now list)) ⌝ }
-    ensures { λ _. ⌜ ((v : ℕ) → v < length (now (list .entry)) → getD (now (list .exit)) v (pos 0) ≡ subℕ (getD (now (targets .entry)) v 0) (getD (now (pebbles .entry)) v 0)) ⌝ }
+    ensures { λ _. ⌜ ((v : ℕ) → v < length (was list) → getD (became list) v (pos 0) ≡ subℕ (getD (was targets) v 0) (getD (was pebbles) v 0)) ⌝ }
 {
     let mut v = 0;
     while v < list.len() {
@@ -51,7 +51,7 @@ fn own(pebbles: &[u8], targets: &[u8], list: &mut [i16])
 // For each node 1, and 1 more for each node whose parent it is.
 fn count_children(parents: &[u8]) -> [u16; 256]
     requires { ⌜ length (now parents) ≤ 256 ⌝ }
-    ensures { λ r. ⌜ (length r ≡ 256) × ((v : ℕ) → v < 256 → getD r v 0 ≡ 1 + sum (length (now (parents .entry))) (λ c. one (eqb (up (now (parents .entry)) c) v))) ⌝ }
+    ensures { λ r. ⌜ (length r ≡ 256) × ((v : ℕ) → v < 256 → getD r v 0 ≡ 1 + sum (length (was parents)) (λ c. one (eqb (up (was parents) c) v))) ⌝ }
 {
     let mut pending = [1u16; 256];
     let mut v = 0;

@@ -4,6 +4,7 @@ ghost use Prim.Native.Nat.{ℕ, _+_, _<_, _≤_};
 ghost use lib.ListN.{length, getD};
 ghost use lib.IntN.{ℤ, pos, natAbs, subℕ, _+ℤ_};
 ghost use Rattle.model.specs.Yard.{sum, maxSize};
+ghost use Rattle.model.specs.Given.{was};
 
 // A target mark minus a pebble mark.
 pub fn difference(target: u8, pebble: u8) -> i16
@@ -34,7 +35,7 @@ pub fn size(a: i16) -> usize
 // The sum of the sizes of a list of demands: for all demands of a yard its shortest length.
 pub fn sizes(list: &[i16]) -> usize
     requires { ⌜ (length (now list) ≤ maxSize) × ((v : ℕ) → natAbs (getD (now list) v (pos 0)) ≤ maxSize) ⌝ }
-    ensures { λ r. ⌜ r ≡ sum (length (now (list .entry))) (λ v. natAbs (getD (now (list .entry)) v (pos 0))) ⌝ }
+    ensures { λ r. ⌜ r ≡ sum (length (was list)) (λ v. natAbs (getD (was list) v (pos 0))) ⌝ }
 {
     let mut total = 0;
     let mut i = 0;

@@ -1,6 +1,6 @@
 // The checker, its excess, and the trial.
 ghost use mathlib.Core.Path.{_≡_};
-ghost use Rattle.model.specs.Given.{given};
+ghost use Rattle.model.specs.Given.{given, was, became};
 ghost use Rattle.model.specs.Calls.Answers.{inC, zeroInC, mapAnswer};
 ghost use Rattle.model.specs.Calls.Checks.{trialInC, checkFault, checkAnswer, trialAnswer, trialPebbles};
 use crate::answers::done;
@@ -19,7 +19,7 @@ pub extern "C" fn javendriky_check(
     targets: &[u8],
     plan: &[u8],
 ) -> u32
-    ensures { λ r. ⌜ r ≡ zeroInC (checkFault (given parents pebbles targets) (now (plan .entry))) ⌝ }
+    ensures { λ r. ⌜ r ≡ zeroInC (checkFault (given parents pebbles targets) (was plan)) ⌝ }
 {
     done(test_plan(parents, pebbles, targets, plan))
 }
@@ -32,7 +32,7 @@ pub extern "C" fn javendriky_excess(
     targets: &[u8],
     plan: &[u8],
 ) -> u32
-    ensures { λ r. ⌜ r ≡ inC (mapAnswer (λ v. v .excess) (checkAnswer (given parents pebbles targets) (now (plan .entry)))) ⌝ }
+    ensures { λ r. ⌜ r ≡ inC (mapAnswer (λ v. v .excess) (checkAnswer (given parents pebbles targets) (was plan))) ⌝ }
 {
     match check(parents, pebbles, targets, plan) {
         Checked::Accepted(_, excess) => excess as u32,
@@ -49,8 +49,8 @@ pub extern "C" fn javendriky_trial(
     plan: &[u8],
     budget: u16,
 ) -> u32
-    ensures { λ r. ⌜ r ≡ inC (mapAnswer trialInC (trialAnswer (given parents pebbles targets) (now (plan .entry)) budget)) ⌝ }
-    ensures { λ r. ⌜ now (pebbles .exit) ≡ trialPebbles (given parents pebbles targets) (now (plan .entry)) budget ⌝ }
+    ensures { λ r. ⌜ r ≡ inC (mapAnswer trialInC (trialAnswer (given parents pebbles targets) (was plan) budget)) ⌝ }
+    ensures { λ r. ⌜ became pebbles ≡ trialPebbles (given parents pebbles targets) (was plan) budget ⌝ }
 {
     tried(trial(parents, pebbles, targets, plan, budget))
 }

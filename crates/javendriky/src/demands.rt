@@ -1,6 +1,6 @@
 // The demands (accounts) and the figures.
 ghost use mathlib.Core.Path.{_≡_};
-ghost use Rattle.model.specs.Given.{given};
+ghost use Rattle.model.specs.Given.{given, was, became};
 ghost use Rattle.model.specs.Calls.Answers.{inC, zeroInC};
 ghost use Rattle.model.specs.Calls.Demands.{demandsFault, demandsList, boundAnswer, displacedAnswer};
 use crate::answers::counted;
@@ -17,8 +17,8 @@ pub extern "C" fn javendriky_demands(
     targets: &[u8],
     list: &mut [i16],
 ) -> u32
-    ensures { λ r. ⌜ r ≡ zeroInC (demandsFault (given parents pebbles targets) (now (list .entry))) ⌝ }
-    ensures { λ r. ⌜ now (list .exit) ≡ demandsList (given parents pebbles targets) (now (list .entry)) ⌝ }
+    ensures { λ r. ⌜ r ≡ zeroInC (demandsFault (given parents pebbles targets) (was list)) ⌝ }
+    ensures { λ r. ⌜ became list ≡ demandsList (given parents pebbles targets) (was list) ⌝ }
 {
     done(demands(parents, pebbles, targets, list))
 }

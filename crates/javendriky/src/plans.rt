@@ -1,6 +1,6 @@
 // The planner.
 ghost use mathlib.Core.Path.{_≡_};
-ghost use Rattle.model.specs.Given.{given};
+ghost use Rattle.model.specs.Given.{given, was, became};
 ghost use Rattle.model.specs.Calls.Answers.{inC, told};
 ghost use Rattle.model.specs.Calls.Plans.{planAnswer, planList};
 ghost use Rattle.model.specs.Demand3.{Demand3};
@@ -14,9 +14,9 @@ pub extern "C" fn javendriky_plan(
     targets: &[u8],
     plan: &mut [u8],
 ) -> u32
-    ensures { λ r. ⌜ r ≡ inC (planAnswer (given parents pebbles targets) (now (plan .entry))) ⌝ }
-    ensures { λ r. ⌜ now (plan .exit) ≡ planList (given parents pebbles targets) (now (plan .entry)) ⌝ }
-    ensures { λ r. ⌜ Demand3 (given parents pebbles targets) (now (plan .entry)) (told r) (now (plan .exit)) ⌝ }
+    ensures { λ r. ⌜ r ≡ inC (planAnswer (given parents pebbles targets) (was plan)) ⌝ }
+    ensures { λ r. ⌜ became plan ≡ planList (given parents pebbles targets) (was plan) ⌝ }
+    ensures { λ r. ⌜ Demand3 (given parents pebbles targets) (was plan) (told r) (became plan) ⌝ }
 {
     counted(planner::plan::plan(parents, pebbles, targets, plan))
 }

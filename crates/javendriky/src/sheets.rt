@@ -1,7 +1,7 @@
 // Yard sheets read and written.
 ghost use mathlib.Core.Path.{_≡_};
 ghost use Rattle.model.specs.Yard.{Yard, size};
-ghost use Rattle.model.specs.Given.{given, readFrom};
+ghost use Rattle.model.specs.Given.{given, readFrom, was, became};
 ghost use Rattle.model.specs.Calls.Answers.{mapAnswer, inC};
 ghost use Rattle.model.specs.Sheets.{filled, writeAnswer, writeList};
 use crate::answers::counted;
@@ -17,9 +17,9 @@ pub extern "C" fn javendriky_read_sheet(
     targets: &mut [u8],
 ) -> u32
     ensures { λ r. ⌜ r ≡ inC (mapAnswer size (readFrom sheet parents pebbles targets)) ⌝ }
-    ensures { λ r. ⌜ now (parents .exit) ≡ filled (λ (y : Yard). y .parents) (readFrom sheet parents pebbles targets) (now (parents .entry)) ⌝ }
-    ensures { λ r. ⌜ now (pebbles .exit) ≡ filled (λ (y : Yard). y .pebbles) (readFrom sheet parents pebbles targets) (now (pebbles .entry)) ⌝ }
-    ensures { λ r. ⌜ now (targets .exit) ≡ filled (λ (y : Yard). y .targets) (readFrom sheet parents pebbles targets) (now (targets .entry)) ⌝ }
+    ensures { λ r. ⌜ became parents ≡ filled (λ (y : Yard). y .parents) (readFrom sheet parents pebbles targets) (was parents) ⌝ }
+    ensures { λ r. ⌜ became pebbles ≡ filled (λ (y : Yard). y .pebbles) (readFrom sheet parents pebbles targets) (was pebbles) ⌝ }
+    ensures { λ r. ⌜ became targets ≡ filled (λ (y : Yard). y .targets) (readFrom sheet parents pebbles targets) (was targets) ⌝ }
 {
     counted(read_sheet(sheet, parents, pebbles, targets))
 }
@@ -32,8 +32,8 @@ pub extern "C" fn javendriky_write_sheet(
     targets: &[u8],
     sheet: &mut [u8],
 ) -> u32
-    ensures { λ r. ⌜ r ≡ inC (writeAnswer (given parents pebbles targets) (now (sheet .entry))) ⌝ }
-    ensures { λ r. ⌜ now (sheet .exit) ≡ writeList (given parents pebbles targets) (now (sheet .entry)) ⌝ }
+    ensures { λ r. ⌜ r ≡ inC (writeAnswer (given parents pebbles targets) (was sheet)) ⌝ }
+    ensures { λ r. ⌜ became sheet ≡ writeList (given parents pebbles targets) (was sheet) ⌝ }
 {
     counted(write_sheet(parents, pebbles, targets, sheet))
 }

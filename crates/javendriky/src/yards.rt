@@ -1,6 +1,6 @@
 // The test of a yard, and one push.
 ghost use mathlib.Core.Path.{_≡_};
-ghost use Rattle.model.specs.Given.{given};
+ghost use Rattle.model.specs.Given.{given, became};
 ghost use Rattle.model.specs.Judge.{judge};
 ghost use Rattle.model.specs.Push.{push, pushFault, pushedPebbles};
 ghost use Rattle.model.specs.Calls.Answers.{zeroInC};
@@ -26,7 +26,7 @@ pub extern "C" fn javendriky_push(
     to: usize,
 ) -> u32
     ensures { λ r. ⌜ r ≡ zeroInC (pushFault (given parents pebbles targets) (push from to)) ⌝ }
-    ensures { λ r. ⌜ now (pebbles .exit) ≡ pushedPebbles (given parents pebbles targets) (push from to) ⌝ }
+    ensures { λ r. ⌜ became pebbles ≡ pushedPebbles (given parents pebbles targets) (push from to) ⌝ }
 {
     done(push_lists(parents, pebbles, targets, from, to))
 }

@@ -3,7 +3,7 @@ ghost use mathlib.Core.Path.{_≡_};
 ghost use mathlib.Core.List.{[]};
 ghost use lib.ListN.{length};
 ghost use Rattle.model.specs.Yard.{yardOf};
-ghost use Rattle.model.specs.Given.{given};
+ghost use Rattle.model.specs.Given.{given, was};
 ghost use Rattle.model.specs.Judge.{firstOf, lengthTests, entryTests, shapeTests, judge};
 ghost use Rattle.model.specs.Paper.{paperDone};
 ghost use Rattle.judge.specs.Climb.{Parents};
@@ -57,7 +57,7 @@ fn test_entries(parents: &[u8], pebbles: &[u8], targets: &[u8]) -> Done
 // Refusals 5 and 6, of parents that are nodes.
 fn test_shape(parents: &[u8]) -> Done
     requires { ⌜ Parents (now parents) ⌝ }
-    ensures { λ r. ⌜ paperDone r ≡ firstOf (shapeTests (yardOf (now (parents .entry)) [] [])) ⌝ }
+    ensures { λ r. ⌜ paperDone r ≡ firstOf (shapeTests (yardOf (was parents) [] [])) ⌝ }
 {
     let n = parents.len();
     let root = first_own(parents, 0);

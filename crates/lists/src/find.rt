@@ -2,12 +2,13 @@
 ghost use mathlib.Core.Path.{_≡_};
 ghost use lib.ListN.{length, getD};
 ghost use Rattle.model.specs.Yard.{most};
+ghost use Rattle.model.specs.Given.{was};
 ghost use Rattle.lists.specs.Find.{firstAtLeast, firstOwn, firstBelow};
 use crate::numbers::larger;
 
 // The greatest entry of a list, 0 of an empty one.
 fn greatest(list: &[u8]) -> u8
-    ensures { λ r. ⌜ r ≡ most (length (now (list .entry))) (λ v. getD (now (list .entry)) v 0) ⌝ }
+    ensures { λ r. ⌜ r ≡ most (length (was list)) (λ v. getD (was list) v 0) ⌝ }
 {
     let mut most = 0;
     let mut i = 0;
@@ -21,7 +22,7 @@ fn greatest(list: &[u8]) -> u8
 // The lowest index whose entry is at least `limit`, or the list's length. Mostly there is none, which the greatest entry tells: to find that, many
 // entries can be looked at at once.
 pub fn first_at_least(list: &[u8], limit: usize) -> usize
-    ensures { λ r. ⌜ r ≡ firstAtLeast (now (list .entry)) limit ⌝ }
+    ensures { λ r. ⌜ r ≡ firstAtLeast (was list) limit ⌝ }
 {
     if (greatest(list) as usize) < limit {
         return list.len();
@@ -31,7 +32,7 @@ pub fn first_at_least(list: &[u8], limit: usize) -> usize
 
 // The same, entry by entry.
 fn look_for(list: &[u8], limit: usize) -> usize
-    ensures { λ r. ⌜ r ≡ firstAtLeast (now (list .entry)) limit ⌝ }
+    ensures { λ r. ⌜ r ≡ firstAtLeast (was list) limit ⌝ }
 {
     let mut i = 0;
     while i < list.len() {
@@ -45,7 +46,7 @@ fn look_for(list: &[u8], limit: usize) -> usize
 
 // The lowest index from `start` on whose entry is the index itself, or the list's length.
 pub fn first_own(list: &[u8], start: usize) -> usize
-    ensures { λ r. ⌜ r ≡ firstOwn (now (list .entry)) start ⌝ }
+    ensures { λ r. ⌜ r ≡ firstOwn (was list) start ⌝ }
 {
     let mut i = start;
     while i < list.len() {
@@ -60,7 +61,7 @@ pub fn first_own(list: &[u8], start: usize) -> usize
 // The lowest index whose entry is below the other list's, or the list's length.
 pub fn first_below(list: &[u8], other: &[u8]) -> usize
     requires { ⌜ length (now other) ≡ length (now list) ⌝ }
-    ensures { λ r. ⌜ r ≡ firstBelow (now (list .entry)) (now (other .entry)) ⌝ }
+    ensures { λ r. ⌜ r ≡ firstBelow (was list) (was other) ⌝ }
 {
     let mut i = 0;
     while i < list.len() {

@@ -1,4 +1,4 @@
--- The yard of three lent lists, in one word for contracts.
+-- What lent lists hold, in one word for contracts: the yard of three of them, and each by itself.
 use mathlib.Core.List.{List}
 use Prim.Native.Nat.{ℕ}
 use denote.Ref.{RefT, now}
@@ -18,3 +18,10 @@ readFrom sheet parents pebbles targets = reader (now (sheet .entry)) (now (paren
 -- as they are, for a `requires`
 abbrev pub handed : RefT (List ℕ) → RefT (List ℕ) → RefT (List ℕ) → Yard
 handed parents pebbles targets = yardOf (now parents) (now pebbles) (now targets)
+
+-- a lent list, in one word for an `ensures`: as the call found it, and as it leaves it
+abbrev pub was : {A X : Type 0} → Both (RefT A) X → A
+was list = now (list .entry)
+
+abbrev pub became : {A E : Type 0} → Both E (RefT A) → A
+became list = now (list .exit)

@@ -1,7 +1,7 @@
 // From the bytes of a yard sheet to the bytes that are printed.
 ghost use Prim.Native.Nat.{_≤_};
 ghost use lib.ListN.{length};
-ghost use Rattle.model.specs.Given.{given};
+ghost use Rattle.model.specs.Given.{given, was, became};
 ghost use Rattle.model.specs.Calls.Answers.{answered, Row};
 ghost use Rattle.model.specs.Sheets as Sheets;
 ghost use Rattle.model.specs.Sheets.{refusalSheet, planOf, sheetOf};
@@ -22,7 +22,7 @@ pub const OUTPUT_BYTES: usize = 131_080;
 // The refusal and its place.
 fn put_refused(r: Refusal, out: &mut [u8]) -> usize
     requires { ⌜ Row (paper r) × (28 ≤ length (now out)) ⌝ }
-    ensures { λ n. ⌜ Printed (refusalSheet (paper r)) n (now (out .exit)) ⌝ }
+    ensures { λ n. ⌜ Printed (refusalSheet (paper r)) n (became out) ⌝ }
 {
     let row = number(r) as usize;
     let at = place(r);
@@ -32,7 +32,7 @@ fn put_refused(r: Refusal, out: &mut [u8]) -> usize
 // The move sheet of three lists, or what refuses them. The plan's list has room for every plan.
 fn put_plan(parents: &[u8], pebbles: &[u8], targets: &[u8], out: &mut [u8]) -> usize
     requires { ⌜ 131_080 ≤ length (now out) ⌝ }
-    ensures { λ n. ⌜ Printed (sheetOf (planOf (answered (given parents pebbles targets)))) n (now (out .exit)) ⌝ }
+    ensures { λ n. ⌜ Printed (sheetOf (planOf (answered (given parents pebbles targets)))) n (became out) ⌝ }
 {
     let mut list = [0u8; 32768];
     match plan(parents, pebbles, targets, &mut list) {
@@ -43,7 +43,7 @@ fn put_plan(parents: &[u8], pebbles: &[u8], targets: &[u8], out: &mut [u8]) -> u
 
 // What is printed for an input, at the front of a list; answers how many bytes.
 pub fn program(input: &[u8], out: &mut [u8; OUTPUT_BYTES]) -> usize
-    ensures { λ n. ⌜ Printed (Sheets.program (now (input .entry))) n (now (out .exit)) ⌝ }
+    ensures { λ n. ⌜ Printed (Sheets.program (was input)) n (became out) ⌝ }
 {
     let mut parents = [0u8; 256];
     let mut pebbles = [0u8; 256];

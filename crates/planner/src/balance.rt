@@ -2,9 +2,9 @@
 ghost use mathlib.Core.Path.{_≡_};
 ghost use mathlib.Core.Bool.{cond};
 ghost use Rattle.model.specs.Yard.{Yard};
+ghost use Rattle.model.specs.Given.{was, became};
 ghost use Rattle.model.specs.Plan.{choice};
 ghost use Rattle.model.proofs.Step.{need};
-ghost use Rattle.serve.specs.Lent.{was, became};
 ghost use Rattle.serve.specs.Serving.{AskedChoice, AskedStart, Start};
 ghost use Rattle.planner.specs.Balancing.{AskedEven, Settled, Balanced};
 use serve::choose::choose_from;

@@ -1,7 +1,7 @@
 // The planner's call.
 ghost use mathlib.Core.Path.{_≡_};
 ghost use Rattle.model.specs.Yard.{Matched};
-ghost use Rattle.model.specs.Given.{given, handed};
+ghost use Rattle.model.specs.Given.{given, handed, was, became};
 ghost use Rattle.model.specs.Judge.{Tree};
 ghost use Rattle.model.specs.Calls.Plans.{planAnswer, planList};
 ghost use Rattle.model.specs.Paper.{paperCounted};
@@ -20,8 +20,8 @@ use serve::tree::tables;
 // place if the list is shorter.
 fn plan_matched(parents: &[u8], pebbles: &[u8], targets: &[u8], plan: &mut [u8]) -> Counted
     requires { ⌜ Tree (handed parents pebbles targets) × Matched (handed parents pebbles targets) ⌝ }
-    ensures { λ r. ⌜ paperCounted r ≡ planAnswer (given parents pebbles targets) (now (plan .entry)) ⌝ }
-    ensures { λ r. ⌜ now (plan .exit) ≡ planList (given parents pebbles targets) (now (plan .entry)) ⌝ }
+    ensures { λ r. ⌜ paperCounted r ≡ planAnswer (given parents pebbles targets) (was plan) ⌝ }
+    ensures { λ r. ⌜ became plan ≡ planList (given parents pebbles targets) (was plan) ⌝ }
 {
     let n = parents.len();
     let mut s = [0i16; 512];
@@ -39,9 +39,9 @@ fn plan_matched(parents: &[u8], pebbles: &[u8], targets: &[u8], plan: &mut [u8])
 // The planner: the plan of Algorithms 1 to 4 at the front of the lent list, the bytes behind it untouched; answers the number of moves. Refusals 1
 // to 7, then 8 with the moves needed as place; a refusal leaves the list as it was. No move is spare (`Demand3`).
 pub fn plan(parents: &[u8], pebbles: &[u8], targets: &[u8], list: &mut [u8]) -> Counted
-    ensures { λ r. ⌜ paperCounted r ≡ planAnswer (given parents pebbles targets) (now (list .entry)) ⌝ }
-    ensures { λ r. ⌜ now (list .exit) ≡ planList (given parents pebbles targets) (now (list .entry)) ⌝ }
-    ensures { λ r. ⌜ Demand3 (given parents pebbles targets) (now (list .entry)) (paperCounted r) (now (list .exit)) ⌝ }
+    ensures { λ r. ⌜ paperCounted r ≡ planAnswer (given parents pebbles targets) (was list) ⌝ }
+    ensures { λ r. ⌜ became list ≡ planList (given parents pebbles targets) (was list) ⌝ }
+    ensures { λ r. ⌜ Demand3 (given parents pebbles targets) (was list) (paperCounted r) (became list) ⌝ }
 {
     let tested = test_matched(parents, pebbles, targets);
     if let Done::Refused(r) = tested {

@@ -3,6 +3,7 @@ ghost use mathlib.Core.Path.{_≡_};
 ghost use Prim.Native.Nat.{_≤_, _<_};
 ghost use lib.ListN.{length, take, drop};
 ghost use Rattle.model.specs.Yard.{Yard, maxSize};
+ghost use Rattle.model.specs.Given.{was, became};
 ghost use Rattle.model.specs.Sheets as Sheets;
 ghost use Rattle.model.specs.Sheets.{same, nodeLine, readNodes, readYard, reader, readAnswer, filled};
 ghost use Rattle.model.specs.Paper.{paperCounted};
@@ -44,7 +45,7 @@ fn extended(value: usize, b: u8) -> usize
 // The value that stands at `at` and is ended by the byte `stop`.
 fn field(sheet: &[u8], at: usize, stop: u8) -> Word
     requires { ⌜ stop < 48 ⌝ }
-    ensures { λ r. ⌜ wordIn (now (sheet .entry)) r ≡ Sheets.field stop (drop at (now (sheet .entry))) ⌝ }
+    ensures { λ r. ⌜ wordIn (was sheet) r ≡ Sheets.field stop (drop at (was sheet)) ⌝ }
 {
     if at >= sheet.len() {
         return Word::Wrong;
@@ -74,7 +75,7 @@ fn field(sheet: &[u8], at: usize, stop: u8) -> Word
 
 // The line of a node that stands at `at`.
 fn node_line(sheet: &[u8], at: usize) -> Line
-    ensures { λ r. ⌜ lineIn (now (sheet .entry)) r ≡ nodeLine (drop at (now (sheet .entry))) ⌝ }
+    ensures { λ r. ⌜ lineIn (was sheet) r ≡ nodeLine (drop at (was sheet)) ⌝ }
 {
     let first = field(sheet, at, b' ');
     let Word::Value(node, behind_node) = first else {
@@ -103,8 +104,8 @@ fn read_nodes(
     targets: &mut [u8; 256],
 ) -> Counted
     requires { ⌜ Full (now parents) (now pebbles) (now targets) ⌝ }
-    ensures { λ r. ⌜ took r (now (parents .exit)) (now (pebbles .exit)) (now (targets .exit)) ≡ readNodes maxSize 0 (drop 24 (now (sheet .entry))) ⌝ }
-    ensures { λ r. ⌜ (counted r ≤ maxSize) × Full (now (parents .exit)) (now (pebbles .exit)) (now (targets .exit)) ⌝ }
+    ensures { λ r. ⌜ took r (became parents) (became pebbles) (became targets) ≡ readNodes maxSize 0 (drop 24 (was sheet)) ⌝ }
+    ensures { λ r. ⌜ (counted r ≤ maxSize) × Full (became parents) (became pebbles) (became targets) ⌝ }
 {
     let mut at = HEADER_BYTES;
     let mut v = 0;
@@ -130,7 +131,7 @@ fn read_nodes(
 
 // Whether a list begins with `head`.
 fn begins(list: &[u8], head: &[u8]) -> bool
-    ensures { λ r. ⌜ r ≡ same (take (length (now (head .entry))) (now (list .entry))) (now (head .entry)) ⌝ }
+    ensures { λ r. ⌜ r ≡ same (take (length (was head)) (was list)) (was head) ⌝ }
 {
     if list.len() < head.len() {
         return false;
@@ -153,8 +154,8 @@ fn read_lines(
     targets: &mut [u8; 256],
 ) -> Counted
     requires { ⌜ Full (now parents) (now pebbles) (now targets) ⌝ }
-    ensures { λ r. ⌜ took r (now (parents .exit)) (now (pebbles .exit)) (now (targets .exit)) ≡ readYard (now (sheet .entry)) ⌝ }
-    ensures { λ r. ⌜ (counted r ≤ maxSize) × Full (now (parents .exit)) (now (pebbles .exit)) (now (targets .exit)) ⌝ }
+    ensures { λ r. ⌜ took r (became parents) (became pebbles) (became targets) ≡ readYard (was sheet) ⌝ }
+    ensures { λ r. ⌜ (counted r ≤ maxSize) × Full (became parents) (became pebbles) (became targets) ⌝ }
 {
     if !begins(sheet, b"berth parent car target\n") {
         return Counted::Refused(Refusal::Header);
@@ -173,10 +174,10 @@ pub fn read_sheet(
     pebbles: &mut [u8],
     targets: &mut [u8],
 ) -> Counted
-    ensures { λ r. ⌜ paperCounted r ≡ readAnswer (now (sheet .entry)) (now (parents .entry)) (now (pebbles .entry)) (now (targets .entry)) ⌝ }
-    ensures { λ r. ⌜ now (parents .exit) ≡ filled (λ (y : Yard). y .parents) (reader (now (sheet .entry)) (now (parents .entry)) (now (pebbles .entry)) (now (targets .entry))) (now (parents .entry)) ⌝ }
-    ensures { λ r. ⌜ now (pebbles .exit) ≡ filled (λ (y : Yard). y .pebbles) (reader (now (sheet .entry)) (now (parents .entry)) (now (pebbles .entry)) (now (targets .entry))) (now (pebbles .entry)) ⌝ }
-    ensures { λ r. ⌜ now (targets .exit) ≡ filled (λ (y : Yard). y .targets) (reader (now (sheet .entry)) (now (parents .entry)) (now (pebbles .entry)) (now (targets .entry))) (now (targets .entry)) ⌝ }
+    ensures { λ r. ⌜ paperCounted r ≡ readAnswer (was sheet) (was parents) (was pebbles) (was targets) ⌝ }
+    ensures { λ r. ⌜ became parents ≡ filled (λ (y : Yard). y .parents) (reader (was sheet) (was parents) (was pebbles) (was targets)) (was parents) ⌝ }
+    ensures { λ r. ⌜ became pebbles ≡ filled (λ (y : Yard). y .pebbles) (reader (was sheet) (was parents) (was pebbles) (was targets)) (was pebbles) ⌝ }
+    ensures { λ r. ⌜ became targets ≡ filled (λ (y : Yard). y .targets) (reader (was sheet) (was parents) (was pebbles) (was targets)) (was targets) ⌝ }
 {
     if parents.len() < 256 {
         return Counted::Refused(Refusal::ReaderList);

@@ -1,3 +1,2 @@
 -- What the helpers of the planner promise one another.
-pub mod Lent
 pub mod Serving

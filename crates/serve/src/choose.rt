@@ -2,9 +2,9 @@
 ghost use mathlib.Core.Path.{_≡_};
 ghost use Prim.Native.Nat.{_<_};
 ghost use Rattle.model.specs.Yard.{Yard, size};
+ghost use Rattle.model.specs.Given.{was};
 ghost use Rattle.model.specs.Plan.{choice};
 ghost use Rattle.model.proofs.Step.{need};
-ghost use Rattle.serve.specs.Lent.{was};
 ghost use Rattle.serve.specs.Serving.{wants, Describes, AskedChoice};
 
 // A byte as a number.

@@ -2,7 +2,7 @@
 ghost use mathlib.Core.Path.{_≡_};
 ghost use Prim.Native.Nat.{_<_, _≤_};
 ghost use lib.ListN.{length};
-ghost use Rattle.serve.specs.Lent.{was, became};
+ghost use Rattle.model.specs.Given.{was, became};
 ghost use Rattle.serve.specs.Serving.{Linked, Tables, AskedTables, linkedTo};
 use crate::choose::wide;
 

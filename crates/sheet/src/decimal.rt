@@ -3,6 +3,7 @@ ghost use mathlib.Core.Path.{_≡_};
 ghost use mathlib.Core.List.{[], _∷_, _++_};
 ghost use Prim.Native.Nat.{_+_, _≤_};
 ghost use lib.ListN.{length};
+ghost use Rattle.model.specs.Given.{was, became};
 ghost use Rattle.model.specs.Sheets.{decimal};
 ghost use Rattle.sheet.specs.Written.{Written};
 
@@ -22,7 +23,7 @@ pub fn width(n: usize) -> usize
 // Writes a number from `at` on, its last digit first, and answers the place behind it.
 fn put_decimal(out: &mut [u8], at: usize, n: usize) -> usize
     requires { ⌜ at + length (decimal n) ≤ length (now out) ⌝ }
-    ensures { λ r. ⌜ Written (decimal n) at (now (out .entry)) r (now (out .exit)) ⌝ }
+    ensures { λ r. ⌜ Written (decimal n) at (was out) r (became out) ⌝ }
 {
     let end = at + width(n);
     let mut i = end - 1;
@@ -39,7 +40,7 @@ fn put_decimal(out: &mut [u8], at: usize, n: usize) -> usize
 // Writes a number and the byte that ends it, and answers the place behind both.
 pub fn put_value(out: &mut [u8], at: usize, n: usize, stop: u8) -> usize
     requires { ⌜ at + length (decimal n) + 1 ≤ length (now out) ⌝ }
-    ensures { λ r. ⌜ Written (decimal n ++ (stop ∷ [])) at (now (out .entry)) r (now (out .exit)) ⌝ }
+    ensures { λ r. ⌜ Written (decimal n ++ (stop ∷ [])) at (was out) r (became out) ⌝ }
 {
     let end = put_decimal(out, at, n);
     out[end] = stop;
@@ -49,7 +50,7 @@ pub fn put_value(out: &mut [u8], at: usize, n: usize, stop: u8) -> usize
 // Writes a text from `at` on, and answers the place behind it.
 pub fn put_text(out: &mut [u8], at: usize, text: &[u8]) -> usize
     requires { ⌜ at + length (now text) ≤ length (now out) ⌝ }
-    ensures { λ r. ⌜ Written (now (text .entry)) at (now (out .entry)) r (now (out .exit)) ⌝ }
+    ensures { λ r. ⌜ Written (was text) at (was out) r (became out) ⌝ }
 {
     let mut i = 0;
     while i < text.len() {

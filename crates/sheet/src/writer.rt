@@ -3,7 +3,7 @@ ghost use mathlib.Core.Path.{_≡_};
 ghost use mathlib.Core.List.{[], _∷_};
 ghost use Prim.Native.Nat.{_+_, _≤_, _<_};
 ghost use lib.ListN.{length};
-ghost use Rattle.model.specs.Given.{given, handed};
+ghost use Rattle.model.specs.Given.{given, handed, was, became};
 ghost use Rattle.model.specs.Sheets.{line, yardSheet, writeAnswer, writeList};
 ghost use Rattle.model.specs.Paper.{paperCounted};
 ghost use Rattle.sheet.specs.Written.{Written};
@@ -30,7 +30,7 @@ fn line_bytes(node: usize, parent: u8, pebble: u8, target: u8) -> usize
 // Writes a node's line, and answers the place behind it.
 fn put_node(out: &mut [u8], at: usize, node: usize, parent: u8, pebble: u8, target: u8) -> usize
     requires { ⌜ at + length (line (node ∷ parent ∷ pebble ∷ target ∷ [])) ≤ length (now out) ⌝ }
-    ensures { λ r. ⌜ Written (line (node ∷ parent ∷ pebble ∷ target ∷ [])) at (now (out .entry)) r (now (out .exit)) ⌝ }
+    ensures { λ r. ⌜ Written (line (node ∷ parent ∷ pebble ∷ target ∷ [])) at (was out) r (became out) ⌝ }
 {
     let behind_node = put_value(out, at, node, b' ');
     let behind_parent = put_value(out, behind_node, parent as usize, b' ');
@@ -55,7 +55,7 @@ fn sheet_bytes(parents: &[u8], pebbles: &[u8], targets: &[u8]) -> usize
 // Writes the sheet of three lists at the front of a list, and answers its length.
 fn put_sheet(parents: &[u8], pebbles: &[u8], targets: &[u8], sheet: &mut [u8]) -> usize
     requires { ⌜ (length (now pebbles) ≡ length (now parents)) × (length (now targets) ≡ length (now parents)) × (length (yardSheet (handed parents pebbles targets)) ≤ length (now sheet)) ⌝ }
-    ensures { λ r. ⌜ Written (yardSheet (given parents pebbles targets)) 0 (now (sheet .entry)) r (now (sheet .exit)) ⌝ }
+    ensures { λ r. ⌜ Written (yardSheet (given parents pebbles targets)) 0 (was sheet) r (became sheet) ⌝ }
 {
     let mut at = put_text(sheet, 0, b"berth parent car target\n");
     let mut v = 0;
@@ -69,8 +69,8 @@ fn put_sheet(parents: &[u8], pebbles: &[u8], targets: &[u8], sheet: &mut [u8]) -
 // Writes three lists as a sheet: refusals 1 and 2, then 8 with the bytes needed if the list is shorter. It answers the bytes written and leaves
 // the others.
 pub fn write_sheet(parents: &[u8], pebbles: &[u8], targets: &[u8], sheet: &mut [u8]) -> Counted
-    ensures { λ r. ⌜ paperCounted r ≡ writeAnswer (given parents pebbles targets) (now (sheet .entry)) ⌝ }
-    ensures { λ r. ⌜ now (sheet .exit) ≡ writeList (given parents pebbles targets) (now (sheet .entry)) ⌝ }
+    ensures { λ r. ⌜ paperCounted r ≡ writeAnswer (given parents pebbles targets) (was sheet) ⌝ }
+    ensures { λ r. ⌜ became sheet ≡ writeList (given parents pebbles targets) (was sheet) ⌝ }
 {
     let lengths = test_lengths(parents, pebbles, targets);
     if let Done::Refused(r) = lengths {

@@ -1,6 +1,6 @@
 // One push of three lists.
 ghost use mathlib.Core.Path.{_≡_};
-ghost use Rattle.model.specs.Given.{given};
+ghost use Rattle.model.specs.Given.{given, became};
 ghost use Rattle.model.specs.Push.{push, pushFault, pushedPebbles};
 ghost use Rattle.model.specs.Paper.{paperDone};
 use crate::step::step;
@@ -16,7 +16,7 @@ pub fn push_lists(
     to: usize,
 ) -> Done
     ensures { λ r. ⌜ paperDone r ≡ pushFault (given parents pebbles targets) (push from to) ⌝ }
-    ensures { λ r. ⌜ now (pebbles .exit) ≡ pushedPebbles (given parents pebbles targets) (push from to) ⌝ }
+    ensures { λ r. ⌜ became pebbles ≡ pushedPebbles (given parents pebbles targets) (push from to) ⌝ }
 {
     let tested = test_yard(parents, pebbles, targets);
     if let Done::Refused(r) = tested {

@@ -3,7 +3,7 @@ ghost use mathlib.Core.Path.{_≡_};
 ghost use Prim.Native.Nat.{_≤_};
 ghost use lib.ListN.{length};
 ghost use Rattle.model.specs.Yard.{maxSize, fresh};
-ghost use Rattle.model.specs.Given.{given};
+ghost use Rattle.model.specs.Given.{given, was};
 ghost use Rattle.model.specs.Judge.{judge};
 ghost use Rattle.model.specs.Push.{push, pushFault, pushed};
 ghost use Rattle.model.specs.Paper.{paperDone};
@@ -31,7 +31,7 @@ pub struct Answered {
 // A list of at most `Yard::MAX` entries, continued by zeros.
 fn padded(list: &[u8]) -> [u8; Yard::MAX]
     requires { ⌜ length (now list) ≤ maxSize ⌝ }
-    ensures { λ r. ⌜ r ≡ State.padded maxSize (now (list .entry)) ⌝ }
+    ensures { λ r. ⌜ r ≡ State.padded maxSize (was list) ⌝ }
 {
     let mut array = [0u8; Yard::MAX];
     let mut i = 0;

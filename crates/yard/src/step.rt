@@ -6,6 +6,7 @@ ghost use mathlib.Core.Option.{some};
 ghost use Prim.Native.Nat.{ℕ, _<_};
 ghost use lib.ListN.{length};
 ghost use Rattle.model.specs.Yard.{yardOf};
+ghost use Rattle.model.specs.Given.{was, became};
 ghost use Rattle.model.specs.Push as Push;
 ghost use Rattle.model.specs.Push.{push, moveFault, isNone, shifted};
 ghost use Rattle.model.specs.Calls.Answers.{lent};
@@ -17,7 +18,7 @@ use model::Refusal;
 // Whether one of two nodes is the other's parent, and they differ.
 fn adjacent(parents: &[u8], a: usize, b: usize) -> bool
     requires { ⌜ (a < length (now parents)) × (b < length (now parents)) ⌝ }
-    ensures { λ r. ⌜ r ≡ Push.adjacent (yardOf (now (parents .entry)) [] []) a b ⌝ }
+    ensures { λ r. ⌜ r ≡ Push.adjacent (yardOf (was parents) [] []) a b ⌝ }
 {
     if a == b {
         return false;
@@ -80,7 +81,7 @@ fn fault(parents: &[u8], pebbles: &[u8], from: usize, to: usize, place: usize) -
 pub fn step(parents: &[u8], pebbles: &mut [u8], from: usize, to: usize, place: usize) -> Done
     requires { ⌜ length (now pebbles) ≡ length (now parents) ⌝ }
     ensures { λ r. ⌜ paperDone r ≡ moveFault (givenBare parents pebbles) (push from to) place ⌝ }
-    ensures { λ r. ⌜ now (pebbles .exit) ≡ lent (paperDone r) (shifted (now (pebbles .entry)) (push from to)) (now (pebbles .entry)) ⌝ }
+    ensures { λ r. ⌜ became pebbles ≡ lent (paperDone r) (shifted (was pebbles) (push from to)) (was pebbles) ⌝ }
 {
     if !free(parents, pebbles, from, to) {
         return Done::Refused(fault(parents, pebbles, from, to, place));
