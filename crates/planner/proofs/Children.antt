@@ -33,7 +33,7 @@ pub record Left (y : Yard) (u : ℕ) (s : List ℤ) (before plan : List ℕ) (k 
   pub begun : Begun y s before plan k (Balances y (u ∷ [])) (λ z. Balances z cs)
   pub even : (c : ℕ) → Child (y .parents) u c → Even (run y (begun .moves)) c
 
-pub left-none : {y : Yard} {u : ℕ} {s : List ℤ} {before plan : List ℕ} {k : ℕ} → Left y u s before plan k [] → Balanced y u s before plan k
+left-none : {y : Yard} {u : ℕ} {s : List ℤ} {before plan : List ℕ} {k : ℕ} → Left y u s before plan k [] → Balanced y u s before plan k
 left-none l = record { moves = l .begun .moves; balances = ended (l .begun) none; made = l .begun .made }
 
 -- the loop at u has ended, in a yard that was asked to be balanced there
@@ -81,7 +81,7 @@ leaf-balances {y} {c} e b =
     let r : Balances y (children y c) [] = rw e none in
     next {ms = []} {ns = []} s r b
 
-pub left-leaf : {y : Yard} {u c : ℕ} {s : List ℤ} {before plan : List ℕ} {k : ℕ} {cs : List ℕ} → Left y u s before plan k (c ∷ cs) → children y c ≡ [] → Left y u s before plan k cs
+left-leaf : {y : Yard} {u c : ℕ} {s : List ℤ} {before plan : List ℕ} {k : ℕ} {cs : List ℕ} → Left y u s before plan k (c ∷ cs) → children y c ≡ [] → Left y u s before plan k cs
 left-leaf l e = record { begun = record { moves = l .begun .moves; good = l .begun .good; made = l .begun .made; onward = λ ns b. l .begun .onward ns (leaf-balances e b) }; even = l .even }
 
 -- the children from some number on are left, and c is the lowest of them, or u itself behind the last

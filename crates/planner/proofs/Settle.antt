@@ -40,7 +40,7 @@ read-one zero h = refl
 read-one (suc zero) h = refl
 read-one (suc (suc p)) h = absurd (omega arith)
 
-pub read-held : {y : Yard} {t : List ℕ} {s : List ℤ} {u : ℕ} → Describes y t s → u < size y → readHeld s u ≡ held y u
+read-held : {y : Yard} {t : List ℕ} {s : List ℤ} {u : ℕ} → Describes y t s → u < size y → readHeld s u ≡ held y u
 read-held {y} {u = u} r l = rw (mark-is (r .kept) l) (read-one (pebble y u) (facts y (r .tree) .pebble-le u l))
 
 -- what the loop asks, after some moves

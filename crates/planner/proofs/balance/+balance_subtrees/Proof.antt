@@ -2,7 +2,7 @@
 -- has fewer nodes inside, so the height that bounds them falls (the laws are in Stretches, Siblings and Children).
 use native.Mathlib.Omega.{arith}
 use Prim.Native.Nat.{ℕ, _+_, _-_, _*_, _≤_, _<_}
-use mathlib.Core.Path.{_≡_, sym, _∙_}
+use mathlib.Core.Path.{_≡_}
 use mathlib.Core.List.{List}
 use lib.ListN.{length}
 use borrow.Author.Needs.{needs}
@@ -182,7 +182,7 @@ module _ (n : ℕ) where
   loop-again-2 c y before a =
       let w = c .before .before .before in
       let i = w .before .before in
-      left-childless (a .asked) (i .before .loop .inv y before a) (i .loop-test .taken) (w .wide2 .ensures .0) (sym (c .before .wide3 .ensures .0) ∙ c .if1 .left)
+      left-childless (a .asked) (i .before .loop .inv y before a) (i .loop-test .taken) (w .wide2 .ensures .0) (omega (arith, c .before .wide3 .ensures .0))
 
   same-length : lts.Need-same-length (claims n) (tree-at n) tree.Post Inv-loop μ-loop
   same-length c = used (c .before) .0

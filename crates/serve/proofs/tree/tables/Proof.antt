@@ -1,7 +1,7 @@
 -- `serve::tree::tables` meets its contract: linking goes from the highest node down, and each turn is a law of linking (Links).
 use Prim.Native.Nat.{ℕ, _+_, _-_, _≤_, _<_}
 use native.Mathlib.Omega.{arith}
-use mathlib.Core.Path.{_≡_, _∙_}
+use mathlib.Core.Path.{_≡_}
 use lib.ListN.{length}
 use borrow.Author.Needs.{needs}
 use Rattle.serve.specs.Serving.{Linked}
@@ -54,7 +54,7 @@ loop-again c =
     let i = w .before .before in
     let p = call i .pre in
     let l : node i < length (call i .args .parents .now) = omega arith in
-    (omega arith, rw (c .link .ensures, w .wide .ensures .0) (child-link (node i) (above i) l (p .few) (p .node (node i) l) (λ e. c .before .before .if1 .taken (w .wide .ensures .0 ∙ e))))
+    (omega arith, rw (c .link .ensures, w .wide .ensures .0) (child-link (node i) (above i) l (p .few) (p .node (node i) l) (λ e. omega (arith, w .wide .ensures .0))))
 
 loop-less-2 : tie.Need-loop-less-2 Inv-loop μ-loop
 loop-less-2 c = omega arith
