@@ -3,14 +3,9 @@ use mathlib.Core.Path.{_≡_}
 use mathlib.Core.Bool.{Bool, not}
 use mathlib.Core.List.{List}
 use mathlib.Core.Logic.{_⊎_}
-use Prim.Native.Nat.{ℕ, zero, suc, _≤_, _<_}
+use Prim.Native.Nat.{ℕ, zero, suc, _<_}
 use lib.ListN.{length, getD}
-use Rattle.model.specs.Yard.{maxSize, up, climbs}
-
--- at most 256 parents, each of which is a node
-pub record Parents (parents : List ℕ) : Type 0 where
-  pub few : length parents ≤ maxSize
-  pub inside : (v : ℕ) → v < length parents → up parents v < length parents
+use Rattle.model.specs.Yard.{up, climbs}
 
 -- climbing from v does not reach the root
 abbrev pub lost : List ℕ → ℕ → ℕ → Bool

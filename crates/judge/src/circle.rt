@@ -3,8 +3,9 @@ ghost use mathlib.Core.Path.{_≡_};
 ghost use Prim.Native.Nat.{_<_};
 ghost use lib.ListN.{length};
 ghost use Rattle.model.specs.Yard.{lowest};
+ghost use Rattle.model.specs.Judge.{Parents};
 ghost use Rattle.model.specs.Given.{was, became};
-ghost use Rattle.judge.specs.Climb.{Parents, lost, Marked};
+ghost use Rattle.judge.specs.Climb.{lost, Marked};
 
 // The lowest node that does not climb to `root`, or the number of nodes if each does. Nodes that are known to reach the root end a climb, so
 // that all climbs together take at most two steps a node, and one that meets a circle at most n more. Mostly the parent is known already.

@@ -3,10 +3,10 @@ use mathlib.Core.Path.{_≡_}
 use mathlib.Core.Bool.{Bool, true, false, not, _&&_}
 use mathlib.Core.List.{List, [], _∷_, _++_}
 use mathlib.Core.Option.{Option, none, some}
-use Prim.Native.Nat.{ℕ}
+use Prim.Native.Nat.{ℕ, _≤_, _<_}
 use lib.ListN.{length}
 use lib.Dec.{leb, ltb, eqb}
-use Rattle.model.specs.Yard.{Yard, size, maxSize, parent, pebble, target, capacity, below, climbs, roots, root, pebbleCount, targetCount}
+use Rattle.model.specs.Yard.{Yard, size, maxSize, up, parent, pebble, target, capacity, below, climbs, roots, root, pebbleCount, targetCount}
 
 -- a refusal: its number in the table, and its place
 pub record Fault : Type 0 where
@@ -90,3 +90,8 @@ matchedTests y = judge y ∷ totalsFault y ∷ []
 
 unfoldable pub matchedFault : Yard → Option Fault
 matchedFault y = firstOf (matchedTests y)
+
+-- what refusals 1 and 4 leave of a list of parents: at most 256, each of them a node
+pub record Parents (parents : List ℕ) : Type 0 where
+  pub few : length parents ≤ maxSize
+  pub node : (v : ℕ) → v < length parents → up parents v < length parents

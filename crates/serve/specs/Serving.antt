@@ -42,11 +42,6 @@ pub record Linked (i : ℕ) (ps t : List ℕ) : Type 0 where
 abbrev pub Tables : List ℕ → List ℕ → Type 0
 Tables ps t = Linked 0 ps t
 
--- what making them asks: parents that are nodes
-pub record AskedTables (ps : List ℕ) : Type 0 where
-  pub few : length ps ≤ 256
-  pub node : (v : ℕ) → v < length ps → up ps v < length ps
-
 -- the tables with v before the children of p
 abbrev pub linkedTo : List ℕ → ℕ → ℕ → List ℕ
 linkedTo t v p = set (set t (512 + v) (getD t (256 + p) 0)) (256 + p) v

@@ -2,8 +2,9 @@
 ghost use mathlib.Core.Path.{_≡_};
 ghost use Prim.Native.Nat.{_<_, _≤_};
 ghost use lib.ListN.{length};
+ghost use Rattle.model.specs.Judge.{Parents};
 ghost use Rattle.model.specs.Given.{was, became};
-ghost use Rattle.serve.specs.Serving.{Linked, Tables, AskedTables, linkedTo};
+ghost use Rattle.serve.specs.Serving.{Linked, Tables, linkedTo};
 use crate::choose::wide;
 
 // With no node linked yet: parents, and each node as its own lowest child.
@@ -32,7 +33,7 @@ fn link(t: &mut [u8; 768], v: usize, p: usize)
 
 // Linked from the highest node down, so that each parent's children come in rising order.
 pub fn tables(parents: &[u8]) -> [u8; 768]
-    requires { ⌜ AskedTables (now parents) ⌝ }
+    requires { ⌜ Parents (now parents) ⌝ }
     ensures { λ t. ⌜ Tables (was parents) t ⌝ }
 {
     let mut t = unlinked(parents);

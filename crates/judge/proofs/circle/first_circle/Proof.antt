@@ -61,7 +61,7 @@ reached c k l =
     let start = call (outer (c .before)) in
     let nodes = outer (c .before) .nodes in
     let loop = c .before .loop in
-    above-reaches (start .args .parents .now) (start .pre .0 .inside) (start .args .root) (loop .steps) k (nodes .v) (omega arith) l (rw (loop .inv .3) (nodes .inv .3 (loop .u) (c .loop-test .left)))
+    above-reaches (start .args .parents .now) (start .pre .0 .node) (start .args .root) (loop .steps) k (nodes .v) (omega arith) l (rw (loop .inv .3) (nodes .inv .3 (loop .u) (c .loop-test .left)))
 
 array-write-known : tie.Need-array-write-known Inv-loop μ-loop Inv-nodes μ-nodes
 array-write-known c = omega arith
@@ -83,7 +83,7 @@ cast-if1 : tie.Need-cast-if1 Inv-loop μ-loop Inv-nodes μ-nodes
 cast-if1 c = omega (arith, c .shared-slice-known2 .given (c .before .before .nodes .v))
 
 array-read-if1 : tie.Need-array-read-if1 Inv-loop μ-loop Inv-nodes μ-nodes
-array-read-if1 c = omega (arith, call (c .before .before) .pre .0 .inside (c .before .before .nodes .v) (omega arith))
+array-read-if1 c = omega (arith, call (c .before .before) .pre .0 .node (c .before .before .nodes .v) (omega arith))
 
 array-write-known-2 : tie.Need-array-write-known-2 Inv-loop μ-loop Inv-nodes μ-nodes
 array-write-known-2 c = omega arith
@@ -100,7 +100,7 @@ nodes-again c =
     let o = c .before .before .before in
     let start = call o in
     let nodes = o .nodes in
-    let here = above-reaches (start .args .parents .now) (start .pre .0 .inside) (start .args .root) 1 0 (nodes .v) (omega arith) (omega arith) (nodes .inv .3 _ (c .if1 .taken)) in (
+    let here = above-reaches (start .args .parents .now) (start .pre .0 .node) (start .args .root) 1 0 (nodes .v) (omega arith) (omega arith) (nodes .inv .3 _ (c .if1 .taken)) in (
       omega arith,
       nodes .inv .1,
       ⊎-elim (λ e. e ∙ nodes .inv .2) (λ e. e .0) (set-either (nodes .known) (nodes .v) (start .args .root) 1),
@@ -135,7 +135,7 @@ loop-again c =
     let ps = start .args .parents .now in (
       loop .inv .0,
       omega arith,
-      start .pre .0 .inside (loop .u) (loop .inv .2),
+      start .pre .0 .node (loop .u) (loop .inv .2),
       rw add-one (above-next (loop .steps) ps (nodes .v) ∙ ap (up ps) (loop .inv .3)),
       unmet (c .before .before),
     )

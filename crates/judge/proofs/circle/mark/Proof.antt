@@ -44,7 +44,7 @@ loop-again c =
     let loop = c .before .before .loop in
     let ps = start .args .parents .now in (
       rw add-one (above-next (loop .i) ps (start .args .v) ∙ ap (up ps) (loop .inv .0)),
-      start .pre .0 .inside (loop .u) (loop .inv .1),
+      start .pre .0 .node (loop .u) (loop .inv .1),
       λ w. ⊎-elim
           (λ e. ⊎-elim (λ s. inl (e ∙ s)) (λ s. inr (e ∙ s .0, s .1)) (loop .inv .2 w))
           (λ e. inr (e .0, (loop .i, c .before .loop-test .taken, loop .inv .0 ∙ e .1)))

@@ -50,7 +50,7 @@ test-shape-requires c κs =
     let a = t .before .before .before .before .args in
     record {
       few = passed-lengths (a .parents .now) (a .pebbles .now) (a .targets .now) (sym (ap paperDone (e .before .enum-told .given .1)) ∙ t .test-lengths .ensures) .1;
-      inside = passed-parents (a .parents .now) (a .pebbles .now) (a .targets .now) (sym (ap paperDone (c .enum-told2 .given .1)) ∙ e .test-entries .ensures);
+      node = passed-parents (a .parents .now) (a .pebbles .now) (a .targets .now) (sym (ap paperDone (c .enum-told2 .given .1)) ∙ e .test-entries .ensures);
     }
 
 returns-3 : tie.Need-returns-3
