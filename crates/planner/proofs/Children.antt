@@ -29,11 +29,11 @@ balances-more : {y : Yard} {c : ℕ} {cs : List ℕ} {ms ns : List Move} → Bal
 balances-more (next {ms = ms} {ns = ns} s b none) r = rw (append-nil (ms ++ ns)) (next s b (rw (append-nil (ms ++ ns)) at r))
 
 -- the loop at u has ended, and the children in a list are left
-pub record Left (y : Yard) (u : ℕ) (s : List ℤ) (before plan : List ℕ) (k : ℕ) (cs : List ℕ) : Type 0 where
+pub record ChildrenLeft (y : Yard) (u : ℕ) (s : List ℤ) (before plan : List ℕ) (k : ℕ) (cs : List ℕ) : Type 0 where
   pub begun : Begun y s before plan k (Balances y (u ∷ [])) (λ z. Balances z cs)
   pub even : (c : ℕ) → Child (y .parents) u c → Even (run y (begun .moves)) c
 
-left-none : {y : Yard} {u : ℕ} {s : List ℤ} {before plan : List ℕ} {k : ℕ} → Left y u s before plan k [] → Balanced y u s before plan k
+left-none : {y : Yard} {u : ℕ} {s : List ℤ} {before plan : List ℕ} {k : ℕ} → ChildrenLeft y u s before plan k [] → Balanced y u s before plan k
 left-none l = record { moves = l .begun .moves; balances = ended (l .begun) none; made = l .begun .made }
 
 -- the loop at u has ended, in a yard that was asked to be balanced there
@@ -43,7 +43,7 @@ pub record LoopEnded (y : Yard) (before t : List ℕ) (s : List ℤ) (plan : Lis
   pub loop : Settled y u s before plan k
 
 module _ {y : Yard} {t : List ℕ} {s₀ : List ℤ} {before : List ℕ} {u h : ℕ} (a : AskedEven y t s₀ before u h) where
-  left-all : {s : List ℤ} {plan : List ℕ} {k : ℕ} → Settled y u s before plan k → Left y u s before plan k (children y u)
+  left-all : {s : List ℤ} {plan : List ℕ} {k : ℕ} → Settled y u s before plan k → ChildrenLeft y u s before plan k (children y u)
   left-all v =
       let e = settles-good (v .settles) (a .described .tree) (a .node) (a .even) in
       record { begun = record { moves = v .moves; good = e .good; made = v .made; onward = λ ns b. rw append-nil at (next (v .settles) b none) }; even = e .kids }
@@ -52,7 +52,7 @@ module _ {y : Yard} {t : List ℕ} {s₀ : List ℤ} {before : List ℕ} {u h : 
     pub child-lower : weight (y .parents) c < h
     child-lower = omega (arith, a .high, weight-child (wood y (a .described .tree)) u c (a .node) f)
 
-    module _ {s : List ℤ} {plan : List ℕ} {k : ℕ} {cs : List ℕ} (l : Left y u s before plan k (c ∷ cs)) where
+    module _ {s : List ℤ} {plan : List ℕ} {k : ℕ} {cs : List ℕ} (l : ChildrenLeft y u s before plan k (c ∷ cs)) where
       -- what the next child asks, and what is left after it
       pub child-asked : AskedEven (run y (l .begun .moves)) t s (rest plan k) c (h - 1)
       child-asked = record {
@@ -63,7 +63,7 @@ module _ {y : Yard} {t : List ℕ} {s₀ : List ℤ} {before : List ℕ} {u h : 
         high = omega (arith, child-lower);
       }
 
-      pub left-next : {s′ : List ℤ} {part : List ℕ} {m : ℕ} → Balanced (run y (l .begun .moves)) c s′ (rest plan k) part m → Left y u s′ before (back plan k part) (k + m) cs
+      pub left-next : {s′ : List ℤ} {part : List ℕ} {m : ℕ} → Balanced (run y (l .begun .moves)) c s′ (rest plan k) part m → ChildrenLeft y u s′ before (back plan k part) (k + m) cs
       unfolding go-on
       left-next v =
           let z = child-asked in
@@ -81,14 +81,14 @@ leaf-balances {y} {c} e b =
     let r : Balances y (children y c) [] = rw e none in
     next {ms = []} {ns = []} s r b
 
-left-leaf : {y : Yard} {u c : ℕ} {s : List ℤ} {before plan : List ℕ} {k : ℕ} {cs : List ℕ} → Left y u s before plan k (c ∷ cs) → children y c ≡ [] → Left y u s before plan k cs
+left-leaf : {y : Yard} {u c : ℕ} {s : List ℤ} {before plan : List ℕ} {k : ℕ} {cs : List ℕ} → ChildrenLeft y u s before plan k (c ∷ cs) → children y c ≡ [] → ChildrenLeft y u s before plan k cs
 left-leaf l e = record { begun = record { moves = l .begun .moves; good = l .begun .good; made = l .begun .made; onward = λ ns b. l .begun .onward ns (leaf-balances e b) }; even = l .even }
 
 -- the children from some number on are left, and c is the lowest of them, or u itself behind the last
 pub record LeftFrom (y : Yard) (u : ℕ) (s : List ℤ) (before plan : List ℕ) (k c : ℕ) : Type 0 where
   pub low : ℕ
   pub lowest : Lowest (y .parents) u low c
-  pub left : Left y u s before plan k (childrenFrom (y .parents) u low)
+  pub left : ChildrenLeft y u s before plan k (childrenFrom (y .parents) u low)
 
 module _ {y : Yard} {t : List ℕ} {s₀ : List ℤ} {before : List ℕ} {u h : ℕ} (a : AskedEven y t s₀ before u h) {s : List ℤ} {plan : List ℕ} {k c : ℕ} where
   pub left-first : Settled y u s before plan k → c ≡ getD t (256 + u) 0 → LeftFrom y u s before plan k c
@@ -103,10 +103,10 @@ module _ {y : Yard} {t : List ℕ} {s₀ : List ℤ} {before : List ℕ} {u h : 
       pub left-child : Child (y .parents) u c
       left-child = child-from (l .lowest) d .0
 
-      pub left-here : Left y u s before plan k (c ∷ childrenFrom (y .parents) u (c + 1))
+      pub left-here : ChildrenLeft y u s before plan k (c ∷ childrenFrom (y .parents) u (c + 1))
       left-here = rw (some-from (l .lowest) d) at (l .left)
 
-      pub left-behind : {s′ : List ℤ} {plan′ : List ℕ} {k′ n : ℕ} → n ≡ getD t (512 + c) 0 → Left y u s′ before plan′ k′ (childrenFrom (y .parents) u (c + 1)) → LeftFrom y u s′ before plan′ k′ n
+      pub left-behind : {s′ : List ℤ} {plan′ : List ℕ} {k′ n : ℕ} → n ≡ getD t (512 + c) 0 → ChildrenLeft y u s′ before plan′ k′ (childrenFrom (y .parents) u (c + 1)) → LeftFrom y u s′ before plan′ k′ n
       left-behind e f = record { low = c + 1; lowest = rw e (next-is (a .described .tables) left-child); left = f }
 
       pub left-childless : {n : ℕ} → n ≡ getD t (512 + c) 0 → getD t (256 + c) 0 ≡ c → LeftFrom y u s before plan k n

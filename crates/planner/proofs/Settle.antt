@@ -118,12 +118,12 @@ module _ {y : Yard} {t : List ℕ} {s : List ℤ} {plan : List ℕ} {u h c : ℕ
 
 -- where looking goes on in the loop: for a child to fill, at the one filled last, and for one to draw from, at the one drawn from last
 pub record LooksFrom (y : Yard) (u injected extracted : ℕ) : Type 0 where
-  pub inject : LookFrom true y u injected
-  pub extract : LookFrom false y u extracted
+  pub to-inject : LookFrom true y u injected
+  pub to-extract : LookFrom false y u extracted
 
 look-for : {y : Yard} {u injected extracted : ℕ} (b : Bool) → LooksFrom y u injected extracted → LookFrom b y u (cond b injected extracted)
-look-for true h = h .inject
-look-for false h = h .extract
+look-for true h = h .to-inject
+look-for false h = h .to-extract
 
 pub choice-asked : {y : Yard} {t : List ℕ} {s : List ℤ} {plan : List ℕ} {u h injected extracted : ℕ} (b : Bool)
     → AskedEven y t s plan u h → LooksFrom y u injected extracted → AskedChoice b y t s u (cond b injected extracted)
@@ -132,8 +132,8 @@ choice-asked b a f = record { described = a .described; node = a .node; from = l
 -- after a turn it is the child that was chosen, for its sign
 looks-next : {y : Yard} {ms : List Move} {u c injected extracted injected′ extracted′ : ℕ} (b : Bool) → LooksFrom y u injected extracted → Tree y → Good y ms
     → c ≡ choice (need y b) y u → c ≢ u → injected′ ≡ cond b c injected → extracted′ ≡ cond b extracted c → LooksFrom (run y ms) u injected′ extracted′
-looks-next true h w g q d e f = rw (e, f) record { inject = from-after w g (from-chosen q d); extract = from-after w g (h .extract) }
-looks-next false h w g q d e f = rw (e, f) record { inject = from-after w g (h .inject); extract = from-after w g (from-chosen q d) }
+looks-next true h w g q d e f = rw (e, f) record { to-inject = from-after w g (from-chosen q d); to-extract = from-after w g (h .to-extract) }
+looks-next false h w g q d e f = rw (e, f) record { to-inject = from-after w g (h .to-inject); to-extract = from-after w g (from-chosen q d) }
 
 -- some turns were made, and one more, of one move at least
 pub record Turned (y : Yard) (u : ℕ) (s : List ℤ) (before plan : List ℕ) (k injected extracted : ℕ) : Type 0 where
@@ -144,7 +144,7 @@ pub turn-none : {y : Yard} {t : List ℕ} {s : List ℤ} {plan : List ℕ} {u c 
 unfolding begin after
 turn-none {u = u} a e = record {
   begun = begin {Ahead = λ z. Settles z u} (a .described .kept);
-  looks = record { inject = from-first (a .described) (a .node) e; extract = from-first (a .described) (a .node) e };
+  looks = record { to-inject = from-first (a .described) (a .node) e; to-extract = from-first (a .described) (a .node) e };
 }
 
 pub turn-more : {y : Yard} {t : List ℕ} {u h c : ℕ} {s s′ : List ℤ} {before plan part : List ℕ} {k m injected extracted injected′ extracted′ : ℕ}

@@ -11,8 +11,7 @@ use lib.Dec.{ltb}
 use lib.IntN.{ℤ, pos, negsuc}
 use lib.Signed.{ltZ}
 use mir.Syntax.{w16}
-use mir.Val.{SFits, toZ, ofZ}
-use mir.ValLaws.{toZ-ofZ}
+use mir.Val.{toZ, ofZ}
 use borrow.Author.Tests.{lt-ltb, le-ltb, ltb-false, le-leb, lt-leb}
 use Rattle.model.specs.Yard.{Yard, size, below, headOr, isChild, demand}
 use Rattle.model.specs.Judge.{Tree}
@@ -26,7 +25,7 @@ use Rattle.model.proofs.Signed.{above0, below0, demand-parts, demand-range}
 use Rattle.model.proofs.Step.{need}
 use Rattle.model.proofs.Shortest.{Good, keeps}
 use Rattle.serve.specs.Serving.{isChildFrom, Describes, wants, wantingChild, LookFrom}
-use Rattle.demand.proofs.Numbers.{small-fits}
+use Rattle.serve.proofs.Numbers.{small-back}
 use Rattle.serve.proofs.Siblings.{none-from, none-between, child-from, next-is}
 
 -- the sign of a number, by how far it is above or below 0
@@ -49,8 +48,8 @@ wants-choice y b u = ap (headOr u) (below-cong (size y) _ _ (λ v. ap (λ (t : B
 
 module _ {b : Bool} {y : Yard} {u : ℕ} where
   -- what is not below the number looked from, and no child from it on, does not want
-  passed : {c : ℕ} (h : LookFrom b y u c) (v : ℕ) → isChildFrom (y .parents) u (h .low) v ≡ false → wantingChild b y u v ≡ false
-  passed h v e = go (decLt v (h .low))
+  passed-over : {c : ℕ} (h : LookFrom b y u c) (v : ℕ) → isChildFrom (y .parents) u (h .low) v ≡ false → wantingChild b y u v ≡ false
+  passed-over h v e = go (decLt v (h .low))
     where
       go : Dec (v < h .low) → wantingChild b y u v ≡ false
       go (yes m) = h .none v m
@@ -58,7 +57,7 @@ module _ {b : Bool} {y : Yard} {u : ℕ} where
 
   -- looking ends at u
   pub look-none : LookFrom b y u u → u ≡ choice (need y b) y u
-  look-none h = missed (size y) u (wantingChild b y u) (λ v k. passed h v (below-none (size y) (isChildFrom (y .parents) u (h .low)) (none-from (h .lowest) refl) v k)) ∙ wants-choice y b u
+  look-none h = missed (size y) u (wantingChild b y u) (λ v k. passed-over h v (below-none (size y) (isChildFrom (y .parents) u (h .low)) (none-from (h .lowest) refl) v k)) ∙ wants-choice y b u
 
   -- else it is at a child of u, whose demand decides
   module _ {c : ℕ} (h : LookFrom b y u c) (d : c ≢ u) where
@@ -66,7 +65,7 @@ module _ {b : Bool} {y : Yard} {u : ℕ} where
     look-child = child-from (h .lowest) d .0
 
     before : (v : ℕ) → v < c → wantingChild b y u v ≡ false
-    before v m = passed h v (none-between (h .lowest) d v m)
+    before v m = passed-over h v (none-between (h .lowest) d v m)
 
     module _ {t : List ℕ} {s : List ℤ} (r : Describes y t s) where
       look-sign : wants b (getD s c (pos 0)) ≡ wantingChild b y u c
@@ -121,8 +120,5 @@ module _ {y : Yard} {t : List ℕ} {s : List ℤ} {v : ℕ} (r : Describes y t s
   node-small = omega (arith, facts y (r .tree) .few)
 
   -- a demand is within −256 to 256, and so unchanged by a passage through 16 bits
-  demand-fits : SFits w16 (getD s v (pos 0))
-  demand-fits = rw (r .kept .demands v l) (small-fits (demand y v) (demand-range y (r .tree) v))
-
   pub demand-back : toZ w16 (ofZ w16 (getD s v (pos 0))) ≡ getD s v (pos 0)
-  demand-back = toZ-ofZ w16 (getD s v (pos 0)) demand-fits
+  demand-back = small-back (getD s v (pos 0)) (rw (r .kept .demands v l) (demand-range y (r .tree) v))

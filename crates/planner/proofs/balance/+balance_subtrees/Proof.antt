@@ -16,7 +16,7 @@ use Rattle.serve.specs.Serving.{childrenFrom}
 use Rattle.serve.proofs.Looking.{node-small}
 use Rattle.serve.proofs.Stretches.{rest, back, made-length}
 use Rattle.serve.proofs.Siblings.{next-is, ahead, ahead-falls}
-use Rattle.planner.proofs.Children.{Left, LoopEnded, child-lower, child-asked, left-next, LeftFrom, left-first, left-last, left-child, left-here, left-behind, left-childless}
+use Rattle.planner.proofs.Children.{ChildrenLeft, LoopEnded, child-lower, child-asked, left-next, LeftFrom, left-first, left-last, left-child, left-here, left-behind, left-childless}
 use Rattle.planner.proofs.balance.balance_subtrees.Reads as tree
 use Rattle.planner.proofs.balance.balance_subtrees.Kinds as kinds
 use Rattle.planner.proofs.balance.+balance_subtrees.Lts-balance_subtrees as lts
@@ -144,7 +144,7 @@ module _ (n : ℕ) where
   stepped : (c : lts.After-balance-subtrees (claims n) (tree-at n) tree.Post Inv-loop μ-loop) (y : Yard) (before : List ℕ)
       → let l = turn (c .before .before .before) .before in
       Ended l y before
-      → Left y (call l .args .u) (c .balance-subtrees .last .1 .0) before (back (l .loop .plan) (l .loop .k) (c .balance-subtrees .last .1 .1 .0)) (l .loop .k + c .balance-subtrees .result) (childrenFrom (y .parents) (call l .args .u) (l .loop .c + 1))
+      → ChildrenLeft y (call l .args .u) (c .balance-subtrees .last .1 .0) before (back (l .loop .plan) (l .loop .k) (c .balance-subtrees .last .1 .1 .0)) (l .loop .k + c .balance-subtrees .result) (childrenFrom (y .parents) (call l .args .u) (l .loop .c + 1))
   stepped c y before a =
       let i = turn (c .before .before .before) in
       let l = i .before .loop .inv y before a in
