@@ -1,17 +1,17 @@
--- Words and lines of sheets. A decimal has no space and no line feed, and no two values below 256 have the same; so a node's line parses
--- to the four values that it writes, and what parses is the line of four values below 256.
+-- Words and lines of sheets. A decimal has no space and no line feed, and no two values below 256 have the same; so a line is read as the
+-- values that it writes, and what is read as k values is the line of k values below 256.
 use mathlib.Core.Path.{_≡_, refl, sym, ap, _∙_, subst}
 use mathlib.Core.Bool.{Bool, true, false, not, _&&_, and-eq-true-iff}
 use mathlib.Core.List.{List, [], _∷_, _++_, head?, append-assoc}
 use mathlib.Core.Option.{Option, none, some, Option·map, Option·some-injective, Option·none-ne-some}
-use Prim.Native.Nat.{ℕ, _+_, _-_, _*_, _≤_, _<_}
+use Prim.Native.Nat.{ℕ, zero, suc, _+_, _-_, _*_, _≤_, _<_}
 use native.Mathlib.Omega.{arith}
 use lib.ListN.{length, take, drop, length-append, take-append-drop}
 use lib.Seq.{take-append-add}
 use lib.Dec.{leb, eqb}
 use borrow.Author.Tests.{leb-true, eqb-true, eq-eqb, ne-eqb, not-false}
 use Rattle.model.specs.Yard.{below}
-use Rattle.model.specs.Sheets.{_>>=_, space, lineFeed, digits, decimal, line, Part, cut, same, value, Field, field, NodeLine, nodeLine}
+use Rattle.model.specs.Sheets.{_>>=_, digits, decimal, stopBefore, line, lineValues, Part, cut, same, value, Field, field, Line, readLine}
 use Rattle.model.proofs.Basics.{All, all-below, below-none}
 
 -- decimal: of a value below 256 it has at most three bytes, none below 48 (the code of 0), and the value can be told from it. All 256 are
@@ -120,89 +120,84 @@ field-some stop bs {f} e =
     let w = value-some (p .0 .before) (v .1) in
     rw (← Option·some-injective _ f (v .2), w .0) (cut-some stop bs (p .0) (p .1), w .1)
 
--- nodeLine: bytes that begin with the line of four values below 256
-abbrev pub nodeText : NodeLine → List ℕ
-nodeText l = line (l .node ∷ l .parent ∷ l .pebble ∷ l .target ∷ [])
+-- line: of values below 256 it has at most 4 bytes a value, the one that ends it counted
+abbrev pub Values : List ℕ → Type 0
+Values = All (λ v. v < 256)
 
-nodeText-append : (l : NodeLine) → nodeText l ++ l .rest
-    ≡ decimal (l .node) ++ (space ∷ (decimal (l .parent) ++ (space ∷ (decimal (l .pebble) ++ (space ∷ (decimal (l .target) ++ (lineFeed ∷ l .rest)))))))
+pub length-line : (vs : List ℕ) → Values vs → (length vs ≤ length (line vs)) × (length (line vs) ≤ 4 * length vs)
 unfolding line
-nodeText-append l = simp append-assoc
+length-line [] b = omega arith
+length-line (v ∷ vs) b = rw (length-append (decimal v)) (omega (arith, decimal-sound v (b .0) .1, length-line vs (b .1)))
 
-pub record Small (v p c t : ℕ) : Type 0 where
-  pub node : v < 256
-  pub parent : p < 256
-  pub pebble : c < 256
-  pub target : t < 256
+-- a node's line has at most so many bytes
+abbrev pub lineBytes : ℕ
+lineBytes = 4 * lineValues
 
-pub record Begins (bs : List ℕ) (l : NodeLine) : Type 0 where
-  pub text : bs ≡ nodeText l ++ l .rest
-  pub small : Small (l .node) (l .parent) (l .pebble) (l .target)
-
-pub nodeText-length : {bs : List ℕ} {l : NodeLine} → Begins bs l
-    → (0 < length (nodeText l)) × (length (nodeText l) ≤ 16) × (length (nodeText l) ≤ length (decimal (l .node)) + 13)
+line-append : (v : ℕ) (vs rest : List ℕ) → line (v ∷ vs) ++ rest ≡ decimal v ++ (stopBefore (length vs) ∷ (line vs ++ rest))
 unfolding line
-nodeText-length {l = l} b =
-    let v = decimal-sound (l .node) (b .small .node) .1 in
-    let p = decimal-sound (l .parent) (b .small .parent) .1 in
-    let c = decimal-sound (l .pebble) (b .small .pebble) .1 in
-    let t = decimal-sound (l .target) (b .small .target) .1 in
-    simp length-append (omega arith)
+line-append v vs rest = append-assoc (decimal v) _ rest
 
-pub nodeLine-begins : {bs : List ℕ} {l : NodeLine} → Begins bs l → nodeLine bs ≡ some l
-unfolding nodeLine
-nodeLine-begins {l = l} b = rw (
-  b .text ∙ nodeText-append l,
-  field-decimal space (l .node) _ (omega arith) (b .small .node),
-  field-decimal space (l .parent) _ (omega arith) (b .small .parent),
-  field-decimal space (l .pebble) _ (omega arith) (b .small .pebble),
-  field-decimal lineFeed (l .target) _ (omega arith) (b .small .target),
+-- readLine: what is read as k values are bytes that begin with the line of k values below 256, and such bytes are read
+pub record Begins (k : ℕ) (bs : List ℕ) (l : Line) : Type 0 where
+  pub count : length (l .values) ≡ k
+  pub small : Values (l .values)
+  pub text : bs ≡ line (l .values) ++ l .rest
+
+pub stop-low : (k : ℕ) → stopBefore k < 48
+unfolding stopBefore
+stop-low zero = omega arith
+stop-low (suc k) = omega arith
+
+readLine-line : (vs rest : List ℕ) → Values vs → readLine (length vs) (line vs ++ rest) ≡ some (record { values = vs; rest = rest })
+unfolding readLine line
+readLine-line [] rest b = refl
+readLine-line (v ∷ vs) rest b = rw (
+  line-append v vs rest,
+  field-decimal (stopBefore (length vs)) v _ (stop-low (length vs)) (b .0),
+  readLine-line vs rest (b .1),
 )
 
-fields-begin : (bs : List ℕ) (v p c t : Field)
-    → field space bs ≡ some v → field space (v .rest) ≡ some p → field space (p .rest) ≡ some c → field lineFeed (c .rest) ≡ some t
-    → Begins bs (record { node = v .value; parent = p .value; pebble = c .value; target = t .value; rest = t .rest })
-fields-begin bs v p c t ev ep ec et =
-    let fv = field-some space bs ev in
-    let fp = field-some space (v .rest) ep in
-    let fc = field-some space (p .rest) ec in
-    let ft = field-some lineFeed (c .rest) et in
-    record { text = fv .0 ∙ rw (fp .0, fc .0, ft .0) (sym (nodeText-append _)); small = omega arith }
+pub readLine-begins : {k : ℕ} {bs : List ℕ} {l : Line} → Begins k bs l → readLine k bs ≡ some l
+readLine-begins {l = l} b = rw (← b .count, b .text) (readLine-line (l .values) (l .rest) (b .small))
 
-pub nodeLine-some : (bs : List ℕ) {l : NodeLine} → nodeLine bs ≡ some l → Begins bs l
-unfolding nodeLine
-nodeLine-some bs {l} e =
-    let v = chain-some (field space bs) _ e in
-    let p = chain-some (field space (v .0 .rest)) _ (v .2) in
-    let c = chain-some (field space (p .0 .rest)) _ (p .2) in
-    let t = chain-some (field lineFeed (c .0 .rest)) _ (c .2) in
-    subst (Begins bs) (Option·some-injective _ l (t .2)) (fields-begin bs (v .0) (p .0) (c .0) (t .0) (v .1) (p .1) (c .1) (t .1))
+begins-next : {k v : ℕ} {bs tail : List ℕ} {l : Line} → (bs ≡ decimal v ++ (stopBefore k ∷ tail)) × (v < 256) → Begins k tail l
+    → Begins (suc k) bs (record { values = v ∷ l .values; rest = l .rest })
+begins-next {v = v} {l = l} f b = record {
+  count = ap suc (b .count);
+  small = (f .1, b .small);
+  text = f .0 ∙ rw (b .text, ← b .count) (sym (line-append v (l .values) (l .rest)));
+}
 
--- A list cut at 16 bytes or more parses as the whole: a line takes no more, and one that parses in the list parses in the whole.
-abbrev resting : NodeLine → List ℕ → NodeLine
-resting l rest = record { node = l .node; parent = l .parent; pebble = l .pebble; target = l .target; rest = rest }
+pub readLine-some : (k : ℕ) (bs : List ℕ) {l : Line} → readLine k bs ≡ some l → Begins k bs l
+unfolding readLine line
+readLine-some zero bs {l} e = subst (Begins zero bs) (Option·some-injective _ l e) (record { count = refl; small = tt; text = refl })
+readLine-some (suc k) bs {l} e =
+    let f = chain-some (field (stopBefore k) bs) _ e in
+    let m = chain-some (readLine k (f .0 .rest)) _ (f .2) in
+    subst (Begins (suc k) bs) (Option·some-injective _ l (m .2)) (begins-next (field-some (stopBefore k) bs (f .1)) (readLine-some k (f .0 .rest) (m .1)))
 
-nodeLine-resting : {bs cs rest : List ℕ} {l : NodeLine} → Begins bs l → cs ≡ nodeText l ++ rest → nodeLine cs ≡ some (resting l rest)
-nodeLine-resting b q = nodeLine-begins (record { text = q; small = b .small })
-
-abbrev pub cutLine : ℕ → NodeLine → NodeLine
-cutLine m l = resting l (take (m - length (nodeText l)) (l .rest))
+-- A list cut at 4 bytes a value or more is read as the whole: a line takes no more, and one that is read in the list is read in the whole.
+abbrev pub cutLine : ℕ → Line → Line
+cutLine m l = record { values = l .values; rest = take (m - length (line (l .values))) (l .rest) }
 
 take-behind : (m : ℕ) (xs ys : List ℕ) → length xs ≤ m → take m (xs ++ ys) ≡ xs ++ take (m - length xs) ys
 take-behind m xs ys h =
     let q : m ≡ length xs + (m - length xs) = omega arith in
     ap (λ (n : ℕ). take n (xs ++ ys)) q ∙ take-append-add xs ys (m - length xs)
 
-pub nodeLine-take : (m : ℕ) (bs : List ℕ) → 16 ≤ m → nodeLine (take m bs) ≡ Option·map (cutLine m) (nodeLine bs)
-nodeLine-take m bs h = go (nodeLine bs) refl (nodeLine (take m bs)) refl
+pub readLine-take : (k m : ℕ) (bs : List ℕ) → 4 * k ≤ m → readLine k (take m bs) ≡ Option·map (cutLine m) (readLine k bs)
+readLine-take k m bs h = go (readLine k bs) refl (readLine k (take m bs)) refl
   where
-    go : (o : Option NodeLine) → nodeLine bs ≡ o → (c : Option NodeLine) → nodeLine (take m bs) ≡ c → nodeLine (take m bs) ≡ Option·map (cutLine m) o
+    resting : {cs ds rest : List ℕ} {l : Line} → Begins k cs l → ds ≡ line (l .values) ++ rest → readLine k ds ≡ some (record { values = l .values; rest = rest })
+    resting b q = readLine-begins (record { count = b .count; small = b .small; text = q })
+
+    go : (o : Option Line) → readLine k bs ≡ o → (c : Option Line) → readLine k (take m bs) ≡ c → readLine k (take m bs) ≡ Option·map (cutLine m) o
     go (some l) p c q =
-        let b = nodeLine-some bs p in
-        let n : length (nodeText l) ≤ m = omega (arith, nodeText-length b .1) in
-        nodeLine-resting b (ap (take m) (b .text) ∙ take-behind m (nodeText l) (l .rest) n)
+        let b = readLine-some k bs p in
+        let n : length (line (l .values)) ≤ m = omega (arith, length-line (l .values) (b .small) .1, b .count) in
+        resting b (ap (take m) (b .text) ∙ take-behind m (line (l .values)) (l .rest) n)
     go none p none q = q
     go none p (some l) q =
-        let b = nodeLine-some (take m bs) q in
-        let t : bs ≡ nodeText l ++ (l .rest ++ drop m bs) = sym (take-append-drop m bs) ∙ rw (b .text, append-assoc) in
-        absurd (Option·none-ne-some _ (sym p ∙ nodeLine-resting b t))
+        let b = readLine-some k (take m bs) q in
+        let t : bs ≡ line (l .values) ++ (l .rest ++ drop m bs) = sym (take-append-drop m bs) ∙ rw (b .text, append-assoc) in
+        absurd (Option·none-ne-some _ (sym p ∙ resting b t))

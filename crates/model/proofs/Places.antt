@@ -11,9 +11,9 @@ use native.Mathlib.Omega.{arith}
 use lib.ListN.{length, drop, length-take}
 use lib.IntN.{ℤ}
 use lib.Dec.{leb, ltb, eqb}
-use borrow.Author.Tests.{leb-true, le-leb, lt-ltb, le-ltb}
+use borrow.Author.Tests.{leb-true, lt-ltb, le-ltb}
 use Rattle.model.specs.Yard.{Yard, size, maxSize, parent, pebble, target, full, held, below, roots, pebbleCount, targetCount, Matched}
-use Rattle.model.specs.Judge.{Fault, row, fault, firstOf, unless, atLowest, sizeFault, lengthFault, rootFault, tests, judge, Tree, totalsFault, matchedTests, matchedFault}
+use Rattle.model.specs.Judge.{Fault, row, fault, firstOf, unless, atLowest, sizeFault, rootFault, tests, judge, Tree, totalsFault, matchedTests, matchedFault}
 use Rattle.model.specs.Push.{Move, adjacent, moveTests, moveFault, pushFault, pushed}
 use Rattle.model.specs.Plan.{plan}
 use Rattle.model.specs.Calls.Answers.{Answer, answered, refused, rowUnit, inC, told, InTable, Row, Small, answer, mapAnswer}
@@ -27,7 +27,7 @@ use Rattle.model.proofs.Judged.{facts}
 use Rattle.model.proofs.Signed.{shortest-small}
 use Rattle.model.proofs.Calls.{movesOf-half, totals-none, plan-none, matched-tree}
 use Rattle.model.proofs.Demand3.{plan-length}
-use Rattle.model.proofs.Sheets.{Bytes, read-write, read-sizes, sheet-length, read-places}
+use Rattle.model.proofs.Sheets.{Bytes, yardSheet-short, read-sizes, read-places}
 
 -- a refusal, if there is one, is of the table and has a small place
 pub data Low : Option Fault → Type 0 where
@@ -219,16 +219,17 @@ read-small bs ps cs ts = go ((leb maxSize (length ps)) && ((leb maxSize (length 
 
 -- writing one, of lists of bytes
 module _ (y : Yard) (ps : Bytes (y .parents)) (cs : Bytes (y .pebbles)) (ts : Bytes (y .targets)) where
-  sheet-short : sizeFault y ≡ none → lengthFault y ≡ none → length (yardSheet y) ≤ maxSheetBytes
-  unfolding writeFault
-  sheet-short a b = sheet-length (yardSheet y) y (read-write y (length (yardSheet y)) (rw (a, b, le-leb (length (yardSheet y)) (length (yardSheet y)) (omega arith))) ps cs ts)
+  sheet-short : sizeFault y ≡ none → length (yardSheet y) ≤ maxSheetBytes
+  sheet-short e =
+      let q : (ltb 0 (size y) ≡ true) × (leb (size y) maxSize ≡ true) = and-eq-true-iff _ _ .0 (unless-none _ 1 0 e) in
+      yardSheet-short y (leb-true (size y) maxSize (q .1)) ps cs ts
 
   pub write-small : (list : List ℕ) → Small (writeAnswer y list)
   unfolding writeFault
-  write-small list = small _ low (λ e. let a = none-all (writeTests y (length list)) e in omega (arith, sheet-short (a .0) (a .1 .0)))
+  write-small list = small _ low (λ e. let a = none-all (writeTests y (length list)) e in omega (arith, sheet-short (a .0)))
     where
       low : Low (writeFault y (length list))
       low =
           first (drop 1 (writeTests y (length list))) (once ((ltb 0 (size y)) && (leb (size y) maxSize)) 1 0 (omega arith) (omega arith)) (λ a.
           first (drop 2 (writeTests y (length list))) (once ((eqb (length (y .pebbles)) (size y)) && (eqb (length (y .targets)) (size y))) 2 0 (omega arith) (omega arith)) (λ b.
-          all (drop 2 (writeTests y (length list))) (once (leb (length (yardSheet y)) (length list)) 8 (length (yardSheet y)) (omega arith) (omega (arith, sheet-short a b)), tt)))
+          all (drop 2 (writeTests y (length list))) (once (leb (length (yardSheet y)) (length list)) 8 (length (yardSheet y)) (omega arith) (omega (arith, sheet-short a)), tt)))

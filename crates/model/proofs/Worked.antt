@@ -18,7 +18,7 @@ use Rattle.model.specs.Calls.Answers.{Answer, answered, refused, range}
 use Rattle.model.specs.Calls.Demands.{demandsFault, demandsList}
 use Rattle.model.specs.Calls.Plans.{bytes, movesOf, planFault, planAnswer, planList}
 use Rattle.model.specs.Calls.Checks.{movesFault, Verdict, checkFault, checkAnswer, Trial, trialFault, trialAnswer, trialPebbles}
-use Rattle.model.specs.Sheets.{text, digits, decimal, line, lines, header, cut, same, value, field, nodeLine, readNodes, readYard, moveSheet, refusalSheet, program}
+use Rattle.model.specs.Sheets.{text, digits, decimal, stopBefore, line, lines, header, cut, same, value, field, readLine, readNodes, readYard, moveSheet, refusalSheet, program}
 use Rattle.model.proofs.Yards.{marks, yard, yardA, yardB, planB}
 
 data Input : Type 0 where
@@ -151,7 +151,7 @@ cases =
     ∷ []
 
 worked : map (λ (c : Case). outcome (c .input)) cases ≡ map (λ (c : Case). c .expected) cases
-unfolding siding placed cases _gives_ outcome yard marks yardA yardB planB sum below roots climbs inside subtotal shortest judge moveFault pushFault legal shifted after needy choice inject extract turn settle each balance planWithin plan range demandsFault bytes movesOf planFault movesFault checkFault trialFault text digits decimal line lines header cut same value field nodeLine readNodes readYard moveSheet refusalSheet program
+unfolding siding placed cases _gives_ outcome yard marks yardA yardB planB sum below roots climbs inside subtotal shortest judge moveFault pushFault legal shifted after needy choice inject extract turn settle each balance planWithin plan range demandsFault bytes movesOf planFault movesFault checkFault trialFault text digits decimal stopBefore line lines header cut same value field readLine readNodes readYard moveSheet refusalSheet program
 worked = refl
 
 -- two pebbles start at node 1, and one at node 2: whichever is taken, pebble 1 may go the second time, and each has its own route

@@ -5,7 +5,7 @@ use mathlib.Core.Option.{Option, none, some}
 use Prim.Native.Nat.{ℕ, zero, suc, _+_, _/_, _%_}
 use Prim.Native.Char.{code}
 use Prim.Native.String.{String}
-use lib.ListN.{length, take, drop}
+use lib.ListN.{length, take, drop, getD}
 use lib.Dec.{leb, ltb, eqb}
 use Rattle.model.specs.Yard.{Yard, yardOf, size, maxSize, parent, pebble, target, below}
 use Rattle.model.specs.Judge.{Fault, row, fault, firstOf, unless, sizeFault, lengthFault}
@@ -38,23 +38,32 @@ digits (suc k) n = elim (ltb n 10) [ true ↦ [] | false ↦ digits k (n / 10) ]
 unfoldable pub decimal : ℕ → List ℕ
 decimal n = digits (suc n) n
 
--- a line: values with one space between, and a line feed
+-- the byte behind a value that has k others behind it in its line: a space, and behind the last a line feed
+unfoldable pub stopBefore : ℕ → ℕ
+stopBefore zero = lineFeed
+stopBefore (suc k) = space
+
+-- a line: its values, each with that byte
 unfoldable pub line : List ℕ → List ℕ
-line [] = lineFeed ∷ []
-line (v ∷ []) = decimal v ++ (lineFeed ∷ [])
-line (v ∷ w ∷ vs) = decimal v ++ (space ∷ line (w ∷ vs))
+line [] = []
+line (v ∷ vs) = decimal v ++ (stopBefore (length vs) ∷ line vs)
 
 unfoldable pub lines : List (List ℕ) → List ℕ
 lines [] = []
 lines (vs ∷ vss) = line vs ++ lines vss
 
--- the yard sheet: its header, and a line for each node in rising number from 0: the node, its parent, its pebble mark, its target mark
+-- the header of a yard sheet
 unfoldable pub header : List ℕ
 header = text "berth parent car target\n"
+
+-- a node's line has four values: the node, its parent, its pebble mark, its target mark
+abbrev pub lineValues : ℕ
+lineValues = 4
 
 abbrev pub nodeValues : Yard → ℕ → List ℕ
 nodeValues y v = v ∷ parent y v ∷ pebble y v ∷ target y v ∷ []
 
+-- the yard sheet: the header, and a line for each node in rising number from 0
 unfoldable pub yardSheet : Yard → List ℕ
 yardSheet y = header ++ lines (map (nodeValues y) (range 0 (size y)))
 
@@ -100,48 +109,48 @@ field stop bs = do
   v ← value (p .before)
   some (record { value = v; rest = p .behind })
 
--- the line of a node, and the bytes behind; none if it is of another shape, has a value above 255, or lacks its line feed
-pub record NodeLine : Type 0 where
-  pub node : ℕ
-  pub parent : ℕ
-  pub pebble : ℕ
-  pub target : ℕ
+-- a line of k values, and the bytes behind it; none if it is of another shape, has a value above 255, or lacks its line feed
+pub record Line : Type 0 where
+  pub values : List ℕ
   pub rest : List ℕ
 
-unfoldable pub nodeLine : List ℕ → Option NodeLine
-nodeLine bs = do
-  v ← field space bs
-  p ← field space (v .rest)
-  c ← field space (p .rest)
-  t ← field lineFeed (c .rest)
-  some (record { node = v .value; parent = p .value; pebble = c .value; target = t .value; rest = t .rest })
+unfoldable pub readLine : ℕ → List ℕ → Option Line
+readLine zero bs = some (record { values = []; rest = bs })
+readLine (suc k) bs = do
+  f ← field (stopBefore k) bs
+  l ← readLine k (f .rest)
+  some (record { values = f .value ∷ l .values; rest = l .rest })
 
--- the three lists of no node, and with one node more at their front
-abbrev pub noNode : Yard
-noNode = yardOf [] [] []
+-- the node that a line is of
+abbrev pub nodeOf : Line → ℕ
+nodeOf l = getD (l .values) 0 0
 
-abbrev pub withNode : NodeLine → Yard → Yard
-withNode l y = yardOf (l .parent ∷ y .parents) (l .pebble ∷ y .pebbles) (l .target ∷ y .targets)
-
--- the nodes from v on, whose lines are those from v + 2 on, if k more may follow. Line by line: 1, a byte follows line 257; 16, the line is of
+-- the values of the lines from node v on, which is line v + 2, if k more may follow. Line by line: 1, a byte follows line 257; 16, the line is of
 -- another shape; 17, its node is not the next
-unfoldable pub readNodes : ℕ → ℕ → List ℕ → Answer Yard
-readNodes zero v [] = answered noNode
+unfoldable pub readNodes : ℕ → ℕ → List ℕ → Answer (List (List ℕ))
+readNodes zero v [] = answered []
 readNodes zero v (b ∷ bs) = refused (row 1 (v + 2))
-readNodes (suc k) v [] = answered noNode
-readNodes (suc k) v (b ∷ bs) = elim (nodeLine (b ∷ bs)) [
+readNodes (suc k) v [] = answered []
+readNodes (suc k) v (b ∷ bs) = elim (readLine lineValues (b ∷ bs)) [
   | none ↦ refused (row 16 (v + 2))
-  | some l ↦ elim (eqb (l .node) v) [
-    | true ↦ mapAnswer (withNode l) (readNodes k (suc v) (l .rest))
+  | some l ↦ elim (eqb (nodeOf l) v) [
+    | true ↦ mapAnswer (_∷_ (l .values)) (readNodes k (suc v) (l .rest))
     | false ↦ refused (row 17 (v + 2))
   ]
 ]
+
+-- the yard that such lines say: its lists are their columns behind the first
+abbrev pub column : ℕ → List (List ℕ) → List ℕ
+column i rows = map (λ vs. getD vs i 0) rows
+
+abbrev pub columns : List (List ℕ) → Yard
+columns rows = yardOf (column 1 rows) (column 2 rows) (column 3 rows)
 
 -- what a sheet says: 15, the header line differs or lacks its line feed; the lines in turn; 1 with place 2 if no line follows the header
 unfoldable pub readYard : List ℕ → Answer Yard
 readYard bs = elim (same (take (length header) bs) header) [
   | false ↦ refused (row 15 1)
-  | true ↦ elim (drop (length header) bs) [ [] ↦ refused (row 1 2) | (b ∷ rest) ↦ readNodes maxSize 0 (b ∷ rest) ]
+  | true ↦ elim (drop (length header) bs) [ [] ↦ refused (row 1 2) | (b ∷ rest) ↦ mapAnswer columns (readNodes maxSize 0 (b ∷ rest)) ]
 ]
 
 -- the reader's call: 18, one of its three lists is shorter than 256; then as the sheet says. It answers n and fills the first n entries of each

@@ -1,13 +1,12 @@
--- The program, step by step: what a list holds after its front is written; the sheet of a plan, or of the planner's refusal; what was read, or the
--- reader's refusal.
+-- The program, step by step: the sheet of a plan, or of the planner's refusal; what was read, or the reader's refusal.
 use mathlib.Core.Path.{_≡_, refl, sym, ap, _∙_}
 use mathlib.Core.List.{List}
 use Prim.Native.Nat.{ℕ, _*_, _≤_}
 use native.Mathlib.Omega.{arith}
 use lib.ListN.{length, take, replicate, length-append, length-replicate}
 use Rattle.model.specs.Yard.{Yard, yardOf, size, maxSize}
-use Rattle.model.specs.Judge.{Fault, row}
-use Rattle.model.specs.Calls.Answers.{Row, Answer, answered, refused, mapAnswer, overwrite}
+use Rattle.model.specs.Judge.{Fault}
+use Rattle.model.specs.Calls.Answers.{Answer, answered, refused, mapAnswer, Row}
 use Rattle.model.specs.Calls.Plans.{movesOf, planFault, planAnswer, planList}
 use Rattle.model.specs.Plan.{plan}
 use Rattle.model.specs.Sheets.{moveSheet, refusalSheet, programPlanBytes, sheetOf, planOf, readYard, reader, readAnswer, filled, program}
@@ -15,24 +14,6 @@ use Rattle.model.proofs.Calls.{answer-answered, answer-refused, take-overwrite,
 use Rattle.model.proofs.Demand3.{written}
 use Rattle.model.proofs.Sheets.{refused-ne-answered, read-sizes, reader-room, program-cut}
 use Rattle.model.proofs.Places.{plan-small, read-row}
-use Rattle.sheet.specs.Written.{MovesWritten}
-use Rattle.moves.specs.Printed.{Printed}
-
--- a text at the front of a list, known under another name
-pub prints : (text list : List ℕ) {other new : List ℕ} {n : ℕ} → n ≡ length text → new ≡ overwrite text list → text ≡ other → Printed other n new
-prints text list {n = n} e d q = rw (d, ← q) record {
-  whole = e;
-  room = rw length-append (omega arith);
-  front = take-overwrite text list n (sym e);
-}
-
-pub prints-refusal : (f : Fault) (list : List ℕ) {a b n : ℕ} {new : List ℕ} → a ≡ f .number → b ≡ f .place
-    → n ≡ length (refusalSheet (row a b)) → new ≡ overwrite (refusalSheet (row a b)) list → Printed (refusalSheet f) n new
-prints-refusal f list {a} {b} p q e d = prints (refusalSheet (row a b)) list e d (rw (p, q))
-
--- the first k moves of a list, where k is the number m of all moves of the plan
-pub prints-moves : {ms list new other : List ℕ} {k n : ℕ} (m : ℕ) → MovesWritten ms k list n new → k ≡ m → moveSheet (movesOf (take (2 * m) ms)) ≡ other → Printed other n new
-prints-moves {ms} {list} {k = k} m w h q = prints (moveSheet (movesOf (take (2 * k) ms))) list (w .end) (w .list) (rw h q)
 
 -- the planner's answer, with the program's list
 abbrev pub zeros : List ℕ
@@ -43,7 +24,7 @@ room = length-replicate {A = ℕ} programPlanBytes 0
 
 module _ (y : Yard) where
   pub plan-number : {m : ℕ} → answered m ≡ planAnswer y zeros
-      → (m ≤ 16_384) × ((list : List ℕ) → list ≡ planList y zeros → moveSheet (movesOf (take (2 * m) list)) ≡ sheetOf (planOf (answered y)))
+      → (2 * m ≤ programPlanBytes) × ((list : List ℕ) → list ≡ planList y zeros → moveSheet (movesOf (take (2 * m) list)) ≡ sheetOf (planOf (answered y)))
   plan-number {m} e =
       let a = answer-answered (planFault y (length zeros)) (length (plan y)) m (sym e) in
       let q = rw room at (a .0) in

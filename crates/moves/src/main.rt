@@ -2,7 +2,7 @@
 mod program;
 
 fn main() {
-    let mut input = [0u8; 4200];
+    let mut input = [0u8; program::JUDGED_BYTES];
     let count = io::read_full(0, &mut input);
     let mut out = [0u8; program::OUTPUT_BYTES];
     let printed = program::program(&input[..count], &mut out);

@@ -6,9 +6,7 @@ use mathlib.Core.List.{List, [], _∷_, _++_, append-assoc}
 use mathlib.Core.Option.{Option, none, some}
 use Prim.Native.Nat.{ℕ, _+_, _-_, _*_, _/_, _%_, _≤_, _<_}
 use native.Mathlib.Omega.{arith}
-use native.Mathlib.Numerals.{add-one}
 use lib.ListN.{length, drop, getD, length-append}
-use lib.Seq.{drop-cons}
 use lib.Dec.{leb, ltb}
 use borrow.Author.Tests.{leb-true, ltb-true, not-false}
 use Rattle.model.specs.Yard.{below}
@@ -17,6 +15,7 @@ use Rattle.model.proofs.Basics.{below-none}
 use Rattle.model.proofs.Lines.{plain, number, decimal-sound, field-decimal, field-some}
 use Rattle.reader.specs.Reading.{Extended}
 use Rattle.sheet.proofs.Decimals.{decimal-low, decimal-high, length-some}
+use Rattle.sheet.proofs.Writing.{drop-next}
 
 -- a value's decimal has no byte above 57 (the code of 9), and no zero before another byte. All 256 are tried.
 upTo9 : List ℕ → Bool
@@ -144,10 +143,6 @@ module _ (stop : ℕ) (low : stop < 48) where
         go : (f : Field) → f .value < 256 → (w : List ℕ) → decimal (f .value) ≡ decimal u ++ w → b ∷ tail ≡ w ++ (stop ∷ f .rest) → ⊥
         go f l [] d e = let p : b ≡ stop = cc in n p
         go f l (c ∷ w) d e = let p : decimal (f .value) ≡ decimal u ++ (b ∷ w) = cc in x .bad k (f .value) w l p
-
--- the bytes from a place on: the byte there, and those from the next place on
-pub drop-next : (l : List ℕ) (i : ℕ) → i < length l → drop i l ≡ getD l i 0 ∷ drop (i + 1) l
-drop-next l i h = rw add-one (drop-cons l i 0 h)
 
 pub field-begins : (l : List ℕ) (i : ℕ) → i < length l → 48 ≤ getD l i 0 → getD l i 0 ≤ 57 → drop i l ≡ decimal (getD l i 0 - 48) ++ drop (i + 1) l
 field-begins l i h low high =

@@ -2,45 +2,42 @@
 -- or the lists of a yard, copied to the front of the lent ones.
 use mathlib.Core.Path.{_≡_, sym, ap, _∙_}
 use mathlib.Core.Bool.{true, false}
-use mathlib.Core.List.{List, [], _∷_}
+use mathlib.Core.List.{List}
 use Prim.Native.Nat.{ℕ, _≤_, _<_}
 use native.Mathlib.Omega.{arith}
-use lib.ListN.{length, take, drop, getD, length-take, drop-of-length-le}
+use lib.ListN.{length, take, length-take, drop-of-length-le}
 use lib.Seq.{length-take-le}
 use borrow.Author.Tests.{le-leb, lt-leb}
 use Rattle.model.specs.Yard.{Yard, yardOf, maxSize}
 use Rattle.model.specs.Judge.{Fault, row}
-use Rattle.model.specs.Calls.Answers.{Answer, answered, refused}
-use Rattle.model.specs.Sheets.{text, header, same, readNodes, readYard, reader, readAnswer, filled}
+use Rattle.model.specs.Calls.Answers.{Answer, answered, refused, overwrite}
+use Rattle.model.specs.Sheets.{header, same, readYard, reader, readAnswer, filled}
 use Rattle.model.proofs.Lines.{same-true}
 use Rattle.model.proofs.Sheets.{reader-room}
+use Rattle.sheet.proofs.Writing.{drop-next, written-front}
 use Rattle.sheet.specs.Written.{Written}
-use Rattle.reader.specs.Reading.{Full}
-use Rattle.reader.proofs.Fields.{drop-next}
-use Rattle.sheet.proofs.Writing.{written-front}
+use Rattle.reader.specs.Reading.{Full, linesSay}
 
 module _ (bs : List ℕ) where
-  pub other-header : same (take 24 bs) header ≡ false → refused (row 15 1) ≡ readYard bs
-  unfolding readYard header text
+  pub other-header : same (take (length header) bs) header ≡ false → refused (row 15 1) ≡ readYard bs
+  unfolding readYard
   other-header e = sym (rw (e, readYard))
 
-  module _ (e : same (take 24 bs) header ≡ true) where
-    long : 24 ≤ length bs
-    unfolding header text
-    long = omega (arith, simp length-take at (ap length (same-true (take 24 bs) header e)))
-
-    pub no-line : length bs ≡ 24 → refused (row 1 2) ≡ readYard bs
-    unfolding readYard header text
+  module _ (e : same (take (length header) bs) header ≡ true) where
+    pub no-line : length bs ≡ length header → refused (row 1 2) ≡ readYard bs
+    unfolding readYard
     no-line q =
-        let h : length bs ≤ 24 = omega arith in
-        let d : drop 24 bs ≡ [] = drop-of-length-le bs h in
-        sym (rw (e, readYard) (rw d))
+        let h : length bs ≤ length header = omega arith in
+        sym (rw (e, readYard) (rw (drop-of-length-le bs h)))
 
-    pub some-line : (length bs ≡ 24 → ⊥) → readNodes maxSize 0 (drop 24 bs) ≡ readYard bs
-    unfolding readYard header text
+    pub some-line : (length bs ≡ length header → ⊥) → linesSay bs ≡ readYard bs
+    unfolding readYard
     some-line n =
-        let q : drop 24 bs ≡ getD bs 24 0 ∷ drop 25 bs = drop-next bs 24 (omega (arith, long)) in
-        sym (rw (e, readYard) (rw q))
+        let h : length header < length bs = omega (arith, simp length-take at (ap length (same-true (take (length header) bs) header e))) in
+        sym (rw (e, readYard) (rw (drop-next bs (length header) h)))
+
+copied : (n : ℕ) (us : List ℕ) {i : ℕ} {ps ps' : List ℕ} → n ≤ length ps → Written (take n us) 0 ps i ps' → ps' ≡ overwrite (take n us) ps
+copied n us h w = written-front w (omega (arith, w .end, length-take n us)) .1
 
 module _ (bs ps cs ts : List ℕ) where
   abbrev Leaves : Answer ℕ → List ℕ → List ℕ → List ℕ → Type 0
@@ -77,4 +74,4 @@ module _ (bs ps cs ts : List ℕ) where
             → Leaves (answered n) ps' cs' ts'
         sheet-read n us vs ws l f e a b d =
             let r = reader-room bs ps cs ts p c t ∙ e in
-            (rw (r, length-take-le n us (omega arith)), (rw r (written-front a .1), (rw r (written-front b .1), rw r (written-front d .1))))
+            (rw (r, length-take-le n us (omega arith)), (rw r (copied n us (omega arith) a), (rw r (copied n vs (omega arith) b), rw r (copied n ws (omega arith) d))))

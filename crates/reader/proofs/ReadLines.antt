@@ -1,54 +1,68 @@
--- The line of a node from the fields that are found, and the nodes of a sheet line by line: what the lines so far say stands in front of what
--- the others do.
+-- A line field by field, and the nodes of a sheet line by line: what the fields or lines so far say stands in front of what the others do.
 use mathlib.Core.Path.{_≡_, refl, sym, ap, _∙_}
-use mathlib.Core.Option.{none, some}
+use mathlib.Core.Option.{Option, none, some, Option·map}
 use mathlib.Core.Bool.{Bool, true, false}
 use mathlib.Core.List.{List, [], _∷_, _++_, append-assoc, append-nil}
 use Prim.Native.Nat.{ℕ, suc, _+_, _-_, _<_}
 use native.Mathlib.Numerals.{add-one}
 use native.Mathlib.Omega.{arith}
-use lib.ListN.{length, take, drop, set, getD}
+use lib.ListN.{length, take, drop, set, getD, length-set}
 use lib.Seq.{take-suc-set, take-all, getD-take}
-use borrow.Author.Tests.{ne-eqb}
 use Rattle.model.specs.Yard.{Yard, yardOf, maxSize}
 use Rattle.model.specs.Judge.{row}
 use Rattle.model.specs.Calls.Answers.{Answer, answered, refused, mapAnswer}
-use Rattle.model.specs.Sheets.{space, lineFeed, Field, field, NodeLine, nodeLine, same, withNode, readNodes}
+use Rattle.model.specs.Sheets.{_>>=_, text, header, stopBefore, lineValues, field, Line, readLine, nodeOf, same, columns, readNodes}
 use Rattle.model.proofs.Basics.{not-so}
 use Rattle.model.proofs.Lines.{same-true, same-self}
-use Rattle.model.proofs.Sheets.{readNodes-end, readNodes-next}
-use Rattle.reader.specs.Reading.{Full}
-use Rattle.reader.proofs.Fields.{drop-next}
+use Rattle.model.proofs.Sheets.{readNodes-end, readNodes-over, readNodes-shape, readNodes-other, readNodes-next}
+use Rattle.reader.specs.Reading.{Full, linesSay}
+use Rattle.sheet.proofs.Writing.{drop-next}
 
 -- what an answer says, where it is known
 pub seen : {A B : Type 0} (f : A → B) {a e : A} {o : B} → f a ≡ o → a ≡ e → o ≡ f e
 seen f p q = sym p ∙ ap f q
 
--- a line, by how many of its fields are found
-module _ (bs : List ℕ) where
-  pub no-node : field space bs ≡ none → none ≡ nodeLine bs
-  unfolding nodeLine
-  no-node e = rw e
+-- a line, field by field: the values so far stand in front of those that the other fields have
+abbrev fronted : List ℕ → Line → Line
+fronted vs l = record { values = vs ++ l .values; rest = l .rest }
 
-  module _ {v : Field} (e : field space bs ≡ some v) where
-    pub no-parent : field space (v .rest) ≡ none → none ≡ nodeLine bs
-    unfolding nodeLine
-    no-parent f = rw (e, f)
+fronted-none : (o : Option Line) → o ≡ Option·map (fronted []) o
+fronted-none none = refl
+fronted-none (some l) = refl
 
-    module _ {p : Field} (f : field space (v .rest) ≡ some p) where
-      pub no-pebble : field space (p .rest) ≡ none → none ≡ nodeLine bs
-      unfolding nodeLine
-      no-pebble g = rw (e, f, g)
+fronted-next : (vs : List ℕ) (v : ℕ) (o : Option Line)
+    → Option·map (fronted vs) (_>>=_ o (λ l. some (fronted (v ∷ []) l))) ≡ Option·map (fronted (vs ++ (v ∷ []))) o
+fronted-next vs v none = refl
+fronted-next vs v (some l) = simp append-assoc
 
-      module _ {c : Field} (g : field space (p .rest) ≡ some c) where
-        pub no-target : field lineFeed (c .rest) ≡ none → none ≡ nodeLine bs
-        unfolding nodeLine
-        no-target h = rw (e, f, g, h)
+-- the array holds the first i values, and the others are read from `next` on
+pub record LineSoFar (sheet : List ℕ) (at : ℕ) (values : List ℕ) (next i : ℕ) : Type 0 where
+  pub full : length values ≡ lineValues
+  pub said : readLine lineValues (drop at sheet) ≡ Option·map (fronted (take i values)) (readLine (lineValues - i) (drop next sheet))
 
-        pub whole-line : {t : Field} → field lineFeed (c .rest) ≡ some t
-            → some (record { node = v .value; parent = p .value; pebble = c .value; target = t .value; rest = t .rest }) ≡ nodeLine bs
-        unfolding nodeLine
-        whole-line h = rw (e, f, g, h)
+pub line-none : (sheet : List ℕ) (at : ℕ) (values : List ℕ) → length values ≡ lineValues → LineSoFar sheet at values at 0
+line-none sheet at values n = record { full = n; said = fronted-none (readLine lineValues (drop at sheet)) }
+
+module _ {sheet : List ℕ} {at : ℕ} {values : List ℕ} {next i : ℕ} (s : LineSoFar sheet at values next i) where
+  pub line-whole : i ≡ lineValues → some (record { values = values; rest = drop next sheet }) ≡ readLine lineValues (drop at sheet)
+  unfolding readLine
+  line-whole e = let n = s .full in sym (s .said ∙ rw (e, take-all lineValues values (omega arith), append-nil values))
+
+  module _ (k : ℕ) (e : lineValues - i ≡ suc k) where
+    pub line-wrong : field (stopBefore k) (drop next sheet) ≡ none → none ≡ readLine lineValues (drop at sheet)
+    unfolding readLine
+    line-wrong f = sym (s .said ∙ rw (e, f))
+
+    pub line-more : (v next' : ℕ) → field (stopBefore k) (drop next sheet) ≡ some (record { value = v; rest = drop next' sheet })
+        → LineSoFar sheet at (set values i v) next' (i + 1)
+    unfolding readLine
+    line-more v next' f =
+        let m : lineValues - (i + 1) ≡ k = omega arith in
+        let h : i < length values = omega (arith, s .full) in
+        record {
+          full = simp length-set (s .full);
+          said = s .said ∙ rw (e, f, m, add-one i, take-suc-set values i v h) (fronted-next (take i values) v (readLine k (drop next' sheet)));
+        }
 
 -- a list that begins with another
 module _ (list head : List ℕ) where
@@ -75,58 +89,48 @@ front-none : (a : Answer Yard) → a ≡ mapAnswer (front [] [] []) a
 front-none (answered y) = refl
 front-none (refused f) = refl
 
-front-line : (l : NodeLine) (ps cs ts : List ℕ) (a : Answer Yard)
-    → mapAnswer (front ps cs ts) (mapAnswer (withNode l) a) ≡ mapAnswer (front (ps ++ (l .parent ∷ [])) (cs ++ (l .pebble ∷ [])) (ts ++ (l .target ∷ []))) a
-front-line l ps cs ts (answered y) = simp append-assoc
-front-line l ps cs ts (refused f) = refl
-
--- a line of another shape, or of another node
-line-shape : (k v b : ℕ) (bs : List ℕ) → nodeLine (b ∷ bs) ≡ none → readNodes (suc k) v (b ∷ bs) ≡ refused (row 16 (v + 2))
-unfolding readNodes
-line-shape k v b bs e = rw (e, readNodes)
-
-line-other : (k v b : ℕ) (bs : List ℕ) {l : NodeLine} → nodeLine (b ∷ bs) ≡ some l → (l .node ≡ v → ⊥) → readNodes (suc k) v (b ∷ bs) ≡ refused (row 17 (v + 2))
-unfolding readNodes
-line-other k v b bs {l} e n = rw (e, readNodes) (rw (ne-eqb (l .node) v n))
-
-lines-over : (v b : ℕ) (bs : List ℕ) → readNodes 0 v (b ∷ bs) ≡ refused (row 1 (v + 2))
-unfolding readNodes
-lines-over v b bs = refl
+front-line : (vs ps cs ts : List ℕ) (a : Answer (List (List ℕ))) → mapAnswer (front ps cs ts) (mapAnswer columns (mapAnswer (_∷_ vs) a))
+    ≡ mapAnswer (front (ps ++ (getD vs 1 0 ∷ [])) (cs ++ (getD vs 2 0 ∷ [])) (ts ++ (getD vs 3 0 ∷ []))) (mapAnswer columns a)
+front-line vs ps cs ts (answered rows) = simp append-assoc
+front-line vs ps cs ts (refused f) = refl
 
 -- the arrays hold the first v nodes, and the bytes from `at` on are the other lines
-abbrev pub SoFar : List ℕ → List ℕ → List ℕ → List ℕ → ℕ → ℕ → Type 0
-SoFar sheet ps cs ts at v = readNodes maxSize 0 (drop 24 sheet) ≡ mapAnswer (front (take v ps) (take v cs) (take v ts)) (readNodes (maxSize - v) v (drop at sheet))
+pub record SoFar (sheet ps cs ts : List ℕ) (at v : ℕ) : Type 0 where
+  pub full : Full ps cs ts
+  pub said : linesSay sheet ≡ mapAnswer (front (take v ps) (take v cs) (take v ts)) (mapAnswer columns (readNodes (maxSize - v) v (drop at sheet)))
 
-module _ (sheet ps cs ts : List ℕ) where
-  pub so-far-none : SoFar sheet ps cs ts 24 0
-  so-far-none = front-none (readNodes maxSize 0 (drop 24 sheet))
+pub so-far-none : (sheet ps cs ts : List ℕ) → Full ps cs ts → SoFar sheet ps cs ts 24 0
+unfolding header text
+so-far-none sheet ps cs ts f = record { full = f; said = front-none (linesSay sheet) }
 
-  module _ (at v : ℕ) (s : SoFar sheet ps cs ts at v) where
-    pub so-far-end : drop at sheet ≡ [] → answered (yardOf (take v ps) (take v cs) (take v ts)) ≡ readNodes maxSize 0 (drop 24 sheet)
-    so-far-end e = sym (s ∙ rw (e, readNodes-end (maxSize - v) v, append-nil (take v ps), append-nil (take v cs), append-nil (take v ts)))
+module _ {sheet ps cs ts : List ℕ} {at v : ℕ} (s : SoFar sheet ps cs ts at v) where
+  pub so-far-end : drop at sheet ≡ [] → answered (yardOf (take v ps) (take v cs) (take v ts)) ≡ linesSay sheet
+  so-far-end e = sym (s .said ∙ rw (e, readNodes-end (maxSize - v) v, append-nil (take v ps), append-nil (take v cs), append-nil (take v ts)))
 
-    module _ (h : at < length sheet) where
-      pub so-far-over : v ≡ 256 → refused (row 1 258) ≡ readNodes maxSize 0 (drop 24 sheet)
-      so-far-over e = sym (s ∙ rw (drop-next sheet at h, e, lines-over 256 (getD sheet at 0) (drop (at + 1) sheet)))
+  module _ (h : at < length sheet) where
+    pub so-far-over : v ≡ 256 → refused (row 1 (v + 2)) ≡ linesSay sheet
+    so-far-over e = sym (s .said ∙ rw (drop-next sheet at h, e, readNodes-over 256 (getD sheet at 0) (drop (at + 1) sheet)))
 
-      module _ (l : v < 256) where
-        room : maxSize - v ≡ suc (255 - v)
-        room = omega arith
+    module _ (l : v < 256) where
+      room : maxSize - v ≡ suc (255 - v)
+      room = omega arith
 
-        pub so-far-shape : {p : ℕ} → p ≡ v + 2 → nodeLine (drop at sheet) ≡ none → refused (row 16 p) ≡ readNodes maxSize 0 (drop 24 sheet)
-        so-far-shape q e = sym (s ∙ rw (q, room, drop-next sheet at h, line-shape (255 - v) v (getD sheet at 0) (drop (at + 1) sheet) (ap nodeLine (sym (drop-next sheet at h)) ∙ e)))
+      pub so-far-shape : readLine lineValues (drop at sheet) ≡ none → refused (row 16 (v + 2)) ≡ linesSay sheet
+      so-far-shape e =
+          sym (s .said ∙ rw (room, drop-next sheet at h, readNodes-shape (255 - v) v (getD sheet at 0) (drop (at + 1) sheet) (rw (drop-next sheet at h) at e)))
 
-        pub so-far-other : {p : ℕ} {x : NodeLine} → p ≡ v + 2 → nodeLine (drop at sheet) ≡ some x → (x .node ≡ v → ⊥) → refused (row 17 p) ≡ readNodes maxSize 0 (drop 24 sheet)
-        so-far-other q e n = sym (s ∙ rw (q, room, drop-next sheet at h, line-other (255 - v) v (getD sheet at 0) (drop (at + 1) sheet) (ap nodeLine (sym (drop-next sheet at h)) ∙ e) n))
+      pub so-far-other : {x : Line} → readLine lineValues (drop at sheet) ≡ some x → (nodeOf x ≡ v → ⊥) → refused (row 17 (v + 2)) ≡ linesSay sheet
+      so-far-other e n =
+          sym (s .said ∙ rw (room, drop-next sheet at h, readNodes-other (255 - v) v (getD sheet at 0) (drop (at + 1) sheet) (rw (drop-next sheet at h) at e) n))
 
-        pub so-far-next : {x : NodeLine} (next : ℕ) → nodeLine (drop at sheet) ≡ some x → x .node ≡ v → x .rest ≡ drop next sheet
-            → Full ps cs ts
-            → SoFar sheet (set ps v (x .parent)) (set cs v (x .pebble)) (set ts v (x .target)) next (v + 1)
-        so-far-next {x} next e q r f =
-            let m : maxSize - (v + 1) ≡ 255 - v = omega arith in
-            let others : Answer Yard = readNodes (255 - v) (suc v) (drop next sheet) in
-            let line : mapAnswer (front (take v ps) (take v cs) (take v ts)) (readNodes (maxSize - v) v (drop at sheet))
-            ≡ mapAnswer (front (take v ps ++ (x .parent ∷ [])) (take v cs ++ (x .pebble ∷ [])) (take v ts ++ (x .target ∷ []))) others =
-            rw (room, readNodes-next (255 - v) v (drop at sheet) x e q, r) (front-line x (take v ps) (take v cs) (take v ts) others) in
-            s ∙ line
-            ∙ sym (rw (m, add-one v, take-suc-set ps v (x .parent) (omega arith), take-suc-set cs v (x .pebble) (omega arith), take-suc-set ts v (x .target) (omega arith)))
+      pub so-far-next : (vs : List ℕ) (next : ℕ) → readLine lineValues (drop at sheet) ≡ some (record { values = vs; rest = drop next sheet }) → getD vs 0 0 ≡ v
+          → SoFar sheet (set ps v (getD vs 1 0)) (set cs v (getD vs 2 0)) (set ts v (getD vs 3 0)) next (v + 1)
+      so-far-next vs next e q =
+          let m : maxSize - (v + 1) ≡ 255 - v = omega arith in
+          let f = s .full in
+          let n = rw (room, readNodes-next (255 - v) v (drop at sheet) e q) at (s .said) in
+          record {
+            full = simp length-set f;
+            said = rw (m, add-one v, take-suc-set ps v (getD vs 1 0) (omega arith), take-suc-set cs v (getD vs 2 0) (omega arith), take-suc-set ts v (getD vs 3 0) (omega arith))
+                (n ∙ front-line vs (take v ps) (take v cs) (take v ts) (readNodes (255 - v) (suc v) (drop next sheet)));
+          }

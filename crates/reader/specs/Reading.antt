@@ -5,8 +5,9 @@ use mathlib.Core.List.{List, [], _∷_, _++_}
 use Prim.Native.Nat.{ℕ, _≤_, _<_}
 use lib.ListN.{length, take, drop}
 use Rattle.model.specs.Yard.{Yard, yardOf, maxSize}
-use Rattle.model.specs.Calls.Answers.{Answer, answered, refused}
-use Rattle.model.specs.Sheets.{decimal, Field, NodeLine}
+use Rattle.model.specs.Calls.Answers.{Answer, answered, refused, mapAnswer}
+use Rattle.model.specs.Sheets as Sheets
+use Rattle.model.specs.Sheets.{decimal, header, Field, readNodes, columns}
 use Rattle.model.specs.Paper.{paper}
 use Rattle.model.specs.declared.Counted.{Counted}
 use Rattle.reader.specs.declared.read.Word.{Word}
@@ -17,14 +18,14 @@ pub record Extended (u b r : ℕ) : Type 0 where
   pub good : r < 256 → decimal r ≡ decimal u ++ (b ∷ [])
   pub bad : 256 ≤ r → (v : ℕ) (w : List ℕ) → v < 256 → decimal v ≡ decimal u ++ (b ∷ w) → ⊥
 
--- a word or a line found in a sheet, with the place behind it
+-- a word, or the values of a line, found in a sheet with the place behind it
 abbrev pub wordIn : List ℕ → Word → Option Field
 wordIn sheet (Word.Value v next) = some (record { value = v; rest = drop next sheet })
 wordIn sheet Word.Wrong = none
 
-abbrev pub lineIn : List ℕ → Line → Option NodeLine
-lineIn sheet (Line.Node v p c t next) = some (record { node = v; parent = p; pebble = c; target = t; rest = drop next sheet })
-lineIn sheet Line.Wrong = none
+abbrev pub lineIn : List ℕ → List ℕ → Line → Option Sheets.Line
+lineIn sheet values (Line.Behind next) = some (record { values = values; rest = drop next sheet })
+lineIn sheet values Line.Wrong = none
 
 -- three arrays of 256 entries
 abbrev pub Full : List ℕ → List ℕ → List ℕ → Type 0
@@ -38,3 +39,7 @@ took (Counted.Refused r) ps cs ts = refused (paper r)
 abbrev pub counted : Counted → ℕ
 counted (Counted.Number n) = n
 counted (Counted.Refused r) = 0
+
+-- what the lines behind the header say
+abbrev pub linesSay : List ℕ → Answer Yard
+linesSay sheet = mapAnswer columns (readNodes maxSize 0 (drop (length header) sheet))

@@ -2,16 +2,22 @@
 ghost use mathlib.Core.Path.{_≡_};
 ghost use Prim.Native.Nat.{_≤_, _<_};
 ghost use lib.ListN.{length, take, drop};
-ghost use Rattle.model.specs.Yard.{Yard, maxSize};
-ghost use Rattle.model.specs.Given.{was, became};
+ghost use Rattle.model.specs.Yard.{size, maxSize};
+ghost use Rattle.model.specs.Given.{readFrom, was, became};
+ghost use Rattle.model.specs.Calls.Answers.{mapAnswer};
 ghost use Rattle.model.specs.Sheets as Sheets;
-ghost use Rattle.model.specs.Sheets.{same, nodeLine, readNodes, readYard, reader, readAnswer, filled};
+ghost use Rattle.model.specs.Sheets.{same, lineValues, readLine, readYard, filled};
 ghost use Rattle.model.specs.Paper.{paperCounted};
-ghost use Rattle.reader.specs.Reading.{Extended, wordIn, lineIn, Full, took, counted};
+ghost use Rattle.reader.specs.Reading.{Extended, wordIn, lineIn, Full, took, counted, linesSay};
 use model::Counted;
 use model::Refusal;
 use sheet::decimal::put_text;
+use sheet::line::stop_before;
+use sheet::writer::HEADER;
 use sheet::writer::HEADER_BYTES;
+
+// How many values a node's line has.
+const VALUES: usize = 4;
 
 // A value and the place behind the byte that ends it.
 enum Word {
@@ -19,9 +25,9 @@ enum Word {
     Wrong,
 }
 
-// The four values of a node's line and the place behind it.
+// The place behind the line feed that ends a line.
 enum Line {
-    Node(u8, u8, u8, u8, usize),
+    Behind(usize),
     Wrong,
 }
 
@@ -73,27 +79,23 @@ fn field(sheet: &[u8], at: usize, stop: u8) -> Word
     Word::Wrong
 }
 
-// The line of a node that stands at `at`.
-fn node_line(sheet: &[u8], at: usize) -> Line
-    ensures { λ r. ⌜ lineIn (was sheet) r ≡ nodeLine (drop at (was sheet)) ⌝ }
+// The values of the node's line that stands at `at`, into an array; of a wrong line it says no more.
+fn node_line(sheet: &[u8], at: usize, values: &mut [u8; VALUES]) -> Line
+    requires { ⌜ length (now values) ≡ lineValues ⌝ }
+    ensures { λ r. ⌜ lineIn (was sheet) (became values) r ≡ readLine lineValues (drop at (was sheet)) ⌝ }
 {
-    let first = field(sheet, at, b' ');
-    let Word::Value(node, behind_node) = first else {
-        return Line::Wrong;
-    };
-    let second = field(sheet, behind_node, b' ');
-    let Word::Value(parent, behind_parent) = second else {
-        return Line::Wrong;
-    };
-    let third = field(sheet, behind_parent, b' ');
-    let Word::Value(pebble, behind_pebble) = third else {
-        return Line::Wrong;
-    };
-    let fourth = field(sheet, behind_pebble, b'\n');
-    let Word::Value(target, next) = fourth else {
-        return Line::Wrong;
-    };
-    Line::Node(node, parent, pebble, target, next)
+    let mut next = at;
+    let mut i = 0;
+    while i < VALUES {
+        let word = field(sheet, next, stop_before(VALUES - 1 - i));
+        let Word::Value(value, behind) = word else {
+            return Line::Wrong;
+        };
+        values[i] = value;
+        next = behind;
+        i += 1;
+    }
+    Line::Behind(next)
 }
 
 // The nodes of a sheet behind the header, line by line, into three arrays: how many, or the refusal of the first line that has one.
@@ -104,25 +106,27 @@ fn read_nodes(
     targets: &mut [u8; 256],
 ) -> Counted
     requires { ⌜ Full (now parents) (now pebbles) (now targets) ⌝ }
-    ensures { λ r. ⌜ took r (became parents) (became pebbles) (became targets) ≡ readNodes maxSize 0 (drop 24 (was sheet)) ⌝ }
+    ensures { λ r. ⌜ took r (became parents) (became pebbles) (became targets) ≡ linesSay (was sheet) ⌝ }
     ensures { λ r. ⌜ (counted r ≤ maxSize) × Full (became parents) (became pebbles) (became targets) ⌝ }
 {
     let mut at = HEADER_BYTES;
     let mut v = 0;
     while at < sheet.len() {
+        let number = v + 2;
         if v == 256 {
-            return Counted::Refused(Refusal::NodeCount(258));
+            return Counted::Refused(Refusal::NodeCount(number));
         }
-        let line = node_line(sheet, at);
-        let Line::Node(node, parent, pebble, target, next) = line else {
-            return Counted::Refused(Refusal::LineShape(v + 2));
+        let mut values = [0u8; VALUES];
+        let line = node_line(sheet, at, &mut values);
+        let Line::Behind(next) = line else {
+            return Counted::Refused(Refusal::LineShape(number));
         };
-        if node as usize != v {
-            return Counted::Refused(Refusal::NodeNumber(v + 2));
+        if values[0] != v as u8 {
+            return Counted::Refused(Refusal::NodeNumber(number));
         }
-        parents[v] = parent;
-        pebbles[v] = pebble;
-        targets[v] = target;
+        parents[v] = values[1];
+        pebbles[v] = values[2];
+        targets[v] = values[3];
         at = next;
         v += 1;
     }
@@ -157,7 +161,7 @@ fn read_lines(
     ensures { λ r. ⌜ took r (became parents) (became pebbles) (became targets) ≡ readYard (was sheet) ⌝ }
     ensures { λ r. ⌜ (counted r ≤ maxSize) × Full (became parents) (became pebbles) (became targets) ⌝ }
 {
-    if !begins(sheet, b"berth parent car target\n") {
+    if !begins(sheet, &HEADER) {
         return Counted::Refused(Refusal::Header);
     }
     if sheet.len() == HEADER_BYTES {
@@ -166,18 +170,18 @@ fn read_lines(
     read_nodes(sheet, parents, pebbles, targets)
 }
 
-// Reads a sheet: 18 if one of the lists is shorter than 256, then as the sheet says. It answers the number of nodes and fills as many entries
-// at the front of each list, and nothing else; a refusal leaves all lists as they were.
+// Reads a sheet: 18 if one of the lists is shorter than 256, then as the sheet says. It answers the number of nodes and fills as many
+// entries at the front of each list, and nothing else; a refusal leaves all lists as they were.
 pub fn read_sheet(
     sheet: &[u8],
     parents: &mut [u8],
     pebbles: &mut [u8],
     targets: &mut [u8],
 ) -> Counted
-    ensures { λ r. ⌜ paperCounted r ≡ readAnswer (was sheet) (was parents) (was pebbles) (was targets) ⌝ }
-    ensures { λ r. ⌜ became parents ≡ filled (λ (y : Yard). y .parents) (reader (was sheet) (was parents) (was pebbles) (was targets)) (was parents) ⌝ }
-    ensures { λ r. ⌜ became pebbles ≡ filled (λ (y : Yard). y .pebbles) (reader (was sheet) (was parents) (was pebbles) (was targets)) (was pebbles) ⌝ }
-    ensures { λ r. ⌜ became targets ≡ filled (λ (y : Yard). y .targets) (reader (was sheet) (was parents) (was pebbles) (was targets)) (was targets) ⌝ }
+    ensures { λ r. ⌜ paperCounted r ≡ mapAnswer size (readFrom sheet parents pebbles targets) ⌝ }
+    ensures { λ r. ⌜ became parents ≡ filled (λ y. y .parents) (readFrom sheet parents pebbles targets) (was parents) ⌝ }
+    ensures { λ r. ⌜ became pebbles ≡ filled (λ y. y .pebbles) (readFrom sheet parents pebbles targets) (was pebbles) ⌝ }
+    ensures { λ r. ⌜ became targets ≡ filled (λ y. y .targets) (readFrom sheet parents pebbles targets) (was targets) ⌝ }
 {
     if parents.len() < 256 {
         return Counted::Refused(Refusal::ReaderList);

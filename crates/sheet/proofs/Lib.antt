@@ -3,4 +3,3 @@ pub mod Decimals
 pub mod Writing
 pub mod Rows
 pub mod WriteCall
-pub mod Moves

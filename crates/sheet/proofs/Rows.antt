@@ -1,81 +1,101 @@
--- The lines of a sheet, one after the other: a line is its values, each with the byte behind it, and the first v + 1 lines of a sheet are the
--- first v and one more.
+-- What is left of a sheet: a line from a value on is that value, the byte that ends it, and the line from the next on; the lines from a node or a
+-- move on are its line and those from the next on.
 use mathlib.Core.Path.{_≡_, refl, sym, ap, _∙_}
-use mathlib.Core.Bool.{Bool, true, false}
-use mathlib.Core.List.{List, [], _∷_, _++_, map, append-assoc, append-nil}
-use Prim.Native.Nat.{ℕ, zero, suc, _+_, _≤_}
-use native.Mathlib.Nat.{zero-add, add-zero, suc-add, add-suc}
+use mathlib.Core.List.{List, [], _∷_, _++_, map, append-assoc}
+use Prim.Native.Nat.{ℕ, zero, suc, _+_, _-_, _≤_, _<_}
+use native.Mathlib.Nat.{sub-zero}
 use native.Mathlib.Numerals.{add-one}
 use native.Mathlib.Omega.{arith}
-use lib.ListN.{length, length-append}
-use lib.Dec.{ltb}
-use borrow.Author.Tests.{ltb-true, ltb-false}
+use lib.ListN.{length, drop, getD, length-append, length-drop, drop-of-length-le}
 use Rattle.model.specs.Yard.{Yard, size}
+use Rattle.model.specs.Judge.{row}
+use Rattle.model.specs.Push.{Move}
 use Rattle.model.specs.Calls.Answers.{range}
-use Rattle.model.specs.Sheets.{text, space, lineFeed, decimal, line, lines, header, nodeValues, yardSheet}
+use Rattle.model.specs.Calls.Plans.{movesOf}
+use Rattle.model.specs.Sheets.{text, space, lineFeed, decimal, stopBefore, line, lines, header, nodeValues, yardSheet, moveSheet, refusalSheet}
+use Rattle.model.proofs.Lines.{length-line}
+use Rattle.sheet.proofs.Decimals.{decimal-six}
+use Rattle.sheet.proofs.Writing.{drop-next}
 
--- a value and the byte that ends it
-abbrev pub word : ℕ → ℕ → List ℕ
-word n stop = decimal n ++ (stop ∷ [])
+-- a value and the byte that ends it, and the line from the next value on
+pub stop-last : (k : ℕ) → k ≡ 0 → lineFeed ≡ stopBefore k
+unfolding stopBefore
+stop-last zero e = refl
+stop-last (suc k) e = absurd (omega arith)
 
-pub length-word : (n stop : ℕ) → length (word n stop) ≡ length (decimal n) + 1
-length-word n stop = length-append (decimal n) (stop ∷ [])
+pub stop-inner : (k : ℕ) → (k ≡ 0 → ⊥) → space ≡ stopBefore k
+unfolding stopBefore
+stop-inner zero n = absurd (n refl)
+stop-inner (suc k) n = refl
 
-pub line-two : (a b : ℕ) → word a space ++ word b lineFeed ≡ line (a ∷ b ∷ [])
+module _ (vs : List ℕ) (i : ℕ) (h : i < length vs) where
+  pub line-next : line (drop i vs) ≡ (decimal (getD vs i 0) ++ (stopBefore (length vs - (i + 1)) ∷ [])) ++ line (drop (i + 1) vs)
+  unfolding line
+  line-next = rw (drop-next vs i h, length-drop (i + 1) vs) (sym (append-assoc (decimal (getD vs i 0)) _ _))
+
+  pub length-line-next : length (line (drop i vs)) ≡ length (decimal (getD vs i 0)) + 1 + length (line (drop (i + 1) vs))
+  length-line-next = rw line-next (simp length-append (omega arith))
+
+pub line-end : (vs : List ℕ) (i : ℕ) → length vs ≤ i → line (drop i vs) ≡ []
 unfolding line
-line-two a b = simp append-assoc
+line-end vs i h = rw (drop-of-length-le vs h)
 
-pub line-four : (a b c d : ℕ) → word a space ++ (word b space ++ (word c space ++ word d lineFeed)) ≡ line (a ∷ b ∷ c ∷ d ∷ [])
-unfolding line
-line-four a b c d = simp append-assoc
-
-pub length-two : (a b : ℕ) → length (line (a ∷ b ∷ [])) ≡ length (decimal a) + length (decimal b) + 2
-length-two a b = rw (← line-two a b) (simp length-append (omega arith))
-
-pub length-four : (a b c d : ℕ) → length (line (a ∷ b ∷ c ∷ d ∷ [])) ≡ length (decimal a) + length (decimal b) + length (decimal c) + length (decimal d) + 4
-length-four a b c d = rw (← line-four a b c d) (simp length-append (omega arith))
-
--- one line more
-pub lines-next : {A : Type 0} (f : A → List ℕ) (xs : List A) (x : A) → lines (map f (xs ++ (x ∷ []))) ≡ lines (map f xs) ++ line (f x)
-unfolding lines
-lines-next f [] x = append-nil (line (f x))
-lines-next f (y ∷ xs) x = rw (lines-next f xs x) (sym (append-assoc (line (f y)) (lines (map f xs)) (line (f x))))
-
-range-next : (a k : ℕ) → range a (suc k) ≡ range a k ++ ((a + k) ∷ [])
-unfolding range
-range-next a zero = rw add-zero
-range-next a (suc k) = ap (λ (l : List ℕ). a ∷ l) (range-next (suc a) k ∙ rw (suc-add a k, add-suc a k))
-
--- the lines of the first v nodes
+-- the lines of the nodes from v on
 abbrev pub rows : Yard → ℕ → List ℕ
-rows y v = lines (map (nodeValues y) (range 0 v))
+rows y v = lines (map (nodeValues y) (range v (size y - v)))
 
-pub rows-none : (y : Yard) → rows y 0 ≡ []
-unfolding lines range
-rows-none y = refl
+module _ (y : Yard) where
+  pub rows-next : (v : ℕ) → v < size y → rows y v ≡ line (nodeValues y v) ++ rows y (v + 1)
+  unfolding lines range
+  rows-next v h = let m : size y - v ≡ suc (size y - (v + 1)) = omega arith in rw (m, add-one v)
 
-pub rows-all : (y : Yard) → header ++ rows y (size y) ≡ yardSheet y
-unfolding yardSheet
-rows-all y = refl
+  pub length-rows-next : (v : ℕ) → v < size y → length (rows y v) ≡ length (line (nodeValues y v)) + length (rows y (v + 1))
+  length-rows-next v h = ap length (rows-next v h) ∙ length-append (line (nodeValues y v)) (rows y (v + 1))
 
-pub rows-next : (y : Yard) (v : ℕ) → rows y v ++ line (nodeValues y v) ≡ rows y (v + 1)
-rows-next y v = rw (add-one v, range-next 0 v, zero-add v) (sym (lines-next (nodeValues y) (range 0 v) v))
+  pub rows-end : (v : ℕ) → size y ≤ v → rows y v ≡ []
+  unfolding lines range
+  rows-end v h = let m : size y - v ≡ 0 = omega arith in rw m
 
-pub length-rows-next : (y : Yard) (v : ℕ) → length (rows y v) + length (line (nodeValues y v)) ≡ length (rows y (v + 1))
-length-rows-next y v = sym (length-append (rows y v) (line (nodeValues y v))) ∙ ap length (rows-next y v)
+  pub rows-all : header ++ rows y 0 ≡ yardSheet y
+  unfolding yardSheet
+  rows-all = rw sub-zero
 
-pub rows-grow : (y : Yard) (v n : ℕ) → v ≤ n → length (rows y v) ≤ length (rows y n)
-rows-grow y zero zero h = omega arith
-rows-grow y (suc v) zero h = absurd (omega arith)
-rows-grow y v (suc n) h = go (ltb n v) refl (rows-grow y v n)
-  where
-    go : (t : Bool) → ltb n v ≡ t → (v ≤ n → length (rows y v) ≤ length (rows y n)) → length (rows y v) ≤ length (rows y (suc n))
-    go true e ih = let q : v ≡ suc n = omega (arith, ltb-true n v e) in omega (arith, ap (λ (k : ℕ). length (rows y k)) q)
-    go false e ih = omega (arith, ih (ltb-false n v e), length-rows-next y n, ap (λ (k : ℕ). length (rows y k)) (add-one n))
+  pub length-yardSheet : 24 + length (rows y 0) ≡ length (yardSheet y)
+  unfolding header text
+  length-yardSheet = sym (length-append header (rows y 0)) ∙ ap length rows-all
 
-header-length : length header ≡ 24
-unfolding header text
-header-length = refl
+-- the lines of the moves from byte i of a plan on
+abbrev pub moves : List ℕ → ℕ → List ℕ
+moves plan i = lines (map (λ (m : Move). m .from ∷ m .to ∷ []) (movesOf (drop i plan)))
 
-pub sheet-length : (y : Yard) → length (yardSheet y) ≡ 24 + length (rows y (size y))
-sheet-length y = ap length (sym (rows-all y)) ∙ rw (length-append header (rows y (size y)), header-length)
+module _ (plan : List ℕ) where
+  pub moves-next : (i : ℕ) → i + 1 < length plan → moves plan i ≡ line (getD plan i 0 ∷ getD plan (i + 1) 0 ∷ []) ++ moves plan (i + 2)
+  unfolding lines movesOf
+  moves-next i h =
+      let n : i + 1 + 1 ≡ i + 2 = omega arith in
+      rw (drop-next plan i (omega arith), drop-next plan (i + 1) h, n)
+
+  pub moves-end : (i : ℕ) → length plan ≤ i + 1 → moves plan i ≡ []
+  unfolding lines movesOf
+  moves-end i h = rw (short (drop i plan) (rw length-drop (omega arith)))
+    where
+      short : (l : List ℕ) → length l ≤ 1 → movesOf l ≡ []
+      short [] h = refl
+      short (a ∷ []) h = refl
+      short (a ∷ b ∷ l) h = absurd (omega arith)
+
+  pub moves-all : text "from to\n" ++ moves plan 0 ≡ moveSheet (movesOf plan)
+  unfolding moveSheet
+  moves-all = refl
+
+pub length-move : (a b : ℕ) → a < 256 → b < 256 → length (line (a ∷ b ∷ [])) ≤ 8
+length-move a b h k = length-line (a ∷ b ∷ []) (omega arith) .1
+
+-- the line of a refusal
+pub refusal-all : (n p : ℕ) → text "refusal place\n" ++ line (n ∷ p ∷ []) ≡ refusalSheet (row n p)
+unfolding refusalSheet
+refusal-all n p = refl
+
+pub length-refusal : (n p : ℕ) → n < 1_000_000 → p < 1_000_000 → length (line (n ∷ p ∷ [])) ≤ 14
+unfolding line
+length-refusal n p a b = simp length-append (omega (arith, decimal-six n a, decimal-six p b))

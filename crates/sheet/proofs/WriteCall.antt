@@ -3,6 +3,7 @@ use mathlib.Core.Path.{_≡_, _∙_}
 use mathlib.Core.Option.{none, some}
 use mathlib.Core.List.{List, [], _∷_}
 use Prim.Native.Nat.{ℕ, _≤_, _<_}
+use native.Mathlib.Omega.{arith}
 use lib.ListN.{length}
 use lib.Dec.{leb}
 use borrow.Author.Tests.{le-leb, lt-leb}
@@ -33,8 +34,8 @@ module _ (y : Yard) (list : List ℕ) where
     pub write-short : {n : ℕ} → n ≡ length (yardSheet y) → length list < n → Fails (row 8 n)
     write-short {n} e h = fails (row 8 n) (room ∙ rw (← e, lt-leb n (length list) h))
 
-    pub write-whole : {n : ℕ} {new : List ℕ} → length (yardSheet y) ≤ length list → Written (yardSheet y) 0 list n new → (answered n ≡ writeAnswer y list) × (new ≡ writeList y list)
-    write-whole h w =
-        let e : writeFault y (length list) ≡ none = room ∙ rw (le-leb (length (yardSheet y)) (length list) h) in
-        let f = written-front w in
-        (rw (e, ← f .0), rw e (f .1))
+    pub write-whole : {n e : ℕ} {new : List ℕ} → n ≡ length (yardSheet y) → n ≤ length list → Written (yardSheet y) 0 list e new
+        → (answered n ≡ writeAnswer y list) × (new ≡ writeList y list)
+    write-whole q h w =
+        let p : writeFault y (length list) ≡ none = room ∙ rw (le-leb (length (yardSheet y)) (length list) (omega arith)) in
+        (rw (p, q), rw p (written-front w (omega (arith, w .end)) .1))

@@ -1,96 +1,83 @@
--- Writing into a list: two words, one behind the other, are written as one; a byte is a word of one; and no byte more is there afterwards.
+-- Storing words into a list: a word and one behind it are stored as one, and what is left of a word is stored behind its front. So a loop that
+-- stores a word part by part has, at each turn, the rest to store, which makes of the list what the whole makes of the list at the start.
 use mathlib.Core.Path.{_≡_, refl, sym, ap, _∙_, subst}
-use mathlib.Core.List.{List, [], _∷_, _++_, append-assoc}
+use mathlib.Core.List.{List, [], _∷_, _++_}
 use Prim.Native.Nat.{ℕ, suc, _+_, _/_, _%_, _≤_, _<_}
-use native.Mathlib.Nat.{zero-add, add-zero, add-assoc}
+use native.Mathlib.Nat.{zero-add, add-zero, add-suc, suc-add}
 use native.Mathlib.Numerals.{add-one}
 use native.Mathlib.Omega.{arith}
-use lib.ListN.{length, take, drop, set, getD, length-append, length-take, length-drop, take-append-drop}
-use lib.Seq.{length-take-le, take-at, drop-at, drop-append-add, drop-drop, set-split, take-set-le, take-suc, take-length}
+use lib.ListN.{length, take, drop, set, getD, length-append}
+use lib.Seq.{take-append-seam, drop-cons, set-comm, sets, length-sets, sets-eq}
 use Rattle.model.specs.Calls.Answers.{overwrite}
 use Rattle.model.specs.Sheets.{decimal}
-use Rattle.sheet.specs.Written.{put, Written}
+use Rattle.sheet.specs.Written.{Written}
 use Rattle.sheet.proofs.Decimals.{decimal-low, decimal-high, length-low, length-high}
 
-put-nil : (at : ℕ) (l : List ℕ) → put at [] l ≡ l
-put-nil at l = rw add-zero (take-append-drop at l)
+sets-append : (l : List ℕ) (i : ℕ) (v w : List ℕ) → sets l i (v ++ w) ≡ sets (sets l i v) (i + length v) w
+sets-append l i [] w = rw add-zero
+sets-append l i (a ∷ v) w = sets-append (set l i a) (suc i) v w ∙ rw (suc-add, add-suc)
 
-length-put : (at : ℕ) (w l : List ℕ) → at + length w ≤ length l → length (put at w l) ≡ length l
-length-put at w l h = simp (length-append, length-take, length-drop) (omega arith)
+sets-last : (l : List ℕ) (i : ℕ) (w : List ℕ) (b : ℕ) → sets l i (w ++ (b ∷ [])) ≡ sets (set l (i + length w) b) i w
+sets-last l i [] b = rw add-zero
+sets-last l i (a ∷ w) b =
+    sets-last (set l i a) (suc i) w b ∙ ap (λ (m : List ℕ). sets m (suc i) w) (rw (suc-add, add-suc) (set-comm l i (suc (i + length w)) a b (λ e. omega arith)))
 
-module _ (at : ℕ) (l : List ℕ) where
-  seam : (w : List ℕ) → at ≤ length l → length (take at l ++ w) ≡ at + length w
-  seam w h = length-append (take at l) w ∙ rw (length-take-le at l h)
+-- the digits of a number, from its last to its first, each at the place i
+module _ (at i n : ℕ) (l : List ℕ) (e : i + 1 ≡ at + length (decimal n)) where
+  pub put-digit : 10 ≤ n → sets (set l i (48 + n % 10)) at (decimal (n / 10)) ≡ sets l at (decimal n)
+  put-digit k =
+      let q : i ≡ at + length (decimal (n / 10)) = omega (arith, length-high n k) in
+      rw (q, decimal-high n k) (sym (sets-last l at (decimal (n / 10)) (48 + n % 10)))
 
-  put-put : (v w : List ℕ) → at ≤ length l → put (at + length v) w (put at v l) ≡ put at (v ++ w) l
-  put-put v w h =
-      let m : ℕ = at + length v in
-      let xs : List ℕ = take at l ++ v in
-      let rest : List ℕ = drop m l in
-      let s : length xs ≡ m = seam v h in
-      let t : take m (xs ++ rest) ≡ xs = take-at xs rest m s in
-      let d : drop (m + length w) (xs ++ rest) ≡ drop (at + length (v ++ w)) l =
-      ap (λ (n : ℕ). drop (n + length w) (xs ++ rest)) (sym s) ∙ drop-append-add xs rest (length w) ∙ drop-drop (length w) m l
-      ∙ rw (length-append v w, add-assoc at (length v) (length w)) in
-      rw (← append-assoc (take at l) v rest, t, d) (simp append-assoc)
-
-  put-snoc : (w : List ℕ) (b : ℕ) → at + length w < length l → put at (w ++ (b ∷ [])) l ≡ put at w (set l (at + length w) b)
-  put-snoc w b h =
-      let i : ℕ = at + length w in
-      let e : set l i b ≡ take i l ++ (b ∷ drop (suc i) l) = set-split l i b h in
-      let t : take at (set l i b) ≡ take at l = take-set-le at l i b (omega arith) in
-      let d : drop i (set l i b) ≡ b ∷ drop (suc i) l = rw e (drop-at (take i l) (b ∷ drop (suc i) l) i (length-take-le i l (omega arith))) in
-      let n : at + length (w ++ (b ∷ [])) ≡ suc i = rw (length-append w (b ∷ [])) (omega arith) in
-      rw (t, d, n) (simp append-assoc)
-
-  put-byte : (b : ℕ) → at < length l → put at (b ∷ []) l ≡ set l at b
-  put-byte b h = rw add-one (sym (set-split l at b h))
-
--- at the front
-put-front : (w l : List ℕ) → put 0 w l ≡ overwrite w l
-put-front w l = rw zero-add
+  pub put-first : n < 10 → set l i (48 + n) ≡ sets l at (decimal n)
+  put-first k =
+      let q : i ≡ at = omega (arith, length-low n k) in
+      rw (q, decimal-low n k)
 
 -- Written
-pub written-nil : (at : ℕ) (l : List ℕ) → Written [] at l at l
-written-nil at l = record { list = sym (put-nil at l); end = omega arith }
-
-pub written-append : {v w : List ℕ} {at m e : ℕ} {old mid new : List ℕ} → at ≤ length old → Written v at old m mid → Written w m mid e new → Written (v ++ w) at old e new
-written-append {v} {w} {at} {old = old} h a b = record {
-  list = b .list ∙ rw (a .list, a .end) (put-put at old v w h);
+pub written-append : {v w : List ℕ} {at m e : ℕ} {old mid new : List ℕ} → Written v at old m mid → Written w m mid e new → Written (v ++ w) at old e new
+written-append {v} {w} {at} {old = old} a b = record {
+  list = b .list ∙ rw (a .list, a .end) (sym (sets-append old at v w));
   end = b .end ∙ rw (a .end, length-append v w) (omega arith);
 }
 
 pub written-as : {v w : List ℕ} {at e : ℕ} {old new : List ℕ} → v ≡ w → Written v at old e new → Written w at old e new
 written-as {at = at} {e} {old} {new} q a = subst (λ (l : List ℕ). Written l at old e new) q a
 
-pub written-byte : (b at : ℕ) (l : List ℕ) → at < length l → Written (b ∷ []) at l (at + 1) (set l at b)
-written-byte b at l h = record { list = sym (put-byte at l b h); end = refl }
+pub written-byte : (b at : ℕ) (l : List ℕ) → Written (b ∷ []) at l (at + 1) (set l at b)
+written-byte b at l = record { list = refl; end = refl }
 
-written-length : {w : List ℕ} {at e : ℕ} {old new : List ℕ} → at + length w ≤ length old → Written w at old e new → length new ≡ length old
-written-length {w} {at} {old = old} h a = rw (a .list) (length-put at w old h)
+pub written-front : {w : List ℕ} {e : ℕ} {old new : List ℕ} → Written w 0 old e new → e ≤ length old → (e ≡ length w) × (new ≡ overwrite w old)
+written-front {w} {old = old} a h =
+    let n = a .end in
+    (omega arith, a .list ∙ sets-eq w old 0 (omega arith) ∙ rw zero-add)
 
--- the digits of a number, from its last to its first, each at the place i
-module _ (at i n : ℕ) (l : List ℕ) (e : i + 1 ≡ at + length (decimal n)) (h : i < length l) where
-  pub put-digit : 10 ≤ n → put at (decimal (n / 10)) (set l i (48 + n % 10)) ≡ put at (decimal n) l
-  put-digit k =
-      let q : i ≡ at + length (decimal (n / 10)) = omega (arith, length-high n k) in
-      rw (q, decimal-high n k) (sym (put-snoc at l (decimal (n / 10)) (48 + n % 10) (omega arith)))
+pub written-taken : {w : List ℕ} {e : ℕ} {old new : List ℕ} → Written w 0 old e new → e ≤ length old → take e new ≡ w
+written-taken {w} {old = old} a h =
+    let f = written-front a h in
+    rw (f .0, f .1) (take-append-seam w (drop (length w) old))
 
-  pub put-first : n < 10 → set l i (48 + n) ≡ put at (decimal n) l
-  put-first k =
-      let q : i ≡ at = omega (arith, length-low n k) in
-      rw (q, decimal-low n k) (sym (put-byte at l (48 + n) (omega arith)))
+-- Left: to store `word` from `at` on into `list` is to store `whole` from `start` on into `old`
+pub record Left (word : List ℕ) (at : ℕ) (list whole : List ℕ) (start : ℕ) (old : List ℕ) : Type 0 where
+  pub same : sets list at word ≡ sets old start whole
+  pub end : at + length word ≡ start + length whole
+
+pub left-all : (w : List ℕ) (at : ℕ) (l : List ℕ) → Left w at l w at l
+left-all w at l = record { same = refl; end = refl }
+
+module _ {w : List ℕ} {at : ℕ} {l whole : List ℕ} {start : ℕ} {old : List ℕ} (r : Left w at l whole start old) where
+  pub left-length : length l ≡ length old
+  left-length = sym (length-sets l at w) ∙ ap length (r .same) ∙ length-sets old start whole
+
+  pub left-next : {u v : List ℕ} {m : ℕ} {new : List ℕ} → w ≡ u ++ v → Written u at l m new → Left v m new whole start old
+  left-next {u} {v} q a = record {
+    same = rw (a .list, a .end) (sym (sets-append l at u v) ∙ ap (sets l at) (sym q) ∙ r .same);
+    end = rw (a .end) (omega (arith, r .end, ap length q, length-append u v));
+  }
+
+  pub left-none : w ≡ [] → Written whole start old at l
+  left-none q = record { list = ap (sets l at) (sym q) ∙ r .same; end = omega (arith, r .end, ap length q) }
 
 -- the bytes of a text, one after the other
-pub written-next : (text : List ℕ) (at i : ℕ) (old mid : List ℕ) → i < length text → at + length text ≤ length old
-    → Written (take i text) at old (at + i) mid → Written (take (i + 1) text) at old (at + (i + 1)) (set mid (at + i) (getD text i 0))
-written-next text at i old mid h r w =
-    let n = written-length (simp (length-take) (omega arith)) w in
-    let b : at + i + 1 ≡ at + (i + 1) = omega arith in
-    rw (add-one i, take-suc text i 0 h, ← add-one i, ← b) (written-append (omega arith) w (written-byte (getD text i 0) (at + i) mid (omega arith)))
-
-pub written-whole : (text : List ℕ) {at i e : ℕ} {old new : List ℕ} → i ≡ length text → Written (take i text) at old e new → Written text at old e new
-written-whole text q w = written-as (ap (λ (n : ℕ). take n text) q ∙ take-length text) w
-
-pub written-front : {w : List ℕ} {e : ℕ} {old new : List ℕ} → Written w 0 old e new → (e ≡ length w) × (new ≡ overwrite w old)
-written-front {w} {old = old} a = (omega (arith, a .end), a .list ∙ put-front w old)
+pub drop-next : (l : List ℕ) (i : ℕ) → i < length l → drop i l ≡ getD l i 0 ∷ drop (i + 1) l
+drop-next l i h = rw add-one (drop-cons l i 0 h)

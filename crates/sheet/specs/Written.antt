@@ -1,22 +1,24 @@
--- What a function that writes bytes into a lent list leaves there.
+-- What the helpers that write need of their lists, and leave there.
 use mathlib.Core.Path.{_≡_}
-use mathlib.Core.List.{List, _++_}
+use mathlib.Core.List.{List}
 use Prim.Native.Nat.{ℕ, _+_, _*_}
-use lib.ListN.{length, take, drop}
-use Rattle.model.specs.Calls.Answers.{overwrite}
-use Rattle.model.specs.Calls.Plans.{movesOf}
-use Rattle.model.specs.Sheets.{moveSheet}
+use lib.ListN.{length}
+use lib.Seq.{sets}
+use Rattle.model.specs.Yard.{Yard, size}
 
--- a list with `word` written from `at` on
-abbrev pub put : ℕ → List ℕ → List ℕ → List ℕ
-put at word old = take at old ++ (word ++ drop (at + length word) old)
-
--- `new` is `old` with `word` written from `at` on, and `behind` the place behind it
+-- `new` is `old` with `word` stored from `at` on, and `behind` the place behind it
 pub record Written (word : List ℕ) (at : ℕ) (old : List ℕ) (behind : ℕ) (new : List ℕ) : Type 0 where
-  pub list : new ≡ put at word old
+  pub list : new ≡ sets old at word
   pub end : behind ≡ at + length word
 
--- `new` is `old` with the sheet of the first k moves of a plan at its front, and `behind` that sheet's length
-pub record MovesWritten (plan : List ℕ) (k : ℕ) (old : List ℕ) (behind : ℕ) (new : List ℕ) : Type 0 where
-  pub end : behind ≡ length (moveSheet (movesOf (take (2 * k) plan)))
-  pub list : new ≡ overwrite (moveSheet (movesOf (take (2 * k) plan))) old
+-- three lists of one length
+abbrev pub SameLength : Yard → Type 0
+SameLength y = (length (y .pebbles) ≡ size y) × (length (y .targets) ≡ size y)
+
+-- room for the move sheet of a plan of so many bytes: the head has 8, and in a line each byte of a move takes at most 4
+abbrev pub moveSheetRoom : ℕ → ℕ
+moveSheetRoom bytes = 8 + 4 * bytes
+
+-- room for a refusal: the head has 14 bytes, and a line of two values below 1,000,000 at most as many
+abbrev pub refusalRoom : ℕ
+refusalRoom = 28

@@ -1,6 +1,5 @@
 // Numbers in decimal, and texts, written into a lent list.
 ghost use mathlib.Core.Path.{_≡_};
-ghost use mathlib.Core.List.{[], _∷_, _++_};
 ghost use Prim.Native.Nat.{_+_, _≤_};
 ghost use lib.ListN.{length};
 ghost use Rattle.model.specs.Given.{was, became};
@@ -8,7 +7,7 @@ ghost use Rattle.model.specs.Sheets.{decimal};
 ghost use Rattle.sheet.specs.Written.{Written};
 
 // How many digits a number has.
-pub fn width(n: usize) -> usize
+fn width(n: usize) -> usize
     ensures { λ r. ⌜ r ≡ length (decimal n) ⌝ }
 {
     let mut rest = n;
@@ -21,7 +20,7 @@ pub fn width(n: usize) -> usize
 }
 
 // Writes a number from `at` on, its last digit first, and answers the place behind it.
-fn put_decimal(out: &mut [u8], at: usize, n: usize) -> usize
+pub fn put_decimal(out: &mut [u8], at: usize, n: usize) -> usize
     requires { ⌜ at + length (decimal n) ≤ length (now out) ⌝ }
     ensures { λ r. ⌜ Written (decimal n) at (was out) r (became out) ⌝ }
 {
@@ -35,16 +34,6 @@ fn put_decimal(out: &mut [u8], at: usize, n: usize) -> usize
     }
     out[i] = 48 + rest as u8;
     end
-}
-
-// Writes a number and the byte that ends it, and answers the place behind both.
-pub fn put_value(out: &mut [u8], at: usize, n: usize, stop: u8) -> usize
-    requires { ⌜ at + length (decimal n) + 1 ≤ length (now out) ⌝ }
-    ensures { λ r. ⌜ Written (decimal n ++ (stop ∷ [])) at (was out) r (became out) ⌝ }
-{
-    let end = put_decimal(out, at, n);
-    out[end] = stop;
-    end + 1
 }
 
 // Writes a text from `at` on, and answers the place behind it.

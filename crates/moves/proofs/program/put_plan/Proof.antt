@@ -1,12 +1,15 @@
 -- `put_plan` prints the moves that the planner wrote, or its refusal: the list has room for every plan.
-use borrow.Author.Needs.{needs}
+use mathlib.Core.Path.{_≡_, sym}
+use Prim.Native.Nat.{_*_, _≤_}
 use native.Mathlib.Omega.{arith}
-use mathlib.Core.Path.{_≡_}
+use lib.ListN.{length, length-take}
+use lib.Seq.{length-take-le}
+use borrow.Author.Needs.{needs}
 use Rattle.model.specs.Yard.{Yard, yardOf}
 use Rattle.model.specs.Calls.Answers.{answered, refused}
 use Rattle.model.specs.Calls.Plans.{planAnswer}
 use Rattle.model.specs.Paper.{paper}
-use Rattle.moves.proofs.Steps.{prints-moves, zeros, room, plan-number, plan-refused}
+use Rattle.moves.proofs.Steps.{zeros, room, plan-number, plan-refused}
 use Rattle.moves.proofs.program.put_plan.Statement.{statement}
 use Rattle.moves.proofs.program.put_plan.Tie as tie
 
@@ -20,6 +23,10 @@ number c = rw (c .count .given .1) at (c .before .before .before .plan .ensures 
 refusal : (c : tie.After-r) → refused (paper (c .r .given .0 .0)) ≡ planAnswer (yard (c .before .before .before .before .before .before .before .before .before)) zeros
 refusal c = rw (c .r .given .1) at (c .before .before .before .plan .ensures .0)
 
+-- the moves lie within the list
+fits : (c : tie.After-count) → 2 * c .count .given .0 .0 ≤ length (c .before .before .before .plan .last .1 .1 .1 .0)
+fits c = omega (arith, plan-number _ (number c) .0, room, c .before .before .before .plan .kept .1 .1 .1 .0)
+
 slice-aggregate-plan : tie.Need-slice-aggregate-plan
 slice-aggregate-plan c = search needs
 
@@ -29,15 +36,19 @@ plan-requires c κs = search needs
 enum-known-count : tie.Need-enum-known-count
 enum-known-count c = search needs
 
+mul-list : tie.Need-mul-list
+mul-list c = omega (arith, plan-number _ (number (c .before)) .0)
+
+array-share-prefix-list : tie.Need-array-share-prefix-list
+array-share-prefix-list c = fits (c .before)
+
 slice-aggregate-put-moves : tie.Need-slice-aggregate-put-moves
-slice-aggregate-put-moves c = search needs
+slice-aggregate-put-moves c = sym (length-take-le _ _ (fits (c .before .before)))
 
 put-moves-requires : tie.Need-put-moves-requires
 put-moves-requires c κs =
     let n = c .before .before .before in
-    let p = n .before .before .before in
-    let q = plan-number _ (number n) in
-    (omega (arith, q .0, room, p .plan .kept .1 .1 .1 .0), omega (arith, q .0, p .before .before .before .before .before .before .pre))
+    simp length-take (omega (arith, plan-number _ (number n) .0, n .before .before .before .before .before .before .before .before .before .pre))
 
 enum-known-r : tie.Need-enum-known-r
 enum-known-r c = search needs
@@ -52,10 +63,8 @@ same-length c = search needs
 
 returns : tie.Need-returns
 returns c =
-    let m = c .before .before .put-moves .ensures in
     let n = c .before .before .before .before .before .before in
-    let p = n .before .before .before in
-    prints-moves (n .count .given .0 .0) m (omega arith) (plan-number _ (number n) .1 _ (p .plan .ensures .1 .0))
+    rw (← (plan-number _ (number n) .1 _ (n .before .before .before .plan .ensures .1 .0))) (c .before .before .put-moves .ensures)
 
 same-length-2 : tie.Need-same-length-2
 same-length-2 c = search needs
@@ -72,6 +81,8 @@ put-plan-spec =
     slice-aggregate-plan
     plan-requires
     enum-known-count
+    mul-list
+    array-share-prefix-list
     slice-aggregate-put-moves
     put-moves-requires
     enum-known-r

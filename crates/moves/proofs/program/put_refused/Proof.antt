@@ -1,7 +1,5 @@
 -- `put_refused` prints number and place of the refusal.
 use borrow.Author.Needs.{needs}
-use native.Mathlib.Omega.{arith}
-use Rattle.moves.proofs.Steps.{prints-refusal}
 use Rattle.moves.proofs.program.put_refused.Statement.{statement}
 use Rattle.moves.proofs.program.put_refused.Tie as tie
 
@@ -24,7 +22,7 @@ returns : tie.Need-returns
 returns c =
     let t = c .before .before in
     let p = t .before .before in
-    prints-refusal _ (p .before .before .before .args .out .now) (omega (arith, p .before .number .ensures)) (omega (arith, p .place .ensures)) (t .put-refusal .ensures .0) (t .put-refusal .ensures .1)
+    rw (← p .before .number .ensures, ← p .place .ensures) (t .put-refusal .ensures)
 
 pub put-refused-spec : {M : Type 1} → statement M
 put-refused-spec =

@@ -6,7 +6,8 @@ use Prim.Native.Nat.{_-_, _<_, _≤_}
 use native.Mathlib.Omega.{arith}
 use lib.ListN.{length, drop, drop-of-length-le}
 use Rattle.model.specs.Sheets.{decimal}
-use Rattle.reader.proofs.Fields.{field-nothing, field-first, field-end, field-found, field-break, drop-next, field-begins, field-goes-on}
+use Rattle.reader.proofs.Fields.{field-nothing, field-first, field-end, field-found, field-break, field-begins, field-goes-on}
+use Rattle.sheet.proofs.Writing.{drop-next}
 use Rattle.reader.proofs.read.field.Statement.{statement}
 use Rattle.reader.proofs.read.field.Tie as tie
 

@@ -1,101 +1,91 @@
--- `node_line` reads four fields, each behind the one before: it finds a line where all are found.
-use mathlib.Core.Path.{_≡_}
-use mathlib.Core.List.{List}
-use Prim.Native.Nat.{ℕ}
+-- `node_line` reads field after field: the array holds the first i values, and the others are read behind them. The measure is the values left.
+use mathlib.Core.Path.{_≡_, sym, ap, _∙_}
+use Prim.Native.Nat.{ℕ, _-_, _≤_}
+use native.Mathlib.Omega.{arith}
 use lib.ListN.{drop}
 use borrow.Author.Needs.{needs}
-use Rattle.model.specs.Sheets.{space, field}
+use Rattle.model.specs.Sheets as Sheets
+use Rattle.model.specs.Sheets.{stopBefore, lineValues}
+use Rattle.model.proofs.Lines.{stop-low}
 use Rattle.reader.specs.Reading.{wordIn}
-use Rattle.reader.specs.declared.read.Word.{Word}
-use Rattle.reader.proofs.ReadLines.{seen, no-node, no-parent, no-pebble, no-target, whole-line}
+use Rattle.reader.proofs.ReadLines.{LineSoFar, line-none, line-wrong, line-more, line-whole}
 use Rattle.reader.proofs.read.node_line.Statement.{statement}
 use Rattle.reader.proofs.read.node_line.Tie as tie
 
--- the first three fields, where they are found
-abbrev sheet : tie.Start → List ℕ
-sheet s = s .args .sheet .now
+abbrev Inv-loop : tie.InvT-loop
+Inv-loop sheet at values₀ next₀ i₀ values next i = (i ≤ lineValues) × LineSoFar sheet at values next i
 
-one : (c : tie.After-known-told) → let v = c .before .first .given .0 in let s = c .before .before .before .before .before in
-    field space (drop (s .args .at) (sheet s)) ≡ wordIn (sheet s) (Word.Value (v .0) (v .1 .0))
-one c = seen (wordIn (sheet (c .before .before .before .before .before))) (c .before .before .before .field .ensures) (c .before .first .given .1)
+abbrev μ-loop : tie.MeasureT-loop
+μ-loop sheet at values₀ next₀ i₀ values next i = lineValues - i
 
-two : (c : tie.After-known-told2) → let v = c .before .before .before .before .before .first .given .0 in let p = c .before .second .given .0 in let s = c .before .before .before .before .before .before .before .before .before in
-    field space (drop (v .1 .0) (sheet s)) ≡ wordIn (sheet s) (Word.Value (p .0) (p .1 .0))
-two c = seen (wordIn (sheet (c .before .before .before .before .before .before .before .before .before))) (c .before .before .before .field2 .ensures) (c .before .second .given .1)
+loop-holds : tie.Need-loop-holds Inv-loop μ-loop
+loop-holds c = let s = c .before in (omega arith, line-none (s .args .sheet .now) (s .args .at) (s .args .values .now) (s .pre))
 
-three : (c : tie.After-known-told3) → let p = c .before .before .before .before .before .second .given .0 in let t = c .before .third .given .0 in let s = c .before .before .before .before .before .before .before .before .before .before .before .before .before in
-    field space (drop (p .1 .0) (sheet s)) ≡ wordIn (sheet s) (Word.Value (t .0) (t .1 .0))
-three c = seen (wordIn (sheet (c .before .before .before .before .before .before .before .before .before .before .before .before .before))) (c .before .before .before .field3 .ensures) (c .before .third .given .1)
+sub-stop-before : tie.Need-sub-stop-before Inv-loop μ-loop
+sub-stop-before c = omega arith
 
-field-requires : tie.Need-field-requires
-field-requires c κs = search needs
+sub-stop-before-2 : tie.Need-sub-stop-before-2 Inv-loop μ-loop
+sub-stop-before-2 c = omega arith
 
-enum-known-first : tie.Need-enum-known-first
-enum-known-first c = search needs
+stop-before-requires : tie.Need-stop-before-requires Inv-loop μ-loop
+stop-before-requires c κs = search needs
 
-enum-told : tie.Need-enum-told
+field-requires : tie.Need-field-requires Inv-loop μ-loop
+field-requires c κs = omega (arith, c .stop-before .ensures, stop-low (lineValues - 1 - c .before .before .loop .i))
+
+-- what is read at the place of value i
+found : (c : tie.After-field Inv-loop μ-loop) → let l = c .before .before .before in let sheet = l .before .before .args .sheet .now in
+    Sheets.field (stopBefore (lineValues - 1 - l .loop .i)) (drop (l .loop .next) sheet) ≡ wordIn sheet (c .field .result)
+found c =
+    let l = c .before .before .before in
+    sym (c .field .ensures ∙ ap (λ (b : ℕ). Sheets.field b (drop (l .loop .next) (l .before .before .args .sheet .now))) (c .before .stop-before .ensures))
+
+enum-known-word : tie.Need-enum-known-word Inv-loop μ-loop
+enum-known-word c = search needs
+
+enum-told : tie.Need-enum-told Inv-loop μ-loop
 enum-told c = search needs
 
-returns : tie.Need-returns
-returns c = no-node _ (seen (wordIn (sheet (c .before .before .before .before))) (c .before .before .field .ensures) (c .enum-told .given .1))
+returns : tie.Need-returns Inv-loop μ-loop
+returns c =
+    let l = c .before .before .before .before .before in
+    line-wrong (l .loop .inv .1) _ (omega arith) (found (c .before .before) ∙ ap (wordIn (l .before .before .args .sheet .now)) (c .enum-told .given .1))
 
-field-requires-2 : tie.Need-field-requires-2
-field-requires-2 c κs = search needs
+element-write-values : tie.Need-element-write-values Inv-loop μ-loop
+element-write-values c = omega arith
 
-enum-known-second : tie.Need-enum-known-second
-enum-known-second c = search needs
+add-i : tie.Need-add-i Inv-loop μ-loop
+add-i c = omega arith
 
-enum-told-2 : tie.Need-enum-told-2
-enum-told-2 c = search needs
+loop-less : tie.Need-loop-less Inv-loop μ-loop
+loop-less c = omega arith
 
-returns-2 : tie.Need-returns-2
-returns-2 c = no-parent _ (one (c .before .before .before)) (seen (wordIn (sheet (c .before .before .before .before .before .before .before .before))) (c .before .before .field2 .ensures) (c .enum-told2 .given .1))
+loop-again : tie.Need-loop-again Inv-loop μ-loop
+loop-again c =
+    let l = c .before .before .before .before .before .before in
+    let w = c .before .word .given in
+    let f = found (c .before .before .before) ∙ ap (wordIn (l .before .before .args .sheet .now)) (w .1) in
+    (omega arith, line-more (l .loop .inv .1) _ (omega arith) (w .0 .0) (w .0 .1 .0) f)
 
-field-requires-3 : tie.Need-field-requires-3
-field-requires-3 c κs = search needs
-
-enum-known-third : tie.Need-enum-known-third
-enum-known-third c = search needs
-
-enum-told-3 : tie.Need-enum-told-3
-enum-told-3 c = search needs
-
-returns-3 : tie.Need-returns-3
-returns-3 c = no-pebble _ (one (c .before .before .before .before .before .before .before)) (two (c .before .before .before)) (seen (wordIn (sheet (c .before .before .before .before .before .before .before .before .before .before .before .before))) (c .before .before .field3 .ensures) (c .enum-told3 .given .1))
-
-field-requires-4 : tie.Need-field-requires-4
-field-requires-4 c κs = search needs
-
-enum-known-fourth : tie.Need-enum-known-fourth
-enum-known-fourth c = search needs
-
-enum-told-4 : tie.Need-enum-told-4
-enum-told-4 c = search needs
-
-returns-4 : tie.Need-returns-4
-returns-4 c = no-target _ (one (c .before .before .before .before .before .before .before .before .before .before .before)) (two (c .before .before .before .before .before .before .before)) (three (c .before .before .before)) (seen (wordIn (sheet (c .before .before .before .before .before .before .before .before .before .before .before .before .before .before .before .before))) (c .before .before .field4 .ensures) (c .enum-told4 .given .1))
-
-returns-5 : tie.Need-returns-5
-returns-5 c = whole-line _ (one (c .before .before .before .before .before .before .before .before .before .before .before .before)) (two (c .before .before .before .before .before .before .before .before)) (three (c .before .before .before .before)) (seen (wordIn (sheet (c .before .before .before .before .before .before .before .before .before .before .before .before .before .before .before .before .before))) (c .before .before .before .field4 .ensures) (c .before .fourth .given .1))
+returns-2 : tie.Need-returns-2 Inv-loop μ-loop
+returns-2 c = line-whole (c .before .loop .inv .1) (omega arith)
 
 pub node-line-spec : {M : Type 1} → statement M
 node-line-spec =
     tie.close
     (tie.spec
+    Inv-loop
+    μ-loop
+    loop-holds
+    sub-stop-before
+    sub-stop-before-2
+    stop-before-requires
     field-requires
-    enum-known-first
+    enum-known-word
     enum-told
     returns
-    field-requires-2
-    enum-known-second
-    enum-told-2
-    returns-2
-    field-requires-3
-    enum-known-third
-    enum-told-3
-    returns-3
-    field-requires-4
-    enum-known-fourth
-    enum-told-4
-    returns-4
-    returns-5)
+    element-write-values
+    add-i
+    loop-less
+    loop-again
+    returns-2)

@@ -1,29 +1,30 @@
 -- `read_nodes` takes line after line: the arrays hold the first v nodes, and the bytes from `at` on are the other lines. The measure is the nodes
 -- that may follow.
-use mathlib.Core.Path.{refl}
-use Prim.Native.Nat.{_-_, _≤_}
 use native.Mathlib.Omega.{arith}
-use lib.ListN.{length-set, drop-of-length-le}
+use Prim.Native.Nat.{_-_, _≤_}
+use lib.ListN.{drop-of-length-le}
 use borrow.Author.Needs.{needs}
-use Rattle.reader.specs.Reading.{lineIn, Full}
+use Rattle.reader.specs.Reading.{lineIn}
 use Rattle.reader.proofs.ReadLines.{seen, SoFar, so-far-none, so-far-end, so-far-over, so-far-shape, so-far-other, so-far-next}
 use Rattle.reader.proofs.read.read_nodes.Statement.{statement}
 use Rattle.reader.proofs.read.read_nodes.Tie as tie
 
 abbrev Inv-loop : tie.InvT-loop
-Inv-loop sheet parents₀ pebbles₀ targets₀ at₀ v₀ parents pebbles targets at v = (v ≤ 256) × Full parents pebbles targets × SoFar sheet parents pebbles targets at v
+Inv-loop sheet parents₀ pebbles₀ targets₀ at₀ v₀ parents pebbles targets at v = (v ≤ 256) × SoFar sheet parents pebbles targets at v
 
 abbrev μ-loop : tie.MeasureT-loop
 μ-loop sheet parents₀ pebbles₀ targets₀ at₀ v₀ parents pebbles targets at v = 256 - v
 
 loop-holds : tie.Need-loop-holds Inv-loop μ-loop
-loop-holds c = let a = c .before .args in (omega arith, c .before .pre, so-far-none (a .sheet .now) (a .parents .now) (a .pebbles .now) (a .targets .now))
+loop-holds c = let s = c .before in (omega arith, so-far-none (s .args .sheet .now) (s .args .parents .now) (s .args .pebbles .now) (s .args .targets .now) (s .pre))
+
+add-number : tie.Need-add-number Inv-loop μ-loop
+add-number c = omega arith
 
 returns : tie.Need-returns Inv-loop μ-loop
 returns c =
     let l = c .before .before in
-    let s = l .before .before in
-    (so-far-over (s .args .sheet .now) (l .loop .parents) (l .loop .pebbles) (l .loop .targets) (l .loop .at) (l .loop .v) (l .loop .inv .2) (omega arith) (omega arith), (omega arith, l .loop .inv .1))
+    (so-far-over (l .loop .inv .1) (omega arith) (omega arith), (omega arith, l .loop .inv .1 .full))
 
 node-line-requires : tie.Need-node-line-requires Inv-loop μ-loop
 node-line-requires c κs = search needs
@@ -34,32 +35,40 @@ enum-known-line c = search needs
 enum-told : tie.Need-enum-told Inv-loop μ-loop
 enum-told c = search needs
 
-add-t16 : tie.Need-add-t16 Inv-loop μ-loop
-add-t16 c = omega arith
-
 returns-2 : tie.Need-returns-2 Inv-loop μ-loop
 returns-2 c =
-    let l = c .before .before .before .before .before in
-    let s = l .before .before in
-    (so-far-shape (s .args .sheet .now) (l .loop .parents) (l .loop .pebbles) (l .loop .targets) (l .loop .at) (l .loop .v) (l .loop .inv .2) (omega arith) (omega arith) (omega arith) (seen (lineIn (s .args .sheet .now)) (c .before .before .node-line .ensures) (c .enum-told .given .1)), (omega arith, l .loop .inv .1))
+    let l = c .before .before .before .before .before .before in
+    let a = l .before .before .args in
+    let n = c .before .before .node-line in
+    (so-far-shape (l .loop .inv .1) (omega arith) (omega arith) (seen (lineIn (a .sheet .now) (n .last .1 .1 .0)) (n .ensures) (c .enum-told .given .1)), (omega arith, l .loop .inv .1 .full))
+
+array-read-if2 : tie.Need-array-read-if2 Inv-loop μ-loop
+array-read-if2 c = search needs
 
 cast-if2 : tie.Need-cast-if2 Inv-loop μ-loop
-cast-if2 c = search needs
-
-add-t18 : tie.Need-add-t18 Inv-loop μ-loop
-add-t18 c = omega arith
+cast-if2 c = omega arith
 
 returns-3 : tie.Need-returns-3 Inv-loop μ-loop
 returns-3 c =
-    let l = c .before .before .before .before .before .before .before in
-    let s = l .before .before in
-    (so-far-other (s .args .sheet .now) (l .loop .parents) (l .loop .pebbles) (l .loop .targets) (l .loop .at) (l .loop .v) (l .loop .inv .2) (omega arith) (omega arith) (omega arith) (seen (lineIn (s .args .sheet .now)) (c .before .before .before .before .node-line .ensures) (c .before .before .line .given .1)) (c .if2 .taken), (omega arith, l .loop .inv .1))
+    let l = c .before .before .before .before .before .before .before .before in
+    let a = l .before .before .args in
+    let n = c .before .before .before .before .node-line in
+    (so-far-other (l .loop .inv .1) (omega arith) (omega arith) (seen (lineIn (a .sheet .now) (n .last .1 .1 .0)) (n .ensures) (c .before .before .line .given .1)) (c .if2 .taken), (omega arith, l .loop .inv .1 .full))
+
+array-read-parents : tie.Need-array-read-parents Inv-loop μ-loop
+array-read-parents c = search needs
 
 element-write-parents : tie.Need-element-write-parents Inv-loop μ-loop
 element-write-parents c = omega arith
 
+array-read-pebbles : tie.Need-array-read-pebbles Inv-loop μ-loop
+array-read-pebbles c = search needs
+
 element-write-pebbles : tie.Need-element-write-pebbles Inv-loop μ-loop
 element-write-pebbles c = omega arith
+
+array-read-targets : tie.Need-array-read-targets Inv-loop μ-loop
+array-read-targets c = search needs
 
 element-write-targets : tie.Need-element-write-targets Inv-loop μ-loop
 element-write-targets c = omega arith
@@ -72,19 +81,15 @@ loop-less c = omega arith
 
 loop-again : tie.Need-loop-again Inv-loop μ-loop
 loop-again c =
-    let l = c .before .before .before .before .before .before .before in
-    let s = l .before .before in
-    let n = l .loop .inv in (
-      omega arith,
-      (simp length-set (n .1 .0), simp length-set (n .1 .1), simp length-set (n .1 .2)),
-      so-far-next (s .args .sheet .now) (l .loop .parents) (l .loop .pebbles) (l .loop .targets) (l .loop .at) (l .loop .v) (l .loop .inv .2) (omega arith) (omega arith) (c .before .before .line .given .0 .1 .1 .1 .1 .0) (seen (lineIn (s .args .sheet .now)) (c .before .before .before .before .node-line .ensures) (c .before .before .line .given .1)) (omega arith) refl (n .1),
-    )
+    let l = c .before .before .before .before .before .before .before .before in
+    let a = l .before .before .args in
+    let n = c .before .before .before .before .node-line in
+    (omega arith, so-far-next (l .loop .inv .1) (omega arith) (omega arith) (n .last .1 .1 .0) (c .before .before .line .given .0 .0) (seen (lineIn (a .sheet .now) (n .last .1 .1 .0)) (n .ensures) (c .before .before .line .given .1)) (c .if2 .left))
 
 returns-4 : tie.Need-returns-4 Inv-loop μ-loop
 returns-4 c =
     let l = c .before in
-    let s = l .before .before in
-    (so-far-end (s .args .sheet .now) (l .loop .parents) (l .loop .pebbles) (l .loop .targets) (l .loop .at) (l .loop .v) (l .loop .inv .2) (drop-of-length-le _ (c .loop-test .left)), (l .loop .inv .0, l .loop .inv .1))
+    (so-far-end (l .loop .inv .1) (drop-of-length-le _ (c .loop-test .left)), (l .loop .inv .0, l .loop .inv .1 .full))
 
 pub read-nodes-spec : {M : Type 1} → statement M
 read-nodes-spec =
@@ -93,17 +98,20 @@ read-nodes-spec =
     Inv-loop
     μ-loop
     loop-holds
+    add-number
     returns
     node-line-requires
     enum-known-line
     enum-told
-    add-t16
     returns-2
+    array-read-if2
     cast-if2
-    add-t18
     returns-3
+    array-read-parents
     element-write-parents
+    array-read-pebbles
     element-write-pebbles
+    array-read-targets
     element-write-targets
     add-v
     loop-less

@@ -4,16 +4,16 @@ use mathlib.Core.Path.{_≡_, refl, _∙_}
 use Prim.Native.Nat.{_+_, _/_, _<_}
 use native.Mathlib.Omega.{arith}
 use lib.ListN.{length, length-set}
+use lib.Seq.{sets}
 use borrow.Author.Needs.{needs}
 use Rattle.model.specs.Sheets.{decimal}
-use Rattle.sheet.specs.Written.{put}
 use Rattle.sheet.proofs.Decimals.{length-high, length-some}
 use Rattle.sheet.proofs.Writing.{put-digit, put-first}
 use Rattle.sheet.proofs.decimal.put_decimal.Statement.{statement}
 use Rattle.sheet.proofs.decimal.put_decimal.Tie as tie
 
 abbrev Inv-loop : tie.InvT-loop
-Inv-loop out₀ at n end i₀ rest₀ out i rest = (i + 1 ≡ at + length (decimal rest)) × (i < length out) × (length out ≡ length out₀) × (put at (decimal rest) out ≡ put at (decimal n) out₀)
+Inv-loop out₀ at n end i₀ rest₀ out i rest = (i + 1 ≡ at + length (decimal rest)) × (i < length out) × (length out ≡ length out₀) × (sets out at (decimal rest) ≡ sets out₀ at (decimal n))
 
 abbrev μ-loop : tie.MeasureT-loop
 μ-loop out₀ at n end i₀ rest₀ out i rest = rest
@@ -52,7 +52,7 @@ loop-again c =
     let l = c .before .loop in
     let h = length-high (l .rest) (c .loop-test .taken) in
     let s = length-some (l .rest / 10) in
-    let d = put-digit _ (l .i) (l .rest) (l .out) (l .inv .0) (l .inv .1) (c .loop-test .taken) in
+    let d = put-digit _ (l .i) (l .rest) (l .out) (l .inv .0) (c .loop-test .taken) in
     (omega arith, simp length-set (omega arith), simp length-set (omega arith), d ∙ l .inv .3)
 
 cast-out-2 : tie.Need-cast-out-2 Inv-loop μ-loop
@@ -70,7 +70,7 @@ same-length c = simp length-set (c .before .loop .inv .2)
 returns : tie.Need-returns Inv-loop μ-loop
 returns c =
     let l = c .before .loop in
-    record { list = put-first _ (l .i) (l .rest) (l .out) (l .inv .0) (l .inv .1) (c .loop-test .left) ∙ l .inv .3; end = omega arith }
+    record { list = put-first _ (l .i) (l .rest) (l .out) (l .inv .0) (c .loop-test .left) ∙ l .inv .3; end = omega arith }
 
 pub put-decimal-spec : {M : Type 1} → statement M
 put-decimal-spec =

@@ -1,22 +1,22 @@
--- `put_moves` writes the head of 8 bytes and then a line for each move, of at most 8 bytes: after i turns the first i lines. The measure is the
--- moves left.
-use mathlib.Core.Path.{_≡_, refl, sym, ap, _∙_}
+-- `put_moves` writes the head of 8 bytes and then a line for each move, of at most 8 bytes: the lines from byte i of the plan on are left. The measure
+-- is the bytes left.
+use mathlib.Core.Path.{refl, _∙_}
 use mathlib.Core.List.{[], _∷_}
 use Prim.Native.Nat.{_+_, _-_, _*_, _≤_}
 use native.Mathlib.Omega.{arith}
 use lib.ListN.{length, getD}
 use Rattle.model.specs.Sheets.{text, line}
 use Rattle.sheet.specs.Written.{Written}
-use Rattle.sheet.proofs.Moves.{moveRows, moveRows-none, moveRows-next, moveRows-all, length-move}
-use Rattle.sheet.proofs.Writing.{written-nil, written-as, written-append, written-front}
+use Rattle.sheet.proofs.Rows.{moves, moves-next, moves-end, moves-all, length-move}
+use Rattle.sheet.proofs.Writing.{written-as, written-append, written-front, Left, left-all, left-length, left-next, left-none}
 use Rattle.sheet.proofs.output.put_moves.Statement.{statement}
 use Rattle.sheet.proofs.output.put_moves.Tie as tie
 
 abbrev Inv-loop : tie.InvT-loop
-Inv-loop plan count out₀ at₀ i₀ out at i = (i ≤ count) × (at ≤ at₀ + 8 * i) × (length out ≡ length out₀) × Written (moveRows plan i) at₀ out₀ at out
+Inv-loop plan out₀ at₀ i₀ out at i = (at ≤ at₀ + 4 * i) × (i ≤ length plan) × Left (moves plan i) at out (moves plan 0) at₀ out₀
 
 abbrev μ-loop : tie.MeasureT-loop
-μ-loop plan count out₀ at₀ i₀ out at i = count - i
+μ-loop plan out₀ at₀ i₀ out at i = length plan - i
 
 slice-aggregate-put-text : tie.Need-slice-aggregate-put-text Inv-loop μ-loop
 slice-aggregate-put-text c = refl
@@ -25,16 +25,16 @@ put-text-requires : tie.Need-put-text-requires Inv-loop μ-loop
 put-text-requires c κs = omega arith
 
 loop-holds : tie.Need-loop-holds Inv-loop μ-loop
-loop-holds c = (omega arith, omega arith, refl, written-as (sym (moveRows-none (c .before .before .before .before .before .before .before .args .plan .now))) (written-nil _ _))
+loop-holds c = (omega arith, omega arith, left-all _ _ _)
 
-mul-from : tie.Need-mul-from Inv-loop μ-loop
-mul-from c = omega arith
+add-loop : tie.Need-add-loop Inv-loop μ-loop
+add-loop c = omega (arith, c .before .before .before .before .before .before .before .before .pre)
 
 shared-slice-read-from : tie.Need-shared-slice-read-from Inv-loop μ-loop
 shared-slice-read-from c = omega arith
 
-mul-to : tie.Need-mul-to Inv-loop μ-loop
-mul-to c = omega arith
+cast-from : tie.Need-cast-from Inv-loop μ-loop
+cast-from c = omega (arith, c .shared-slice-known2 .given (c .before .before .loop .i))
 
 add-to : tie.Need-add-to Inv-loop μ-loop
 add-to c = omega arith
@@ -42,24 +42,24 @@ add-to c = omega arith
 shared-slice-read-to : tie.Need-shared-slice-read-to Inv-loop μ-loop
 shared-slice-read-to c = omega arith
 
-cast-put-pair : tie.Need-cast-put-pair Inv-loop μ-loop
-cast-put-pair c = let l = c .before .before .before .before in omega (arith, c .before .shared-slice-known3 .given (2 * l .loop .i))
+cast-to : tie.Need-cast-to Inv-loop μ-loop
+cast-to c = omega (arith, c .shared-slice-known3 .given (c .before .before .before .loop .i + 1))
 
-cast-put-pair-2 : tie.Need-cast-put-pair-2 Inv-loop μ-loop
-cast-put-pair-2 c = let l = c .before .before .before .before in omega (arith, c .before .shared-slice-known3 .given (2 * l .loop .i + 1))
+slice-aggregate-put-line : tie.Need-slice-aggregate-put-line Inv-loop μ-loop
+slice-aggregate-put-line c = refl
 
--- the line of move i
+-- the line of the move
 short : (c : tie.After-shared-slice-known3 Inv-loop μ-loop) → let l = c .before .before .before in let plan = l .before .before .before .before .before .before .before .before .args .plan .now in
-    length (line (getD plan (2 * l .loop .i) 0 ∷ getD plan (2 * l .loop .i + 1) 0 ∷ [])) ≤ 8
+    length (line (getD plan (l .loop .i) 0 ∷ getD plan (l .loop .i + 1) 0 ∷ [])) ≤ 8
 short c =
-    let l = c .before .before .before in
+    let i = c .before .before .before .loop .i in
     let known = c .shared-slice-known3 .given in
-    length-move _ _ (known (2 * l .loop .i) .fits) (known (2 * l .loop .i + 1) .fits)
+    length-move _ _ (known i .fits) (known (i + 1) .fits)
 
-put-pair-requires : tie.Need-put-pair-requires Inv-loop μ-loop
-put-pair-requires c κs =
-    let l = c .before .before .before .before in
-    omega (arith, short (c .before), l .loop, l .before .before .before .put-text, l .before .before .before .before .before .before .before .before .pre)
+put-line-requires : tie.Need-put-line-requires Inv-loop μ-loop
+put-line-requires c κs =
+    let l = c .before .before .before .before .before in
+    omega (arith, short (c .before .before), left-length (l .loop .inv .2), l .before .before .before .put-text, l .before .before .before .before .before .before .before .before .pre)
 
 add-i : tie.Need-add-i Inv-loop μ-loop
 add-i c = omega arith
@@ -69,28 +69,24 @@ loop-less c = omega arith
 
 loop-again : tie.Need-loop-again Inv-loop μ-loop
 loop-again c =
-    let k = c .before .before .before .before in
+    let k = c .before .before .before .before .before in
     let l = k .before .before .before in
     let s = l .before .before .before .before .before .before .before .before in
-    let t = l .before .before .before .put-text in
-    let n = c .before .before .put-pair in (
-      omega arith,
-      omega (arith, short k, n .ensures, l .loop),
-      n .kept .0 ∙ l .loop .inv .2,
-      written-as (moveRows-next (s .args .plan .now) (l .loop .i) (omega (arith, s .pre))) (written-append (omega (arith, t, s .pre)) (l .loop .inv .3) (n .ensures)),
-    )
+    let n = c .before .before .put-line .ensures in
+    (omega (arith, short k, n .end), omega arith, left-next (l .loop .inv .2) (moves-next (s .args .plan .now) (l .loop .i) (omega arith)) n)
 
 same-length : tie.Need-same-length Inv-loop μ-loop
-same-length c = c .before .loop .inv .2 ∙ c .before .before .before .before .put-text .kept .0
+same-length c = left-length (c .before .loop .inv .2) ∙ c .before .before .before .before .put-text .kept .0
 
 returns : tie.Need-returns Inv-loop μ-loop
 unfolding text
 returns c =
-    let s = c .before .before .before .before .before .before .before .before .before in
-    let p : Written (text "from to\n") 0 (s .args .out .now) _ _ = c .before .before .before .before .put-text .ensures in
-    let e : c .before .loop .i ≡ s .args .count = omega arith in
-    let w = written-front (written-as (moveRows-all (s .args .plan .now) (s .args .count)) (written-append (omega arith) p (written-as (ap (moveRows (s .args .plan .now)) e) (c .before .loop .inv .3)))) in
-    record { end = w .0; list = w .1 }
+    let l = c .before in
+    let t = l .before .before .before .put-text in
+    let s = l .before .before .before .before .before .before .before .before in
+    let plan = s .args .plan .now in
+    let p : Written (text "from to\n") 0 (s .args .out .now) _ _ = t .ensures in
+    written-front (written-as (moves-all plan) (written-append p (left-none (l .loop .inv .2) (moves-end plan (l .loop .i) (c .loop-test .left))))) (omega (arith, s .pre, t))
 
 pub put-moves-spec : {M : Type 1} → statement M
 put-moves-spec =
@@ -101,14 +97,14 @@ put-moves-spec =
     slice-aggregate-put-text
     put-text-requires
     loop-holds
-    mul-from
+    add-loop
     shared-slice-read-from
-    mul-to
+    cast-from
     add-to
     shared-slice-read-to
-    cast-put-pair
-    cast-put-pair-2
-    put-pair-requires
+    cast-to
+    slice-aggregate-put-line
+    put-line-requires
     add-i
     loop-less
     loop-again

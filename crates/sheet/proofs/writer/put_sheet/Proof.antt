@@ -1,55 +1,68 @@
--- `put_sheet` writes the header and then line by line: after v turns the first v lines stand behind the header. No line ends behind the sheet,
--- for which there is room. The measure is the nodes left.
-use mathlib.Core.Path.{_≡_, refl, sym, ap, _∙_}
-use Prim.Native.Nat.{_+_, _-_, _≤_}
+-- `put_sheet` writes the header and then line by line: the lines from node v on are left. The measure is the nodes left.
+use mathlib.Core.Path.{refl, _∙_}
+use Prim.Native.Nat.{_-_, _≤_, _<_}
 use native.Mathlib.Omega.{arith}
 use lib.ListN.{length}
 use Rattle.model.specs.Yard.{Yard, yardOf}
 use Rattle.model.specs.Sheets.{header, text}
 use Rattle.sheet.specs.Written.{Written}
-use Rattle.sheet.proofs.Rows.{rows, rows-none, rows-next, rows-all, rows-grow, length-rows-next, sheet-length}
-use Rattle.sheet.proofs.Writing.{written-nil, written-as, written-append}
+use Rattle.sheet.proofs.Rows.{rows, rows-next, rows-end, rows-all, length-rows-next, length-yardSheet}
+use Rattle.sheet.proofs.Writing.{written-as, written-append, Left, left-all, left-length, left-next, left-none}
 use Rattle.sheet.proofs.writer.put_sheet.Statement.{statement}
 use Rattle.sheet.proofs.writer.put_sheet.Tie as tie
 
 abbrev Inv-loop : tie.InvT-loop
-Inv-loop parents pebbles targets sheet₀ at₀ v₀ sheet at v = (v ≤ length parents) × (length sheet ≡ length sheet₀) × Written (rows (yardOf parents pebbles targets) v) at₀ sheet₀ at sheet
+Inv-loop parents pebbles targets sheet₀ at₀ v₀ sheet at v =
+    let y = yardOf parents pebbles targets in (v ≤ length parents) × Left (rows y v) at sheet (rows y 0) at₀ sheet₀
 
 abbrev μ-loop : tie.MeasureT-loop
 μ-loop parents pebbles targets sheet₀ at₀ v₀ sheet at v = length parents - v
 
-yard : tie.Start Inv-loop μ-loop → Yard
+abbrev yard : tie.Start Inv-loop μ-loop → Yard
 yard s = yardOf (s .args .parents .now) (s .args .pebbles .now) (s .args .targets .now)
+
+abbrev start : tie.At-loop Inv-loop μ-loop → tie.Start Inv-loop μ-loop
+start l = l .before .before .before .before .before .before .before .before .before .before
+
+inside : (l : tie.At-loop Inv-loop μ-loop) → let a = start l .args in l .loop .v < length (a .parents .now) → (l .loop .v < length (a .pebbles .now)) × (l .loop .v < length (a .targets .now))
+inside l h = omega (arith, start l .pre)
 
 slice-aggregate-put-text : tie.Need-slice-aggregate-put-text Inv-loop μ-loop
 slice-aggregate-put-text c = refl
 
 put-text-requires : tie.Need-put-text-requires Inv-loop μ-loop
-unfolding yard
-put-text-requires c κs = omega (arith, sheet-length (yard (c .before .before .before .before .before .before)))
+put-text-requires c κs = omega (arith, length-yardSheet (yard (c .before .before .before .before .before .before)))
 
 loop-holds : tie.Need-loop-holds Inv-loop μ-loop
-unfolding yard
-loop-holds c =
-    let s = c .before .before .before .before .before .before .before .before .before in
-    (omega arith, refl, written-as (sym (rows-none (yard s))) (written-nil _ _))
+loop-holds c = (omega arith, left-all _ _ _)
 
-shared-slice-read-put-node : tie.Need-shared-slice-read-put-node Inv-loop μ-loop
-shared-slice-read-put-node c = omega arith
+shared-slice-read-parent : tie.Need-shared-slice-read-parent Inv-loop μ-loop
+shared-slice-read-parent c = omega arith
 
-shared-slice-read-put-node-2 : tie.Need-shared-slice-read-put-node-2 Inv-loop μ-loop
-shared-slice-read-put-node-2 c = omega (arith, c .before .before .before .before .before .before .before .before .before .before .before .before .before .before .pre)
+cast-parent : tie.Need-cast-parent Inv-loop μ-loop
+cast-parent c = omega (arith, c .shared-slice-known4 .given (c .before .before .loop .v))
 
-shared-slice-read-put-node-3 : tie.Need-shared-slice-read-put-node-3 Inv-loop μ-loop
-shared-slice-read-put-node-3 c = omega (arith, c .before .before .before .before .before .before .before .before .before .before .before .before .before .before .before .pre)
+shared-slice-read-pebble : tie.Need-shared-slice-read-pebble Inv-loop μ-loop
+shared-slice-read-pebble c = inside (c .before .before .before) (omega arith) .0
 
-put-node-requires : tie.Need-put-node-requires Inv-loop μ-loop
-unfolding yard
-put-node-requires c κs =
-    let l = c .before .before .before .before .before in
-    let s = l .before .before .before .before .before .before .before .before .before .before in
+cast-pebble : tie.Need-cast-pebble Inv-loop μ-loop
+cast-pebble c = omega (arith, c .shared-slice-known5 .given (c .before .before .before .loop .v))
+
+shared-slice-read-target : tie.Need-shared-slice-read-target Inv-loop μ-loop
+shared-slice-read-target c = inside (c .before .before .before .before) (omega arith) .1
+
+cast-target : tie.Need-cast-target Inv-loop μ-loop
+cast-target c = omega (arith, c .shared-slice-known6 .given (c .before .before .before .before .loop .v))
+
+slice-aggregate-put-line : tie.Need-slice-aggregate-put-line Inv-loop μ-loop
+slice-aggregate-put-line c = refl
+
+put-line-requires : tie.Need-put-line-requires Inv-loop μ-loop
+put-line-requires c κs =
+    let l = c .before .before .before .before .before .before in
     let p = l .before .before .before .put-text in
-    omega (arith, l .loop, p, s .pre, sheet-length (yard s), length-rows-next (yard s) (l .loop .v), rows-grow (yard s) (l .loop .v + 1) (length (s .args .parents .now)) (omega arith))
+    let s = start l in
+    omega (arith, s .pre .1, p .kept .0, p .ensures .end, l .loop .inv .1 .end, left-length (l .loop .inv .1), length-yardSheet (yard s), length-rows-next (yard s) (l .loop .v) (omega arith))
 
 add-v : tie.Need-add-v Inv-loop μ-loop
 add-v c = omega arith
@@ -58,27 +71,19 @@ loop-less : tie.Need-loop-less Inv-loop μ-loop
 loop-less c = omega arith
 
 loop-again : tie.Need-loop-again Inv-loop μ-loop
-unfolding yard
 loop-again c =
-    let l = c .before .before .before .before .before .before .before .before in
-    let s = l .before .before .before .before .before .before .before .before .before .before in
-    let p = l .before .before .before .put-text in
-    let n = c .before .before .put-node in (
-      omega arith,
-      n .kept .0 ∙ l .loop .inv .1,
-      written-as (rows-next (yard s) (l .loop .v)) (written-append (omega (arith, p, s .pre, sheet-length (yard s))) (l .loop .inv .2) (n .ensures)),
-    )
+    let l = c .before .before .before .before .before .before .before .before .before in
+    (omega arith, left-next (l .loop .inv .1) (rows-next (yard (start l)) (l .loop .v) (omega arith)) (c .before .before .put-line .ensures))
 
 same-length : tie.Need-same-length Inv-loop μ-loop
-same-length c = c .before .loop .inv .1 ∙ c .before .before .before .before .put-text .kept .0
+same-length c = left-length (c .before .loop .inv .1) ∙ c .before .before .before .before .put-text .kept .0
 
 returns : tie.Need-returns Inv-loop μ-loop
-unfolding yard header text
+unfolding header text
 returns c =
-    let s = c .before .before .before .before .before .before .before .before .before .before .before in
+    let s = start (c .before) in
     let p : Written header 0 (s .args .sheet .now) _ _ = c .before .before .before .before .put-text .ensures in
-    let e : c .before .loop .v ≡ length (s .args .parents .now) = omega arith in
-    written-as (rows-all (yard s)) (written-append (omega arith) p (written-as (ap (rows (yard s)) e) (c .before .loop .inv .2)))
+    written-as (rows-all (yard s)) (written-append p (left-none (c .before .loop .inv .1) (rows-end (yard s) (c .before .loop .v) (c .loop-test .left))))
 
 pub put-sheet-spec : {M : Type 1} → statement M
 put-sheet-spec =
@@ -89,10 +94,14 @@ put-sheet-spec =
     slice-aggregate-put-text
     put-text-requires
     loop-holds
-    shared-slice-read-put-node
-    shared-slice-read-put-node-2
-    shared-slice-read-put-node-3
-    put-node-requires
+    shared-slice-read-parent
+    cast-parent
+    shared-slice-read-pebble
+    cast-pebble
+    shared-slice-read-target
+    cast-target
+    slice-aggregate-put-line
+    put-line-requires
     add-v
     loop-less
     loop-again
