@@ -108,20 +108,20 @@ module _ {sheet ps cs ts : List ℕ} {at v : ℕ} (s : SoFar sheet ps cs ts at v
   so-far-end e = sym (s .said ∙ rw (e, readNodes-end (maxSize - v) v, append-nil (take v ps), append-nil (take v cs), append-nil (take v ts)))
 
   module _ (h : at < length sheet) where
-    pub so-far-over : v ≡ 256 → refused (row 1 (v + 2)) ≡ linesSay sheet
-    so-far-over e = sym (s .said ∙ rw (drop-next sheet at h, e, readNodes-over 256 (getD sheet at 0) (drop (at + 1) sheet)))
+    pub so-far-over : {p : ℕ} → p ≡ v + 2 → v ≡ 256 → refused (row 1 p) ≡ linesSay sheet
+    so-far-over q e = sym (s .said ∙ rw (q, drop-next sheet at h, e, readNodes-over 256 (getD sheet at 0) (drop (at + 1) sheet)))
 
     module _ (l : v < 256) where
       room : maxSize - v ≡ suc (255 - v)
       room = omega arith
 
-      pub so-far-shape : readLine lineValues (drop at sheet) ≡ none → refused (row 16 (v + 2)) ≡ linesSay sheet
-      so-far-shape e =
-          sym (s .said ∙ rw (room, drop-next sheet at h, readNodes-shape (255 - v) v (getD sheet at 0) (drop (at + 1) sheet) (rw (drop-next sheet at h) at e)))
+      pub so-far-shape : {p : ℕ} → p ≡ v + 2 → readLine lineValues (drop at sheet) ≡ none → refused (row 16 p) ≡ linesSay sheet
+      so-far-shape q e =
+          sym (s .said ∙ rw (q, room, drop-next sheet at h, readNodes-shape (255 - v) v (getD sheet at 0) (drop (at + 1) sheet) (rw (drop-next sheet at h) at e)))
 
-      pub so-far-other : {x : Line} → readLine lineValues (drop at sheet) ≡ some x → (nodeOf x ≡ v → ⊥) → refused (row 17 (v + 2)) ≡ linesSay sheet
-      so-far-other e n =
-          sym (s .said ∙ rw (room, drop-next sheet at h, readNodes-other (255 - v) v (getD sheet at 0) (drop (at + 1) sheet) (rw (drop-next sheet at h) at e) n))
+      pub so-far-other : {p : ℕ} {x : Line} → p ≡ v + 2 → readLine lineValues (drop at sheet) ≡ some x → (nodeOf x ≡ v → ⊥) → refused (row 17 p) ≡ linesSay sheet
+      so-far-other q e n =
+          sym (s .said ∙ rw (q, room, drop-next sheet at h, readNodes-other (255 - v) v (getD sheet at 0) (drop (at + 1) sheet) (rw (drop-next sheet at h) at e) n))
 
       pub so-far-next : (vs : List ℕ) (next : ℕ) → readLine lineValues (drop at sheet) ≡ some (record { values = vs; rest = drop next sheet }) → getD vs 0 0 ≡ v
           → SoFar sheet (set ps v (getD vs 1 0)) (set cs v (getD vs 2 0)) (set ts v (getD vs 3 0)) next (v + 1)

@@ -24,7 +24,7 @@ add-number c = omega arith
 returns : tie.Need-returns Inv-loop μ-loop
 returns c =
     let l = c .before .before in
-    (so-far-over (l .loop .inv .1) (omega arith) (omega arith), (omega arith, l .loop .inv .1 .full))
+    (so-far-over (l .loop .inv .1) (omega arith) (omega arith) (omega arith), (omega arith, l .loop .inv .1 .full))
 
 node-line-requires : tie.Need-node-line-requires Inv-loop μ-loop
 node-line-requires c κs = search needs
@@ -40,7 +40,7 @@ returns-2 c =
     let l = c .before .before .before .before .before .before in
     let a = l .before .before .args in
     let n = c .before .before .node-line in
-    (so-far-shape (l .loop .inv .1) (omega arith) (omega arith) (seen (lineIn (a .sheet .now) (n .last .1 .1 .0)) (n .ensures) (c .enum-told .given .1)), (omega arith, l .loop .inv .1 .full))
+    (so-far-shape (l .loop .inv .1) (omega arith) (omega arith) (omega arith) (seen (lineIn (a .sheet .now) (n .last .1 .1 .0)) (n .ensures) (c .enum-told .given .1)), (omega arith, l .loop .inv .1 .full))
 
 array-read-if2 : tie.Need-array-read-if2 Inv-loop μ-loop
 array-read-if2 c = search needs
@@ -53,7 +53,7 @@ returns-3 c =
     let l = c .before .before .before .before .before .before .before .before in
     let a = l .before .before .args in
     let n = c .before .before .before .before .node-line in
-    (so-far-other (l .loop .inv .1) (omega arith) (omega arith) (seen (lineIn (a .sheet .now) (n .last .1 .1 .0)) (n .ensures) (c .before .before .line .given .1)) (c .if2 .taken), (omega arith, l .loop .inv .1 .full))
+    (so-far-other (l .loop .inv .1) (omega arith) (omega arith) (omega arith) (seen (lineIn (a .sheet .now) (n .last .1 .1 .0)) (n .ensures) (c .before .before .line .given .1)) (c .if2 .taken), (omega arith, l .loop .inv .1 .full))
 
 array-read-parents : tie.Need-array-read-parents Inv-loop μ-loop
 array-read-parents c = search needs

@@ -65,7 +65,7 @@ put-sheet-requires c κs = sizes (c .before)
 returns-2 : tie.Need-returns-2
 returns-2 c =
     let p = c .before .before in
-    write-short (yard (p .before .before .before .before .before .before .before .before .before)) _ (told (p .before .before)) (aside p .0) (c .if1 .taken)
+    write-short (yard (p .before .before .before .before .before .before .before .before .before)) _ (told (p .before .before)) (aside p .0) (omega arith)
 
 array-share-prefix-whole : tie.Need-array-share-prefix-whole
 array-share-prefix-whole c = aside (c .before .before .before) .1
