@@ -1,14 +1,13 @@
 // The demands of all nodes of a tree, leaves first, in linear time.
 ghost use mathlib.Core.Path.{_≡_};
 ghost use mathlib.Core.List.{map};
-ghost use Prim.Native.Nat.{ℕ, _+_, _<_, _≤_};
-ghost use lib.ListN.{length, getD};
-ghost use lib.Dec.{eqb};
-ghost use lib.IntN.{pos, subℕ};
-ghost use Rattle.model.specs.Yard.{up, one, sum, demand};
+ghost use Prim.Native.Nat.{_≤_};
+ghost use lib.ListN.{length};
+ghost use Rattle.model.specs.Yard.{demand};
 ghost use Rattle.model.specs.Given.{given, handed, was, became};
 ghost use Rattle.model.specs.Judge.{Tree};
 ghost use Rattle.model.specs.Calls.Answers.{range};
+ghost use Rattle.demand.specs.Filling.{Differences, Pending};
 use crate::signed::difference;
 use crate::signed::plus;
 
@@ -39,7 +38,7 @@ pub fn fill(parents: &[u8], pebbles: &[u8], targets: &[u8], list: &mut [i16])
 // Writes the difference of its marks into the entry of each node.
 fn own(pebbles: &[u8], targets: &[u8], list: &mut [i16])
     requires { ⌜ (length (now pebbles) ≡ length (now list)) × (length (now targets) ≡ length (now list)) ⌝ }
-    ensures { λ _. ⌜ ((v : ℕ) → v < length (was list) → getD (became list) v (pos 0) ≡ subℕ (getD (was targets) v 0) (getD (was pebbles) v 0)) ⌝ }
+    ensures { λ _. ⌜ Differences (was targets) (was pebbles) (length (was list)) (became list) ⌝ }
 {
     let mut v = 0;
     while v < list.len() {
@@ -51,7 +50,7 @@ fn own(pebbles: &[u8], targets: &[u8], list: &mut [i16])
 // For each node 1, and 1 more for each node whose parent it is.
 fn count_children(parents: &[u8]) -> [u16; 256]
     requires { ⌜ length (now parents) ≤ 256 ⌝ }
-    ensures { λ r. ⌜ (length r ≡ 256) × ((v : ℕ) → v < 256 → getD r v 0 ≡ 1 + sum (length (was parents)) (λ c. one (eqb (up (was parents) c) v))) ⌝ }
+    ensures { λ r. ⌜ Pending (was parents) r ⌝ }
 {
     let mut pending = [1u16; 256];
     let mut v = 0;

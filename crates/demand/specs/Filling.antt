@@ -1,0 +1,16 @@
+-- What filling a list of demands begins with.
+use mathlib.Core.Path.{_≡_}
+use mathlib.Core.List.{List}
+use Prim.Native.Nat.{ℕ, _+_, _<_}
+use lib.ListN.{length, getD}
+use lib.Dec.{eqb}
+use lib.IntN.{ℤ, pos, subℕ}
+use Rattle.model.specs.Yard.{up, one, sum}
+
+-- the first n entries are target minus pebble of their nodes
+abbrev pub Differences : List ℕ → List ℕ → ℕ → List ℤ → Type 0
+Differences targets pebbles n list = (v : ℕ) → v < n → getD list v (pos 0) ≡ subℕ (getD targets v 0) (getD pebbles v 0)
+
+-- each node waits for itself and for each node whose parent it is
+abbrev pub Pending : List ℕ → List ℕ → Type 0
+Pending parents pending = (length pending ≡ 256) × ((v : ℕ) → v < 256 → getD pending v 0 ≡ 1 + sum (length parents) (λ c. one (eqb (up parents c) v)))
