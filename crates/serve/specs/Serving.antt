@@ -121,3 +121,7 @@ pub record Served (b : Bool) (y : Yard) (v : ℕ) (s : List ℤ) (before after :
   pub moves : List Move
   pub serves : Serves y b v moves
   pub made : Made y moves s before after count
+
+-- the same, for every yard that was asked about
+abbrev pub ServedAll : Bool → List ℕ → List ℤ → List ℕ → ℕ → ℕ → List ℤ → List ℕ → ℕ → Type 0
+ServedAll b t s plan low top s′ plan′ count = (y : Yard) → AskedMoves b y t s plan low top → Served b y top s′ plan plan′ count

@@ -7,7 +7,7 @@ ghost use lib.IntN.{pos, natAbs};
 ghost use Rattle.model.specs.Yard.{Yard};
 ghost use Rattle.model.specs.Given.{was, became};
 ghost use Rattle.model.proofs.Serve.{blocked};
-ghost use Rattle.serve.specs.Serving.{movedState, movedPlan, AskedStart, Start, AskedMoves, Served};
+ghost use Rattle.serve.specs.Serving.{movedState, movedPlan, AskedStart, Start, AskedMoves, ServedAll};
 use crate::choose::choose;
 use crate::choose::wide;
 
@@ -82,9 +82,7 @@ pub fn move_pebbles(
     away: bool,
 ) -> usize
     requires { ⌜ ((y : Yard) × AskedMoves away y (now t) (now s) (now plan) low top) ⌝ }
-    ensures { λ r. ⌜ (
-        (y : Yard) → AskedMoves away y (was t) (was s) (was plan) low top
-        → Served away y top (became s) (was plan) (became plan) r) ⌝ }
+    ensures { λ r. ⌜ ServedAll away (was t) (was s) (was plan) low top (became s) (became plan) r ⌝ }
 {
     let mut k = 0;
     let mut v = low;
