@@ -1,6 +1,7 @@
 /* A pusher cabinet in small: reads a yard sheet from standard input, plans it, obeys the plan move by move, and has plan and result judged. It prints
- * each move as it is made. A refused yard is printed as its refusal and place, with status 1 and a sentence on standard error; status 2 says that the
- * library is not the header's or did not keep to it, or that standard input could not be read. */
+ * what the move program prints: each move as it is made, then how often each edge was crossed. A refused yard is printed as its refusal and place, with
+ * status 1 and a sentence on standard error; status 2 says that the library is not the header's or did not keep to it, or that standard input could not
+ * be read. */
 #include <stdio.h>
 #include <stdlib.h>
 #include <string.h>
@@ -11,6 +12,8 @@ static uint8_t sheet[4200]; /* more than JAVENDRIKY_MAX_SHEET_BYTES: the rest of
 static uint8_t parents[JAVENDRIKY_MAX_NODES], pebbles[JAVENDRIKY_MAX_NODES], targets[JAVENDRIKY_MAX_NODES];
 static uint8_t start[JAVENDRIKY_MAX_NODES];
 static uint8_t plan[JAVENDRIKY_LONGEST_PLAN_BYTES], again[JAVENDRIKY_LONGEST_PLAN_BYTES];
+static int16_t demands[JAVENDRIKY_MAX_NODES]; /* at the start */
+static unsigned up[JAVENDRIKY_MAX_NODES], down[JAVENDRIKY_MAX_NODES]; /* crossings of the edge above each node, towards the root and away from it */
 
 /* The value of an accepted call; a refusal ends the program. */
 static uint32_t accepted(uint32_t answer)
@@ -29,6 +32,32 @@ static void expect(const char *what, int holds)
         fprintf(stderr, "cabinet: not so: %s\n", what);
         exit(2);
     }
+}
+
+/* One move: obeyed, printed, and counted at the edge that it crosses. */
+static void obey(uint32_t n, uint8_t from, uint8_t to)
+{
+    expect("each push is legal", javendriky_push(parents, n, pebbles, n, targets, n, from, to) == 0);
+    printf("%u %u\n", (unsigned)from, (unsigned)to);
+    if (parents[from] == to)
+        up[from]++;
+    else
+        down[to]++;
+}
+
+/* The crossing report. An edge ('track' there) has the number of its lower node, so the root has none. */
+static void report(uint32_t n, uint32_t moves)
+{
+    uint32_t node;
+    puts("track up down");
+    for (node = 0; node < n; node++) {
+        if (parents[node] == node)
+            continue;
+        expect("each edge is crossed one way only", up[node] == 0 || down[node] == 0);
+        expect("as often as its demand says", (int)down[node] - (int)up[node] == demands[node]);
+        printf("%u %u %u\n", (unsigned)node, up[node], down[node]);
+    }
+    printf("total\n%u\n", (unsigned)moves);
 }
 
 /* A plan list one byte too short is refused with the moves needed, and nothing is written. */
@@ -65,12 +94,13 @@ int main(void)
     expect("the checker accepts the plan", javendriky_check(parents, n, pebbles, n, targets, n, plan, 2 * moves) == 0);
     expect("no move is spare", javendriky_excess(parents, n, pebbles, n, targets, n, plan, 2 * moves) == 0);
 
+    accepted(javendriky_demands(parents, n, pebbles, n, targets, n, demands, n));
+
     memcpy(start, pebbles, n);
     puts("from to");
-    for (i = 0; i < moves; i++) {
-        expect("each push is legal", javendriky_push(parents, n, pebbles, n, targets, n, plan[2 * i], plan[2 * i + 1]) == 0);
-        printf("%u %u\n", (unsigned)plan[2 * i], (unsigned)plan[2 * i + 1]);
-    }
+    for (i = 0; i < moves; i++)
+        obey(n, plan[2 * i], plan[2 * i + 1]);
+    report(n, moves);
     expect("the pebbles are on the targets", memcmp(pebbles, targets, n) == 0);
     expect("there is nothing left to do", javendriky_plan(parents, n, pebbles, n, targets, n, plan, 0) == 0);
     if (moves > 0)

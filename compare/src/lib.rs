@@ -1,5 +1,5 @@
-//! A planner for pebbles on trees that shares no line with the proved library: written from the source paper (document 000, Algorithms 1 to 4) and
-//! document 01 alone, plain first and quick nowhere. The program `compare` holds the library against it.
+//! A planner for pebbles on trees that shares no line with the proved library: written from the source paper (document 000, Algorithms 1 to 4),
+//! document 01 and the requests (document 02) alone, plain first and quick nowhere. The program `compare` holds the library against it.
 //!
 //! `fast` is the same planner written for speed, as the benchmark's measure. `random`, `shapes` and `damage` make the inputs; equal seeds make
 //! equal inputs.
@@ -15,6 +15,7 @@ pub mod figures;
 pub mod library;
 pub mod planner;
 pub mod random;
+pub mod report;
 pub mod shapes;
 pub mod sheet;
 pub mod shortest;

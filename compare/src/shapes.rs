@@ -130,3 +130,13 @@ pub fn every_tree(n: usize) -> Vec<Vec<u8>> {
     let zeros = vec![0; n];
     lists.filter(|parents| crate::yard::judge(&Yard { parents: parents.clone(), pebbles: zeros.clone(), targets: zeros.clone() }).is_ok()).collect()
 }
+
+/// All rooted trees on n numbered nodes, with all pebbles and targets.
+pub fn every_yard(n: usize) -> impl Iterator<Item = Yard> {
+    every_tree(n).into_iter().flat_map(move |parents| {
+        (0..1usize << (2 * n)).map(move |marks| {
+            let mark = |at: usize| (marks >> at & 1) as u8;
+            Yard { parents: parents.clone(), pebbles: (0..n).map(mark).collect(), targets: (n..2 * n).map(mark).collect() }
+        })
+    })
+}

@@ -1,4 +1,4 @@
-//! Yard sheets read and written, move sheets and refusals as bytes, and the move program as a function.
+//! Yard sheets read and written, move sheets with their crossing report and refusals as bytes, and the move program as a function.
 
 use crate::planner;
 use crate::yard::{refuse, Answer, Refusal, Yard, MAX_NODES};
@@ -71,12 +71,34 @@ pub fn unjudged(yard: &Yard) -> Vec<u8> {
     sheet.into_bytes()
 }
 
-pub fn move_sheet(plan: &[u8]) -> Vec<u8> {
+/// The moves, and under them the crossing report (request 2.1): a line for each edge ('track' there, by the number of its lower node) with its
+/// crossings towards the root and away from it, then the number of moves.
+pub fn move_sheet(yard: &Yard, plan: &[u8]) -> Vec<u8> {
     let mut sheet = String::from("from to\n");
     for ends in plan.chunks(2) {
         sheet += &format!("{} {}\n", ends[0], ends[1]);
     }
+    let [up, down] = crossings(yard, plan);
+    sheet += "track up down\n";
+    for node in (0..yard.nodes()).filter(|&node| !yard.is_root(node)) {
+        sheet += &format!("{node} {} {}\n", up[node], down[node]);
+    }
+    sheet += &format!("total\n{}\n", plan.len() / 2);
     sheet.into_bytes()
+}
+
+/// How often the edge above each node is crossed towards the root, and away from it: the moves counted one by one.
+fn crossings(yard: &Yard, plan: &[u8]) -> [Vec<usize>; 2] {
+    let [mut up, mut down] = [0, 0].map(|none| vec![none; yard.nodes()]);
+    for ends in plan.chunks(2) {
+        let (from, to) = (usize::from(ends[0]), usize::from(ends[1]));
+        if yard.parent(from) == to {
+            up[from] += 1;
+        } else {
+            down[to] += 1;
+        }
+    }
+    [up, down]
 }
 
 pub fn refusal_sheet(refusal: Refusal) -> Vec<u8> {
@@ -86,10 +108,8 @@ pub fn refusal_sheet(refusal: Refusal) -> Vec<u8> {
 /// What the move program prints for what it is fed.
 pub fn program(input: &[u8]) -> Vec<u8> {
     let judged = &input[..input.len().min(JUDGED_BYTES)];
-    match read(judged, [MAX_NODES; 3]).and_then(|yard| planner::plan(&yard, usize::MAX)) {
-        Ok(plan) => move_sheet(&plan),
-        Err(refusal) => refusal_sheet(refusal),
-    }
+    let printed = read(judged, [MAX_NODES; 3]).and_then(|yard| Ok(move_sheet(&yard, &planner::plan(&yard, usize::MAX)?)));
+    printed.unwrap_or_else(refusal_sheet)
 }
 
 /// The values of a line of four, one space between.

@@ -5,8 +5,8 @@ use std::path::Path;
 use std::process::ExitCode;
 use unrelated::random::Random;
 use unrelated::shapes::{self, Shape};
-use unrelated::sheet;
 use unrelated::yard::{Yard, MAX_NODES};
+use unrelated::{report, sheet};
 
 fn main() -> ExitCode {
     let mut arguments = std::env::args().skip(1);
@@ -21,6 +21,8 @@ fn main() -> ExitCode {
     large(&mut sheets);
     refused_yards(&mut sheets);
     refused_sheets(&mut sheets);
+    // Behind the others, so that those keep their numbers.
+    reports(&mut sheets);
     match sheets.write(Path::new(&folder)) {
         Ok(()) => {
             println!("{} sheets", sheets.all.len());
@@ -46,7 +48,9 @@ impl Sheets {
     }
 
     fn yard(&mut self, name: &str, yard: &Yard) {
-        self.add(name, sheet::unjudged(yard), "from to\n");
+        let sheet = sheet::unjudged(yard);
+        assert_eq!(report::judge(yard, &sheet::program(&sheet)), Ok(()), "{name}");
+        self.add(name, sheet, "from to\n");
     }
 
     fn refused(&mut self, number: u32, name: &str, sheet: impl Into<Vec<u8>>) {
@@ -288,4 +292,35 @@ fn refused_sheets(sheets: &mut Sheets) {
         sheets.refused(17, name, format!("{header}{lines}"));
     }
     sheets.refused(17, "last-of-256", full.strip_suffix("255 0 0 0\n").expect("the last line").to_string() + "254 0 0 0\n");
+}
+
+/// Yards whose crossing report has something that no other sheet's has, or not alone.
+fn reports(sheets: &mut Sheets) {
+    sheets.tree("report-up-down-and-not-at-all", &[0, 0, 0, 0, 1, 2, 3], &[1, 3, 4], &[2, 3, 5]);
+    sheets.tree("report-up-only", &[0, 0, 1, 2, 3, 4], &[3, 4, 5], &[0, 1, 2]);
+    sheets.tree("report-down-only", &[0, 0, 1, 2, 3, 4], &[0, 1, 2], &[3, 4, 5]);
+    sheets.tree("report-crossed-below-an-edge-that-is-not", &[0, 0, 1, 1, 0, 4, 4], &[2, 5], &[3, 6]);
+    sheets.tree("report-no-move-many-edges-root-in-the-middle", &[2, 2, 2, 1, 1], &[0, 3], &[0, 3]);
+    sheets.tree("report-a-held-target-is-moved-on-upwards", &[1, 2, 3, 3], &[0, 1, 2], &[1, 2, 3]);
+    // The number that no line has is of two digits, then of three.
+    sheets.tree("report-root-10-of-12", &[10, 10, 0, 0, 1, 1, 10, 6, 6, 6, 10, 10], &[2, 3, 7, 10], &[4, 5, 9, 11]);
+    let mut parents = vec![100; 101];
+    parents[..99].fill(99);
+    sheets.tree("report-root-100-of-101", &parents, &[0, 2, 4, 6, 8, 10, 100], &[1, 3, 5, 7, 9, 11, 99]);
+
+    // One edge is crossed as often as an edge can be: on each side of it stand half of the nodes.
+    let evens: Vec<usize> = (0..MAX_NODES).step_by(2).collect();
+    let odds: Vec<usize> = (1..MAX_NODES).step_by(2).collect();
+    let parents: Vec<u8> = (0..MAX_NODES).map(|node| if node == 1 { 0 } else { node as u8 % 2 }).collect();
+    sheets.tree("report-one-edge-128-times-down", &parents, &evens, &odds);
+    sheets.tree("report-one-edge-128-times-up", &parents, &odds, &evens);
+    // Yard I's line, hung up by its other end and by its middle, with its 16,384 moves; and without any.
+    let line = |root: usize| -> Vec<u8> {
+        let towards = |node: usize| if node < root { node + 1 } else { node - usize::from(node > root) };
+        (0..MAX_NODES).map(|node| towards(node) as u8).collect()
+    };
+    let (first, last): (Vec<usize>, Vec<usize>) = (0..MAX_NODES).partition(|&node| node < MAX_NODES / 2);
+    sheets.tree("report-line-256-up-to-root-255", &line(255), &first, &last);
+    sheets.tree("report-line-256-by-root-128", &line(128), &first, &last);
+    sheets.tree("report-line-256-no-move", &line(128), &first, &first);
 }

@@ -1,5 +1,5 @@
-//! Tries a move program over pipes: input a byte at a time, none, a megabyte, nonsense, and readers that go away early. Ends at the first answer that
-//! is not the unrelated planner's, or that takes too long.
+//! Tries a move program over pipes: yards small and large, input a byte at a time, none, a megabyte, nonsense, and readers that go away early. Ends at
+//! the first answer that is not the unrelated planner's, or that takes too long.
 
 use std::fs::OpenOptions;
 use std::io::{Read, Write};
@@ -7,11 +7,11 @@ use std::process::{Child, Command, ExitCode, Stdio};
 use std::sync::mpsc;
 use std::thread;
 use std::time::{Duration, Instant};
-use unrelated::damage;
 use unrelated::random::Random;
-use unrelated::shapes::{far, yard, Shape};
+use unrelated::shapes::{every_yard, far, yard, Shape};
 use unrelated::sheet::{program, unjudged, JUDGED_BYTES};
-use unrelated::yard::MAX_NODES;
+use unrelated::yard::{judge_matched, Yard, MAX_NODES};
+use unrelated::{damage, report};
 
 /// A program that has not ended by then hangs.
 const PATIENCE: Duration = Duration::from_secs(10);
@@ -50,6 +50,15 @@ impl Tried {
             return Err(format!("it prints {:?}, must print {:?}", shown(&printed), shown(&program(input))));
         }
         Ok(())
+    }
+
+    /// The sheet of a tree, whole. What is printed for it, the report too, is the unrelated planner's, which must be the one due.
+    fn prints(&self, yard: &Yard) -> Outcome {
+        let sheet = unjudged(yard);
+        if judge_matched(yard).is_ok() {
+            report::judge(yard, &program(&sheet))?;
+        }
+        self.answers(&sheet, sheet.len())
     }
 
     /// Reads so many bytes of the answer and closes the pipe: the program must end, and what was read be the answer's beginning.
@@ -131,7 +140,7 @@ fn complaint(child: &mut Child) -> Result<Vec<u8>, String> {
 /// A program whose answer could not be printed must not answer elsewhere.
 fn no_answer(complaint: &[u8]) -> Outcome {
     let text = String::from_utf8_lossy(complaint);
-    if text.contains("from to\n") || text.contains("refusal place\n") {
+    if ["from to\n", "track up down\n", "refusal place\n"].iter().any(|line| text.contains(line)) {
         return Err(format!("it answered a second time: {:?}", shown(complaint)));
     }
     Ok(())
@@ -196,11 +205,20 @@ fn main() -> ExitCode {
     large.extend((JUDGED_BYTES - 1..=JUDGED_BYTES + 1).map(|length| megabyte(&line, b"1")[..length].to_vec()));
 
     let slow: Vec<(Vec<u8>, u64)> = [(&small, 1000), (&refused, 1000), (&line, 20)].map(|(input, pause)| (input.clone(), pause)).to_vec();
-    let leaves: Vec<(Vec<u8>, usize)> =
-        [&line, &small, &refused].into_iter().flat_map(|input| [0, 1, 8, 100, 65_536].map(|read| (input.clone(), read))).collect();
+    // The last byte left out is one of the report, or of the refusal.
+    let leaves: Vec<(Vec<u8>, usize)> = [&line, &small, &refused]
+        .into_iter()
+        .flat_map(|input| [0, 1, 8, 100, 65_536, program(input).len() - 1].map(|read| (input.clone(), read)))
+        .collect();
     let some: Vec<Vec<u8>> = (0..400).map(|_| nonsense(&mut random)).collect();
 
+    let shapes = Shape::ALL.into_iter().flat_map(|shape| [4, 9, 10, 11, 99, 100, 101, MAX_NODES].map(|n| (shape, n)));
+    let large_yards: Vec<Yard> = shapes.map(|(shape, n)| yard(shape, n, &mut random)).collect();
+
     let passed = family(
+        "every tree up to 3 nodes with all marks, six shapes up to 256",
+        (1..=3).flat_map(every_yard).chain(large_yards).map(|yard| (unjudged(&yard), tried.prints(&yard))),
+    ) && family(
         "a byte at a time",
         slow.into_iter().map(|(input, pause)| (input.clone(), tried.answers_slowly(&input, 1, Duration::from_micros(pause)))),
     ) && family("no input", std::iter::once((Vec::new(), tried.answers(&[], 1))))

@@ -1,12 +1,13 @@
 -- What the tests of the account call and of the figures say, case by case; and of a list of all demands of a tree that its entries are small and
 -- their sizes add up to the shortest length.
 use mathlib.Core.Path.{_≡_, sym, ap, _∙_}
-use mathlib.Core.List.{List, map}
+use mathlib.Core.List.{List, _++_, map}
 use mathlib.Core.Option.{Option, none, some}
 use Prim.Native.Nat.{ℕ, _≤_}
 use native.Mathlib.Nat.{zero-add}
 use native.Mathlib.Omega.{arith}
-use lib.ListN.{length, getD}
+use lib.ListN.{length, getD, take, replicate, length-replicate}
+use lib.Seq.{take-at}
 use lib.IntN.{ℤ, pos, natAbs}
 use borrow.Author.Tests.{eq-eqb, ne-eqb}
 use Rattle.model.specs.Yard.{Yard, size, maxSize, sum, demand, imbalance, shortest}
@@ -14,9 +15,10 @@ use Rattle.model.specs.Judge.{Fault, fault, judge, Tree}
 use Rattle.model.specs.Calls.Answers.{lent, range}
 use Rattle.model.specs.Calls.Demands.{demandsFault}
 use Rattle.model.proofs.Sums.{sum-cong}
+use Rattle.model.proofs.Ranges.{length-range, getD-range}
 use Rattle.model.proofs.Judged.{facts}
 use Rattle.model.proofs.Signed.{demand-size, demand-range}
-use Rattle.demand.proofs.Lists.{length-listed, entry-listed, all-listed}
+use Rattle.demand.proofs.Lists.{all-listed}
 
 -- what a refused call answers and leaves, and an accepted one
 pub refuses : {f : Option Fault} {r : Fault} (old new : List ℤ) → f ≡ some r → (some r ≡ f) × (old ≡ lent f new old)
@@ -44,12 +46,23 @@ module _ (y : Yard) where
     -- a list of all demands
     pub demands-small : {list : List ℤ} → list ≡ map (demand y) (range 0 (size y)) → (length list ≤ maxSize) × ((v : ℕ) → natAbs (getD list v (pos 0)) ≤ maxSize)
     demands-small e = rw e (
-      omega (arith, length-listed (demand y) 0 (size y), facts y t .few),
+      omega (arith, length-range (demand y) 0 (size y), facts y t .few),
       all-listed (λ z. natAbs z ≤ maxSize) (demand y) (omega arith) (demand-range y t) 0 (size y),
     )
+
+    -- an array of 256 has room for it
+    pub demands-room : size y ≤ length (replicate 256 (pos 0))
+    demands-room = omega (arith, length-replicate {A = ℤ} 256 (pos 0), facts y t .few)
+
+  pub demands-long : {list : List ℤ} → list ≡ map (demand y) (range 0 (size y)) → length list ≡ size y
+  demands-long e = ap length e ∙ length-range (demand y) 0 (size y)
+
+  -- and whatever lies behind it there, it is the first n entries
+  pub demands-front : {list : List ℤ} (rest : List ℤ) → list ≡ map (demand y) (range 0 (size y)) → take (size y) (list ++ rest) ≡ map (demand y) (range 0 (size y))
+  demands-front {list} rest e = take-at list rest (size y) (demands-long e) ∙ e
 
   pub demands-sum : {list : List ℤ} → list ≡ map (demand y) (range 0 (size y)) → sum (length list) (λ v. natAbs (getD list v (pos 0))) ≡ shortest y
   unfolding shortest
   demands-sum e =
-      rw (e, length-listed (demand y) 0 (size y))
-      (sum-cong (size y) _ (imbalance y) (λ v l. ap natAbs (entry-listed (demand y) 0 (size y) v l ∙ ap (demand y) (zero-add v)) ∙ demand-size y v))
+      rw (e, length-range (demand y) 0 (size y))
+      (sum-cong (size y) _ (imbalance y) (λ v l. ap natAbs (getD-range (demand y) (pos 0) 0 (size y) v l ∙ ap (demand y) (zero-add v)) ∙ demand-size y v))

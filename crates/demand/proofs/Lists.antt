@@ -27,18 +27,7 @@ unfolding range
 listed f a [] h = refl
 listed f a (x ∷ xs) h = cc (h 0 (omega arith), add-zero a, listed f (suc a) xs (λ v l. h (suc v) (omega arith) ∙ ap f (omega arith)))
 
--- which is as long as they are many, and has them as its entries; what holds of 0 and of every f v holds of each entry, past the end too
-pub length-listed : (f : ℕ → ℤ) (a k : ℕ) → length (map f (range a k)) ≡ k
-unfolding range
-length-listed f a zero = refl
-length-listed f a (suc k) = ap suc (length-listed f (suc a) k)
-
-pub entry-listed : (f : ℕ → ℤ) (a k v : ℕ) → v < k → getD (map f (range a k)) v (pos 0) ≡ f (a + v)
-unfolding range
-entry-listed f a zero v l = absurd (omega arith)
-entry-listed f a (suc k) zero l = rw add-zero
-entry-listed f a (suc k) (suc v) l = entry-listed f (suc a) k v (omega arith) ∙ ap f (omega arith)
-
+-- what holds of 0 and of every f v holds of each of its entries, past the end too
 pub all-listed : (P : ℤ → Type 0) (f : ℕ → ℤ) → P (pos 0) → ((v : ℕ) → P (f v)) → (a k v : ℕ) → P (getD (map f (range a k)) v (pos 0))
 unfolding range
 all-listed P f z h a zero v = z

@@ -61,10 +61,10 @@ module _ (y : Yard) (t : Tree y) where
 
 module _ (y : Yard) (list : List ℕ) where
   -- the moves read back are those of the plan
-  pub written : (m : ℕ) → planAnswer y list ≡ answered m → (length (plan y) ≡ m) × (movesOf (take (2 * m) (planList y list)) ≡ plan y)
+  pub written : (m : ℕ) → planAnswer y list ≡ answered m → (length (plan y) ≡ m) × (take (2 * m) (planList y list) ≡ bytes (plan y))
   written m e =
       let a = answer-answered (planFault y (length list)) (length (plan y)) m e in
-      (a .1, rw (a .0, take-overwrite (bytes (plan y)) list (2 * m) (length-bytes (plan y) ∙ ap (λ (x : ℕ). 2 * x) (a .1))) (movesOf-bytes (plan y)))
+      (a .1, rw (a .0) (take-overwrite (bytes (plan y)) list (2 * m) (length-bytes (plan y) ∙ ap (λ (x : ℕ). 2 * x) (a .1))))
 
   pub plan-seven : Tree y → (planAnswer y list ≡ refused (row 7 0)) ↔ (¬ Matched y)
   unfolding planFault
@@ -75,8 +75,9 @@ module _ (y : Yard) (list : List ℕ) where
     accepts = ((λ a. n .0 (answer-answered (planFault y (length list)) (length (plan y)) (a .0) (a .1) .0)), λ h. (length (plan y), rw (n .1 h)));
     planned = λ m e.
         let w = written m e in
+        let ms = ap movesOf (w .1) ∙ movesOf-bytes (plan y) in
         let a = n .0 (answer-answered (planFault y (length list)) (length (plan y)) m e .0) in
-        (rw (w .1) (w .0), rw (w .1) (plan-optimal y (a .0) (a .1)));
+        (rw ms (w .0), rw ms (plan-optimal y (a .0) (a .1)));
     no-plan = λ t. ((λ e ps h. plan-seven t .0 e (solved-matched y t ps h)), λ h. plan-seven t .1 (λ m. h (plan y) (plan-solves y t m)));
   }
     where

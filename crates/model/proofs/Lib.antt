@@ -2,6 +2,7 @@
 pub mod Basics
 pub mod Found
 pub mod Sums
+pub mod Ranges
 pub mod Tests
 pub mod Climb
 pub mod Trees
@@ -26,5 +27,6 @@ pub mod Demand2
 pub mod Trial
 pub mod Lines
 pub mod Sheets
+pub mod Report
 pub mod Places
 pub mod Worked

@@ -15,7 +15,7 @@ use native.Mathlib.Decide.{ℕ-discrete}
 use Rattle.model.specs.Yard.{Yard, yardOf, size, maxSize}
 use Rattle.model.specs.Judge.{rowCount, Fault, row}
 use Rattle.model.specs.Calls.Answers.{Answer, answered, refused, mapAnswer, range}
-use Rattle.model.specs.Sheets.{text, digits, decimal, line, lines, header, yardSheet, maxSheetBytes, writeTests, writeFault, cut, same, field, Line, readLine, lineValues, nodeValues, nodeOf, column, columns, readNodes, readYard, reader, judgedBytes, sheetOf, planOf, program}
+use Rattle.model.specs.Sheets.{text, digits, decimal, line, lines, header, yardSheet, maxSheetBytes, writeTests, writeFault, cut, same, field, Line, readLine, lineValues, nodeValues, nodeOf, column, columns, readNodes, readYard, reader, judgedBytes, printedOf, program}
 use Rattle.model.proofs.Basics.{none-all, unless-none}
 use Rattle.model.proofs.Lines.{decimal-sound, Values, same-true, same-self, Begins, length-line, lineBytes, readLine-begins, readLine-some, cutLine, readLine-take}
 
@@ -338,9 +338,9 @@ read-cut bs =
     go true (suc m) [] h = refl
     go true (suc m) (b ∷ rest) h = ap (mapAnswer columns) (readNodes-take maxSize 0 (suc m) (b ∷ rest) h)
 
-pub program-cut : (input : List ℕ) → program input ≡ sheetOf (planOf (readYard input))
+pub program-cut : (input : List ℕ) → program input ≡ printedOf (readYard input)
 unfolding program
-program-cut input = ap (λ (a : Answer Yard). sheetOf (planOf a)) (read-cut input)
+program-cut input = ap printedOf (read-cut input)
 
 -- the reader's call, with three lists of at least 256
 pub reader-room : (bs ps cs ts : List ℕ) → maxSize ≤ length ps → maxSize ≤ length cs → maxSize ≤ length ts → reader bs ps cs ts ≡ readYard bs

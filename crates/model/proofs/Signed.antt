@@ -37,7 +37,7 @@ parts-sub : (k : ℤ) → k ≡ subℕ (above0 k) (below0 k)
 parts-sub (pos n) = rw (le-ltb n 0 (omega arith)) (ap pos (omega arith))
 parts-sub (negsuc n) = rw (lt-ltb 0 (suc n) (omega arith)) (ap negsuc (omega arith))
 
-parts-size : (k : ℤ) → natAbs k ≡ above0 k + below0 k
+pub parts-size : (k : ℤ) → natAbs k ≡ above0 k + below0 k
 parts-size (pos n) = omega arith
 parts-size (negsuc n) = omega arith
 

@@ -28,6 +28,11 @@ unfolding sum
 sum-le zero f h = omega arith
 sum-le (suc n) f h = omega (arith, h n, sum-le n f h)
 
+pub sum-ones : (n : ℕ) → sum n (λ _. 1) ≡ n
+unfolding sum
+sum-ones zero = refl
+sum-ones (suc n) = omega (arith, sum-ones n)
+
 pub sum-add : (n : ℕ) (f g : ℕ → ℕ) → sum n (λ v. f v + g v) ≡ sum n f + sum n g
 unfolding sum
 sum-add zero f g = refl

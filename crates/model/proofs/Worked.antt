@@ -11,14 +11,14 @@ use lib.ListN.{take, replicate}
 use lib.IntN.{ℤ, pos, negsuc}
 use Rattle.model.specs.Yard.{Yard, yardOf, sum, below, roots, climbs, inside, subtotal, shortest}
 use Rattle.model.specs.Judge.{Fault, row, fault, judge}
-use Rattle.model.specs.Push.{Move, push, moveFault, pushFault, legal, shifted, after}
+use Rattle.model.specs.Push.{Move, push, moveFault, pushFault, legal, shifted, after, accepted, count}
 use Rattle.model.specs.Plan.{needy, choice, inject, extract, turn, settle, each, balance, planWithin, plan}
 use Rattle.model.specs.Follow.{placed, starts, At, Follows, route}
 use Rattle.model.specs.Calls.Answers.{Answer, answered, refused, range}
 use Rattle.model.specs.Calls.Demands.{demandsFault, demandsList}
 use Rattle.model.specs.Calls.Plans.{bytes, movesOf, planFault, planAnswer, planList}
 use Rattle.model.specs.Calls.Checks.{movesFault, Verdict, checkFault, checkAnswer, Trial, trialFault, trialAnswer, trialPebbles}
-use Rattle.model.specs.Sheets.{text, digits, decimal, stopBefore, line, lines, header, cut, same, value, field, readLine, readNodes, readYard, moveSheet, refusalSheet, program}
+use Rattle.model.specs.Sheets.{text, digits, decimal, stopBefore, line, lines, header, cut, same, value, field, readLine, readNodes, readYard, moveLines, edges, report, moveSheet, refusalSheet, program}
 use Rattle.model.proofs.Yards.{marks, yard, yardA, yardB, planB}
 
 data Input : Type 0 where
@@ -80,7 +80,7 @@ cases =
     (demandsOf yardA gives demands (pos 0 ∷ negsuc 0 ∷ pos 1 ∷ negsuc 0 ∷ pos 1 ∷ []))
     ∷ (lengthOf yardA gives number 4)
     ∷ (planOf yardA gives moves (push 1 0 ∷ push 0 2 ∷ push 3 1 ∷ push 1 4 ∷ []))
-    ∷ (printOf "berth parent car target\n0 0 0 0\n1 0 1 0\n2 0 0 1\n3 1 1 0\n4 1 0 1\n" gives printed (text "from to\n1 0\n0 2\n3 1\n1 4\n"))
+    ∷ (printOf "berth parent car target\n0 0 0 0\n1 0 1 0\n2 0 0 1\n3 1 1 0\n4 1 0 1\n" gives printed (text "from to\n1 0\n0 2\n3 1\n1 4\ntrack up down\n1 1 0\n2 0 1\n3 1 0\n4 0 1\ntotal\n4\n"))
     -- B
     ∷ (planInto 4 yardB gives planned (answered 2) planB)
     -- C
@@ -134,6 +134,11 @@ cases =
     ∷ (printOf "berth parent car target\n0 0 0 0\n1 0 0 0" gives printed (text "refusal place\n16 3\n"))
     ∷ (printOf "berth parent car target\n1 0 1 1\n" gives printed (text "refusal place\n17 2\n"))
     ∷ (printOf "berth parent car target\n0 0 2 0\n" gives printed (text "refusal place\n3 0\n"))
+    -- request 2.1: reports of one node, of two nodes and no move, and of a root that is not 0; a refused yard prints none
+    ∷ (printOf "berth parent car target\n0 0 1 1\n" gives printed (text "from to\ntrack up down\ntotal\n0\n"))
+    ∷ (printOf "berth parent car target\n0 0 1 1\n1 0 0 0\n" gives printed (text "from to\ntrack up down\n1 0 0\ntotal\n0\n"))
+    ∷ (printOf "berth parent car target\n0 1 1 0\n1 1 0 1\n" gives printed (text "from to\n0 1\ntrack up down\n0 1 0\ntotal\n1\n"))
+    ∷ (printOf "berth parent car target\n0 0 1 0\n" gives printed (text "refusal place\n7 0\n"))
     -- children are balanced in rising number
     ∷ (planOf (yard (0 ∷ 0 ∷ 0 ∷ 1 ∷ 1 ∷ 2 ∷ 2 ∷ []) (3 ∷ 5 ∷ []) (4 ∷ 6 ∷ [])) gives moves (push 3 1 ∷ push 1 4 ∷ push 5 2 ∷ push 2 6 ∷ []))
     -- clearing fills the lowest child that lacks a pebble
@@ -151,7 +156,7 @@ cases =
     ∷ []
 
 worked : map (λ (c : Case). outcome (c .input)) cases ≡ map (λ (c : Case). c .expected) cases
-unfolding siding placed cases _gives_ outcome yard marks yardA yardB planB sum below roots climbs inside subtotal shortest judge moveFault pushFault legal shifted after needy choice inject extract turn settle each balance planWithin plan range demandsFault bytes movesOf planFault movesFault checkFault trialFault text digits decimal stopBefore line lines header cut same value field readLine readNodes readYard moveSheet refusalSheet program
+unfolding siding placed cases _gives_ outcome yard marks yardA yardB planB sum below roots climbs inside subtotal shortest judge moveFault pushFault legal shifted after accepted count needy choice inject extract turn settle each balance planWithin plan range demandsFault bytes movesOf planFault movesFault checkFault trialFault text digits decimal stopBefore line lines header cut same value field readLine readNodes readYard moveLines edges report moveSheet refusalSheet program
 worked = refl
 
 -- two pebbles start at node 1, and one at node 2: whichever is taken, pebble 1 may go the second time, and each has its own route

@@ -1,5 +1,5 @@
 -- Sheets ('Sheets'): the yard sheet of three lists, what the reader finds in bytes, the writer, and all that the move program prints.
-use mathlib.Core.Bool.{Bool, true, false, _&&_}
+use mathlib.Core.Bool.{Bool, true, false, not, _&&_}
 use mathlib.Core.List.{List, [], _∷_, _++_, map, head?}
 use mathlib.Core.Option.{Option, none, some}
 use Prim.Native.Nat.{ℕ, zero, suc, _+_, _/_, _%_}
@@ -7,9 +7,9 @@ use Prim.Native.Char.{code}
 use Prim.Native.String.{String}
 use lib.ListN.{length, take, drop, getD}
 use lib.Dec.{leb, ltb, eqb}
-use Rattle.model.specs.Yard.{Yard, yardOf, size, maxSize, parent, pebble, target, below}
+use Rattle.model.specs.Yard.{Yard, yardOf, size, maxSize, parent, pebble, target, below, root}
 use Rattle.model.specs.Judge.{Fault, row, fault, firstOf, unless, sizeFault, lengthFault}
-use Rattle.model.specs.Push.{Move}
+use Rattle.model.specs.Push.{Move, ups, downs}
 use Rattle.model.specs.Plan.{plan}
 use Rattle.model.specs.Calls.Answers.{Answer, answered, refused, answer, mapAnswer, lent, overwrite, range}
 use Rattle.model.specs.Calls.Plans.{planFault}
@@ -180,9 +180,25 @@ writeAnswer y list = answer (writeFault y (length list)) (length (yardSheet y))
 abbrev pub writeList : Yard → List ℕ → List ℕ
 writeList y list = lent (writeFault y (length list)) (overwrite (yardSheet y) list) list
 
--- The move program: a move sheet, or the refusal and its place
-unfoldable pub moveSheet : List Move → List ℕ
-moveSheet ms = text "from to\n" ++ lines (map (λ (m : Move). m .from ∷ m .to ∷ []) ms)
+-- The move program: a move sheet, its moves and behind them the crossing report (request 2.1), or the refusal and its place. The moves
+unfoldable pub moveLines : List Move → List ℕ
+moveLines ms = text "from to\n" ++ lines (map (λ (m : Move). m .from ∷ m .to ∷ []) ms)
+
+-- the edges (tracks) in rising number: each node but the root carries one
+unfoldable pub edges : Yard → List ℕ
+edges y = below (size y) (λ v. not (eqb v (root y)))
+
+-- a line of the report (request 2.1): the edge, and how often the moves cross it towards the root and away from it
+abbrev pub reportRow : Yard → List Move → ℕ → List ℕ
+reportRow y ms v = v ∷ ups y ms v ∷ downs y ms v ∷ []
+
+-- the report: its head, such a line for each edge, and under `total` the number of moves printed
+unfoldable pub report : Yard → List Move → List ℕ
+report y ms = text "track up down\n" ++ (lines (map (reportRow y ms) (edges y)) ++ (text "total\n" ++ line (length ms ∷ [])))
+
+-- the report stands behind the last move, or behind the head where there is none
+unfoldable pub moveSheet : Yard → List Move → List ℕ
+moveSheet y ms = moveLines ms ++ report y ms
 
 unfoldable pub refusalSheet : Fault → List ℕ
 refusalSheet f = text "refusal place\n" ++ line (f .number ∷ f .place ∷ [])
@@ -194,13 +210,17 @@ judgedBytes = 4_200
 abbrev pub programPlanBytes : ℕ
 programPlanBytes = 32_768
 
-abbrev pub sheetOf : Answer (List Move) → List ℕ
-sheetOf (answered ms) = moveSheet ms
-sheetOf (refused f) = refusalSheet f
+abbrev pub sheetOf : Yard → Answer (List Move) → List ℕ
+sheetOf y (answered ms) = moveSheet y ms
+sheetOf y (refused f) = refusalSheet f
 
-abbrev pub planOf : Answer Yard → Answer (List Move)
-planOf (answered y) = answer (planFault y programPlanBytes) (plan y)
-planOf (refused f) = refused f
+abbrev pub programPlan : Yard → Answer (List Move)
+programPlan y = answer (planFault y programPlanBytes) (plan y)
+
+-- what it prints for what a sheet says
+abbrev pub printedOf : Answer Yard → List ℕ
+printedOf (answered y) = sheetOf y (programPlan y)
+printedOf (refused f) = refusalSheet f
 
 unfoldable pub program : List ℕ → List ℕ
-program input = sheetOf (planOf (readYard (take judgedBytes input)))
+program input = printedOf (readYard (take judgedBytes input))

@@ -7,13 +7,14 @@ use lib.ListN.{length, take, replicate, length-append, length-replicate}
 use Rattle.model.specs.Yard.{Yard, yardOf, size, maxSize}
 use Rattle.model.specs.Judge.{Fault}
 use Rattle.model.specs.Calls.Answers.{Answer, answered, refused, mapAnswer, Row}
-use Rattle.model.specs.Calls.Plans.{movesOf, planFault, planAnswer, planList}
+use Rattle.model.specs.Calls.Plans.{planFault, planAnswer, planList}
 use Rattle.model.specs.Plan.{plan}
-use Rattle.model.specs.Sheets.{moveSheet, refusalSheet, programPlanBytes, sheetOf, planOf, readYard, reader, readAnswer, filled, program}
+use Rattle.model.specs.Sheets.{refusalSheet, programPlanBytes, printedOf, readYard, reader, readAnswer, filled, program}
 use Rattle.model.proofs.Calls.{answer-answered, answer-refused, take-overwrite, plan-none}
 use Rattle.model.proofs.Demand3.{written}
 use Rattle.model.proofs.Sheets.{refused-ne-answered, read-sizes, reader-room, program-cut}
 use Rattle.model.proofs.Places.{plan-small, read-row}
+use Rattle.moves.specs.Report.{Planned, planSheet}
 
 -- the planner's answer, with the program's list
 abbrev pub zeros : List ℕ
@@ -24,13 +25,14 @@ room = length-replicate {A = ℕ} programPlanBytes 0
 
 module _ (y : Yard) where
   pub plan-number : {m : ℕ} → answered m ≡ planAnswer y zeros
-      → (2 * m ≤ programPlanBytes) × ((list : List ℕ) → list ≡ planList y zeros → moveSheet (movesOf (take (2 * m) list)) ≡ sheetOf (planOf (answered y)))
+      → (2 * m ≤ programPlanBytes) × ((list : List ℕ) → list ≡ planList y zeros → Planned y (take (2 * m) list)) × (planSheet y ≡ printedOf (answered y))
   plan-number {m} e =
       let a = answer-answered (planFault y (length zeros)) (length (plan y)) m (sym e) in
+      let n = plan-none y (length zeros) .0 (a .0) in
       let q = rw room at (a .0) in
-      (omega (arith, plan-none y (length zeros) .0 (a .0) .2, a .1, room), λ list d. rw (d, written y zeros m (sym e) .1, q))
+      (omega (arith, n .2, a .1, room), (λ list d. record { tree = n .0; matched = n .1; is = rw d (written y zeros m (sym e) .1) }), rw q)
 
-  pub plan-refused : {f : Fault} → refused f ≡ planAnswer y zeros → Row f × (refusalSheet f ≡ sheetOf (planOf (answered y)))
+  pub plan-refused : {f : Fault} → refused f ≡ planAnswer y zeros → Row f × (refusalSheet f ≡ printedOf (answered y))
   plan-refused {f} e =
       let a = answer-refused (planFault y (length zeros)) (length (plan y)) f (sym e) in
       let q = rw room at a in
@@ -46,7 +48,7 @@ module _ (bs : List ℕ) where
 
   pub record Found (n : ℕ) (ps cs ts : List ℕ) : Type 0 where
     pub fits : (n ≤ length ps) × (n ≤ length cs) × (n ≤ length ts)
-    pub said : sheetOf (planOf (answered (yardOf (take n ps) (take n cs) (take n ts)))) ≡ program bs
+    pub said : printedOf (answered (yardOf (take n ps) (take n cs) (take n ts))) ≡ program bs
 
   pub read-number : {n : ℕ} {ps cs ts : List ℕ} → answered n ≡ readAnswer bs blank blank blank
       → ps ≡ filled (λ (y : Yard). y .parents) (reader bs blank blank blank) blank
@@ -63,7 +65,7 @@ module _ (bs : List ℕ) where
           let s = read-sizes bs y q in
           record {
             fits = rw (p, c, t) (simp length-append (omega arith));
-            said = rw (p, c, t, take-overwrite (y .parents) blank n (sym m), take-overwrite (y .pebbles) blank n (omega arith), take-overwrite (y .targets) blank n (omega arith)) (sym (program-cut bs ∙ ap (λ (a : Answer Yard). sheetOf (planOf a)) q));
+            said = rw (p, c, t, take-overwrite (y .parents) blank n (sym m), take-overwrite (y .pebbles) blank n (omega arith), take-overwrite (y .targets) blank n (omega arith)) (sym (program-cut bs ∙ ap printedOf q));
           }
       go (refused f) q e p c t = absurd (refused-ne-answered (sym e))
 

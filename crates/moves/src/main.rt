@@ -1,5 +1,6 @@
 // The move program: a yard sheet on standard input, its move sheet or the refusal on standard output. What it prints is `program` of what it read.
 mod program;
+mod report;
 
 fn main() {
     let mut input = [0u8; program::JUDGED_BYTES];

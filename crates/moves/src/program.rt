@@ -2,12 +2,16 @@
 ghost use mathlib.Core.Path.{_≡_};
 ghost use Prim.Native.Nat.{_≤_};
 ghost use lib.ListN.{length};
-ghost use Rattle.model.specs.Given.{given, was, became};
+ghost use Rattle.model.specs.Given.{given, handed, was, became};
 ghost use Rattle.model.specs.Calls.Answers.{overwrite, answered, Row};
 ghost use Rattle.model.specs.Sheets as Sheets;
-ghost use Rattle.model.specs.Sheets.{refusalSheet, programPlanBytes, planOf, sheetOf};
+ghost use Rattle.model.specs.Sheets.{refusalSheet, programPlanBytes, printedOf};
 ghost use Rattle.model.specs.Paper.{paper};
-ghost use Rattle.sheet.specs.Written.{moveSheetRoom, refusalRoom};
+ghost use Rattle.sheet.specs.Written.{refusalRoom};
+ghost use Rattle.moves.specs.Report.{outputRoom, Planned, planSheet};
+use crate::report::put_report;
+use demand::fill::fill;
+use lists::find::first_own;
 use model::Counted;
 use model::Refusal;
 use planner::plan::plan;
@@ -23,8 +27,11 @@ pub const JUDGED_BYTES: usize = 4_200;
 // Room for every plan: no yard needs more than 16,384 moves.
 const PLAN_BYTES: usize = 32_768;
 
-// Room for every output. The longest is a move sheet: its head has 8 bytes, and in a line each of the two bytes of a move takes at most 4.
-pub const OUTPUT_BYTES: usize = 8 + 4 * PLAN_BYTES;
+// Room for the longest report (`reportRoom`), and for every output, of which a move sheet is the longest: its head has 8 bytes, and in a line each of
+// the two bytes of a move takes at most 4.
+const REPORT_BYTES: usize = 27 + 12 * 256;
+
+pub const OUTPUT_BYTES: usize = 8 + 4 * PLAN_BYTES + REPORT_BYTES;
 
 // The refusal and its place.
 fn put_refused(r: Refusal, out: &mut [u8]) -> usize
@@ -37,15 +44,29 @@ fn put_refused(r: Refusal, out: &mut [u8]) -> usize
     put_refusal(row, at, out)
 }
 
+// The move sheet of a plan, the one of these three lists: its moves, and the report by the demands at the start.
+fn put_planned(parents: &[u8], pebbles: &[u8], targets: &[u8], plan: &[u8], out: &mut [u8]) -> usize
+    requires { ⌜ Planned (handed parents pebbles targets) (now plan) × (outputRoom (length (now plan)) ≤ length (now out)) ⌝ }
+    ensures { λ n. ⌜ n ≡ length (planSheet (given parents pebbles targets)) ⌝ }
+    ensures { λ n. ⌜ became out ≡ overwrite (planSheet (given parents pebbles targets)) (was out) ⌝ }
+{
+    let n = parents.len();
+    let mut demands = [0i16; 256];
+    fill(parents, pebbles, targets, &mut demands[..n]);
+    let root = first_own(parents, 0);
+    let behind = put_moves(plan, out);
+    put_report(&demands[..n], root, plan.len() / 2, out, behind)
+}
+
 // The move sheet of three lists, or what refuses them. The plan's list has room for every plan.
 fn put_plan(parents: &[u8], pebbles: &[u8], targets: &[u8], out: &mut [u8]) -> usize
-    requires { ⌜ moveSheetRoom programPlanBytes ≤ length (now out) ⌝ }
-    ensures { λ n. ⌜ n ≡ length (sheetOf (planOf (answered (given parents pebbles targets)))) ⌝ }
-    ensures { λ n. ⌜ became out ≡ overwrite (sheetOf (planOf (answered (given parents pebbles targets)))) (was out) ⌝ }
+    requires { ⌜ outputRoom programPlanBytes ≤ length (now out) ⌝ }
+    ensures { λ n. ⌜ n ≡ length (printedOf (answered (given parents pebbles targets))) ⌝ }
+    ensures { λ n. ⌜ became out ≡ overwrite (printedOf (answered (given parents pebbles targets))) (was out) ⌝ }
 {
     let mut list = [0u8; PLAN_BYTES];
     match plan(parents, pebbles, targets, &mut list) {
-        Counted::Number(count) => put_moves(&list[..2 * count], out),
+        Counted::Number(count) => put_planned(parents, pebbles, targets, &list[..2 * count], out),
         Counted::Refused(r) => put_refused(r, out),
     }
 }

@@ -1,6 +1,5 @@
 -- What planning starts from: the demands and pebbles of the yard, its length, and an even root.
 use mathlib.Core.Path.{_≡_, refl, sym, ap, _∙_}
-use mathlib.Core.Bool.{true, false, _&&_}
 use mathlib.Core.List.{List, _++_, map}
 use Prim.Native.Nat.{ℕ, _+_, _*_, _/_, _≤_, _<_}
 use native.Mathlib.Nat.{zero-add, le-div-iff-mul-le, div-lt-iff-lt-mul}
@@ -8,25 +7,22 @@ use native.Mathlib.Omega.{arith}
 use native.Mathlib.Decide.{ℕ-discrete, decLt}
 use lib.ListN.{length, getD, take, set, length-set, List·getD-append, List·getD-eq-default}
 use lib.Seq.{getD-set-same, getD-set-other, getD-take, length-take-le}
-use lib.Dec.{leb, eqb, leb·zero}
 use lib.IntN.{ℤ, pos, natAbs}
-use borrow.Author.Tests.{lt-leb, eq-eqb, ne-eqb}
+use borrow.Author.Tests.{lt-leb}
 use mathlib.Core.Option.{none}
-use Rattle.model.specs.Yard.{Yard, yardOf, size, sum, below, headOr, root, demand, imbalance, shortest, Matched}
+use Rattle.model.specs.Yard.{Yard, yardOf, size, sum, root, demand, imbalance, shortest, Matched}
 use Rattle.model.specs.Judge.{row, Tree}
 use Rattle.model.specs.Plan.{plan}
 use Rattle.model.specs.Calls.Answers.{refused, range, overwrite}
 use Rattle.model.specs.Calls.Plans.{bytes, planFault, planAnswer, planList}
-use Rattle.model.proofs.Found.{found}
 use Rattle.model.proofs.Sums.{sum-cong}
-use Rattle.model.proofs.Trees.{Wood}
 use Rattle.model.proofs.Judged.{facts, wood}
 use Rattle.model.proofs.Demands.{root-even, weight-le}
 use Rattle.model.proofs.Signed.{demand-size, demand-range}
 use Rattle.model.proofs.Balance.{plan-only}
 use Rattle.model.proofs.Calls.{totals-none, plan-none}
 use Rattle.model.proofs.Demand3.{plan-length}
-use Rattle.demand.proofs.Lists.{length-listed, entry-listed}
+use Rattle.model.proofs.Ranges.{length-range, getD-range}
 use Rattle.serve.specs.Serving.{Tables, Kept}
 use Rattle.planner.specs.Balancing.{AskedEven, Balanced}
 
@@ -57,12 +53,12 @@ placed-kept ps qs ts t front back s e h = record {
   demands = λ v l.
       h .low v (omega (arith, facts (yardOf ps qs ts) t .few))
       ∙ List·getD-append front back (pos 0) v (omega (arith, long))
-      ∙ ap (λ (xs : List ℤ). getD xs v (pos 0)) e ∙ entry-listed (demand (yardOf ps qs ts)) 0 (length ps) v l ∙ ap (demand (yardOf ps qs ts)) (zero-add v);
+      ∙ ap (λ (xs : List ℤ). getD xs v (pos 0)) e ∙ getD-range (demand (yardOf ps qs ts)) (pos 0) 0 (length ps) v l ∙ ap (demand (yardOf ps qs ts)) (zero-add v);
   pebbles = λ v l. h .high v l;
 }
   where
     long : length front ≡ length ps
-    long = ap length e ∙ length-listed (demand (yardOf ps qs ts)) 0 (length ps)
+    long = ap length e ∙ length-range (demand (yardOf ps qs ts)) 0 (length ps)
 
 -- the state's demands, and their sizes summed: the shortest length
 module _ (y : Yard) (t : Tree y) (s : List ℤ) (k : Kept y s) where
@@ -82,19 +78,6 @@ module _ (y : Yard) (t : Tree y) (s : List ℤ) (k : Kept y s) where
   pub sizes-shortest : sum (length (take (size y) s)) (λ v. natAbs (getD (take (size y) s) v (pos 0))) ≡ shortest y
   unfolding shortest
   sizes-shortest = rw front-length (sum-cong (size y) _ (imbalance y) (λ v l. rw (getD-take (size y) s v (pos 0) l, k .demands v l) (demand-size y v)))
-
--- the root that the search for a node that is its own parent finds
-pub root-found : (y : Yard) → Tree y → (r : ℕ) → r ≡ headOr (size y) (below (size y) (λ v. (leb 0 v) && (eqb (getD (y .parents) v 0) v))) → r ≡ root y
-root-found y t r e = e ∙ sym (found (size y) (size y) (root y) (λ v. (leb 0 v) && (eqb (getD (y .parents) v 0) v)) (w .root-lt) early own)
-  where
-    w : Wood (y .parents) (root y)
-    w = wood y t
-
-    early : (v : ℕ) → v < root y → ((leb 0 v) && (eqb (getD (y .parents) v 0) v)) ≡ false
-    early v l = rw (leb·zero v) (ne-eqb (getD (y .parents) v 0) v (λ q. let z : v ≡ root y = w .root-only v (omega (arith, w .root-lt)) q in omega arith))
-
-    own : ((leb 0 (root y)) && (eqb (getD (y .parents) (root y) 0) (root y))) ≡ true
-    own = rw (leb·zero (root y)) (eq-eqb (getD (y .parents) (root y) 0) (root y) (w .root-parent))
 
 module _ (y : Yard) (t : Tree y) (m : Matched y) (list : List ℕ) (l : ℕ) (e : l ≡ shortest y) where
   -- a list that is too short

@@ -2,7 +2,7 @@
 -- move on are its line and those from the next on.
 use mathlib.Core.Path.{_≡_, refl, sym, ap, _∙_}
 use mathlib.Core.List.{List, [], _∷_, _++_, map, append-assoc}
-use Prim.Native.Nat.{ℕ, zero, suc, _+_, _-_, _≤_, _<_}
+use Prim.Native.Nat.{ℕ, zero, suc, _+_, _-_, _*_, _≤_, _<_}
 use native.Mathlib.Nat.{sub-zero}
 use native.Mathlib.Numerals.{add-one}
 use native.Mathlib.Omega.{arith}
@@ -12,7 +12,7 @@ use Rattle.model.specs.Judge.{row}
 use Rattle.model.specs.Push.{Move}
 use Rattle.model.specs.Calls.Answers.{range}
 use Rattle.model.specs.Calls.Plans.{movesOf}
-use Rattle.model.specs.Sheets.{text, space, lineFeed, decimal, stopBefore, line, lines, header, nodeValues, yardSheet, moveSheet, refusalSheet}
+use Rattle.model.specs.Sheets.{text, space, lineFeed, decimal, stopBefore, line, lines, header, nodeValues, yardSheet, moveLines, refusalSheet}
 use Rattle.model.proofs.Lines.{length-line}
 use Rattle.sheet.proofs.Decimals.{decimal-six}
 use Rattle.sheet.proofs.Writing.{drop-next}
@@ -75,6 +75,9 @@ module _ (plan : List ℕ) where
       let n : i + 1 + 1 ≡ i + 2 = omega arith in
       rw (drop-next plan i (omega arith), drop-next plan (i + 1) h, n)
 
+  pub length-moves-next : (i : ℕ) → i + 1 < length plan → length (moves plan i) ≡ length (line (getD plan i 0 ∷ getD plan (i + 1) 0 ∷ [])) + length (moves plan (i + 2))
+  length-moves-next i h = ap length (moves-next i h) ∙ length-append (line (getD plan i 0 ∷ getD plan (i + 1) 0 ∷ [])) (moves plan (i + 2))
+
   pub moves-end : (i : ℕ) → length plan ≤ i + 1 → moves plan i ≡ []
   unfolding lines movesOf
   moves-end i h = rw (short (drop i plan) (rw length-drop (omega arith)))
@@ -84,12 +87,22 @@ module _ (plan : List ℕ) where
       short (a ∷ []) h = refl
       short (a ∷ b ∷ l) h = absurd (omega arith)
 
-  pub moves-all : text "from to\n" ++ moves plan 0 ≡ moveSheet (movesOf plan)
-  unfolding moveSheet
+  pub moves-all : text "from to\n" ++ moves plan 0 ≡ moveLines (movesOf plan)
+  unfolding moveLines
   moves-all = refl
 
-pub length-move : (a b : ℕ) → a < 256 → b < 256 → length (line (a ∷ b ∷ [])) ≤ 8
-length-move a b h k = length-line (a ∷ b ∷ []) (omega arith) .1
+-- which take at most 4 bytes for each of a plan's
+pub length-moves : (plan : List ℕ) → ((i : ℕ) → getD plan i 0 < 256) → length (moves plan 0) ≤ 4 * length plan
+unfolding lines movesOf
+length-moves [] h = omega arith
+length-moves (a ∷ []) h = omega arith
+length-moves (a ∷ b ∷ plan) h =
+    rw (length-append (line (a ∷ b ∷ [])))
+    (omega (arith, length-line (a ∷ b ∷ []) (h 0, (h 1, tt)) .1, length-moves plan (λ i. h (suc (suc i)))))
+
+pub length-moveLines : (plan : List ℕ) → ((i : ℕ) → getD plan i 0 < 256) → length (moveLines (movesOf plan)) ≤ 8 + 4 * length plan
+unfolding text
+length-moveLines plan h = omega (arith, ap length (moves-all plan), length-append (text "from to\n") (moves plan 0), length-moves plan h)
 
 -- the line of a refusal
 pub refusal-all : (n p : ℕ) → text "refusal place\n" ++ line (n ∷ p ∷ []) ≡ refusalSheet (row n p)

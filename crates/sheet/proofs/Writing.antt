@@ -44,6 +44,12 @@ written-append {v} {w} {at} {old = old} a b = record {
 pub written-as : {v w : List ℕ} {at e : ℕ} {old new : List ℕ} → v ≡ w → Written v at old e new → Written w at old e new
 written-as {at = at} {e} {old} {new} q a = subst (λ (l : List ℕ). Written l at old e new) q a
 
+pub written-length : {w : List ℕ} {at e : ℕ} {old new : List ℕ} → Written w at old e new → length new ≡ length old
+written-length {w} {at} {old = old} a = ap length (a .list) ∙ length-sets old at w
+
+pub written-none : (at : ℕ) (l : List ℕ) → Written [] at l at l
+written-none at l = record { list = refl; end = omega arith }
+
 pub written-byte : (b at : ℕ) (l : List ℕ) → Written (b ∷ []) at l (at + 1) (set l at b)
 written-byte b at l = record { list = refl; end = refl }
 

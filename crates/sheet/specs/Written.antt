@@ -15,9 +15,9 @@ pub record Written (word : List ℕ) (at : ℕ) (old : List ℕ) (behind : ℕ) 
 abbrev pub SameLength : Yard → Type 0
 SameLength y = (length (y .pebbles) ≡ size y) × (length (y .targets) ≡ size y)
 
--- room for the move sheet of a plan of so many bytes: the head has 8, and in a line each byte of a move takes at most 4
-abbrev pub moveSheetRoom : ℕ → ℕ
-moveSheetRoom bytes = 8 + 4 * bytes
+-- room for the moves of a plan of so many bytes: the head has 8, and in a line each byte of a move takes at most 4
+abbrev pub moveLinesRoom : ℕ → ℕ
+moveLinesRoom bytes = 8 + 4 * bytes
 
 -- room for a refusal: the head has 14 bytes, and a line of two values below 1,000,000 at most as many
 abbrev pub refusalRoom : ℕ

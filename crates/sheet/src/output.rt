@@ -1,4 +1,4 @@
-// What the move program prints: a move sheet, or a refusal.
+// What the move program prints: the moves of a move sheet, or a refusal.
 ghost use mathlib.Core.Path.{_≡_};
 ghost use Prim.Native.Nat.{_≤_, _<_};
 ghost use lib.ListN.{length};
@@ -6,16 +6,15 @@ ghost use Rattle.model.specs.Given.{was, became};
 ghost use Rattle.model.specs.Judge.{row};
 ghost use Rattle.model.specs.Calls.Answers.{overwrite};
 ghost use Rattle.model.specs.Calls.Plans.{movesOf};
-ghost use Rattle.model.specs.Sheets.{moveSheet, refusalSheet};
-ghost use Rattle.sheet.specs.Written.{moveSheetRoom, refusalRoom};
+ghost use Rattle.model.specs.Sheets.{moveLines, refusalSheet};
+ghost use Rattle.sheet.specs.Written.{Written, moveLinesRoom, refusalRoom};
 use crate::decimal::put_text;
 use crate::line::put_line;
 
-// Writes the move sheet of a plan at the front of a list, and answers its length.
+// Writes the head of a move sheet and the moves of a plan at the front of a list, and answers the place behind them.
 pub fn put_moves(plan: &[u8], out: &mut [u8]) -> usize
-    requires { ⌜ moveSheetRoom (length (now plan)) ≤ length (now out) ⌝ }
-    ensures { λ r. ⌜ r ≡ length (moveSheet (movesOf (was plan))) ⌝ }
-    ensures { λ r. ⌜ became out ≡ overwrite (moveSheet (movesOf (was plan))) (was out) ⌝ }
+    requires { ⌜ moveLinesRoom (length (now plan)) ≤ length (now out) ⌝ }
+    ensures { λ r. ⌜ Written (moveLines (movesOf (was plan))) 0 (was out) r (became out) ⌝ }
 {
     let mut at = put_text(out, 0, b"from to\n");
     let mut i = 0;

@@ -1,14 +1,15 @@
-//! The yards and examples that document 01 works by hand: the unrelated planner against its words, and the library against the unrelated planner.
+//! The yards and examples that document 01 and the requests work by hand: the unrelated planner against their words, and the library against the
+//! unrelated planner.
 
 use crate::calls::{Caller, Same};
 use std::fmt::Debug;
 use unrelated::checker::{check, push, trial, Checked, Tried};
-use unrelated::demands;
 use unrelated::planner::plan;
 use unrelated::random::Random;
 use unrelated::shapes::{far, Shape};
 use unrelated::sheet::{self, program};
 use unrelated::yard::{judge, refuse, Answer, Yard};
+use unrelated::{demands, report};
 
 const ANY: usize = usize::MAX;
 
@@ -27,7 +28,7 @@ impl Worked<'_> {
         if got == expected {
             Ok(())
         } else {
-            Err(format!("{name}: document 01 says {expected:?}, the unrelated planner {got:?}"))
+            Err(format!("{name}: the papers say {expected:?}, the unrelated planner {got:?}"))
         }
     }
 
@@ -35,6 +36,12 @@ impl Worked<'_> {
         self.is(name, plan(yard, room), expected.map(<[u8]>::to_vec))?;
         self.caller.figures(yard)?;
         self.caller.plan(yard, room.min(40_000))
+    }
+
+    /// What the move program prints, line by line.
+    fn printed(&mut self, name: &str, yard: &Yard, expected: &[&str]) -> Same {
+        let printed = String::from_utf8(program(&sheet::unjudged(yard))).map_err(|error| error.to_string())?;
+        self.is(name, printed, expected.iter().map(|line| format!("{line}\n")).collect())
     }
 
     fn check(&mut self, name: &str, yard: &Yard, moves: &[u8], expected: Answer<Checked>) -> Same {
@@ -66,17 +73,30 @@ pub fn worked(caller: &Caller) -> Same<u64> {
     let a_plan = [1, 0, 0, 2, 3, 1, 1, 4];
     w.is("A, demands", demands::of_tree(&a), vec![0, -1, 1, -1, 1])?;
     w.plan("A", &a, ANY, Ok(&a_plan))?;
-    w.is("A, printed", program(&sheet::unjudged(&a)), b"from to\n1 0\n0 2\n3 1\n1 4\n".to_vec())?;
+    // Request 2.1 gives what follows the moves.
+    let a_lines = ["from to", "1 0", "0 2", "3 1", "1 4", "track up down", "1 1 0", "2 0 1", "3 1 0", "4 0 1", "total", "4"];
+    w.printed("A, printed", &a, &a_lines)?;
+    // The judge of reports sees each line that is left out or doubled.
+    for at in 0..a_lines.len() {
+        let (front, rest) = a_lines.split_at(at);
+        for altered in [[front, &rest[1..]], [&a_lines[..=at], rest]] {
+            let altered = altered.concat().join("\n") + "\n";
+            w.is(&format!("A, line {at} altered"), report::judge(&a, altered.as_bytes()).is_err(), true)?;
+        }
+    }
 
     let b = yard(&[0, 0, 1], &[1, 1, 0], &[0, 1, 1]);
     let b_plan = [1, 2, 0, 1];
     w.plan("B", &b, ANY, Ok(&b_plan))?;
+    w.printed("B, printed", &b, &["from to", "1 2", "0 1", "track up down", "1 0 1", "2 0 1", "total", "2"])?;
 
     w.plan("C, pebble and target", &yard(&[0], &[1], &[1]), ANY, Ok(&[]))?;
+    w.printed("C, printed", &yard(&[0], &[1], &[1]), &["from to", "track up down", "total", "0"])?;
     w.plan("C, neither", &yard(&[0], &[0], &[0]), ANY, Ok(&[]))?;
 
     let d = yard(&[0, 0], &[1, 0], &[1, 0]);
     w.plan("D", &d, ANY, Ok(&[]))?;
+    w.printed("D, printed", &d, &["from to", "track up down", "1 0 0", "total", "0"])?;
     w.check("D, there and back", &d, &[0, 1, 1, 0], Ok(Checked { moves: 2, excess: 2 }))?;
 
     w.plan("E, 7 bytes", &a, 7, refuse(8, 4))?;
@@ -106,6 +126,7 @@ pub fn worked(caller: &Caller) -> Same<u64> {
         caller.figures(&lists)?;
     }
     w.plan("refusal 7", &two(&[1, 0], &[1, 1]), ANY, refuse(7, 0))?;
+    w.printed("refusal 7, printed", &two(&[1, 0], &[1, 1]), &["refusal place", "7 0"])?;
     let away = two(&[1, 0], &[0, 1]);
     w.plan("refusal 8", &away, 1, refuse(8, 1))?;
     w.check("refusal 9", &away, &[0, 1, 1], refuse(9, 0))?;

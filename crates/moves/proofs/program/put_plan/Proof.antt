@@ -1,4 +1,4 @@
--- `put_plan` prints the moves that the planner wrote, or its refusal: the list has room for every plan.
+-- `put_plan` prints the sheet of the plan that the planner wrote, or its refusal: the list has room for every plan.
 use mathlib.Core.Path.{_≡_, sym}
 use Prim.Native.Nat.{_*_, _≤_}
 use native.Mathlib.Omega.{arith}
@@ -42,13 +42,14 @@ mul-list c = omega (arith, plan-number _ (number (c .before)) .0)
 array-share-prefix-list : tie.Need-array-share-prefix-list
 array-share-prefix-list c = fits (c .before)
 
-slice-aggregate-put-moves : tie.Need-slice-aggregate-put-moves
-slice-aggregate-put-moves c = sym (length-take-le _ _ (fits (c .before .before)))
+slice-aggregate-put-planned : tie.Need-slice-aggregate-put-planned
+slice-aggregate-put-planned c = sym (length-take-le _ _ (fits (c .before .before)))
 
-put-moves-requires : tie.Need-put-moves-requires
-put-moves-requires c κs =
+put-planned-requires : tie.Need-put-planned-requires
+put-planned-requires c κs =
     let n = c .before .before .before in
-    simp length-take (omega (arith, plan-number _ (number n) .0, n .before .before .before .before .before .before .before .before .before .pre))
+    let p = n .before .before .before in
+    (plan-number _ (number n) .1 _ (p .plan .ensures .1 .0), simp length-take (omega (arith, plan-number _ (number n) .0, p .before .before .before .before .before .before .pre)))
 
 enum-known-r : tie.Need-enum-known-r
 enum-known-r c = search needs
@@ -62,9 +63,7 @@ same-length : tie.Need-same-length
 same-length c = search needs
 
 returns : tie.Need-returns
-returns c =
-    let n = c .before .before .before .before .before .before in
-    rw (← (plan-number _ (number n) .1 _ (n .before .before .before .plan .ensures .1 .0))) (c .before .before .put-moves .ensures)
+returns c = rw (← (plan-number _ (number (c .before .before .before .before .before .before)) .2)) (c .before .before .put-planned .ensures)
 
 same-length-2 : tie.Need-same-length-2
 same-length-2 c = search needs
@@ -83,8 +82,8 @@ put-plan-spec =
     enum-known-count
     mul-list
     array-share-prefix-list
-    slice-aggregate-put-moves
-    put-moves-requires
+    slice-aggregate-put-planned
+    put-planned-requires
     enum-known-r
     put-refused-requires
     same-length

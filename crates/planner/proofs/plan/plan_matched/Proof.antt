@@ -6,7 +6,8 @@ use native.Mathlib.Omega.{arith}
 use lib.ListN.{length}
 use Rattle.model.specs.Yard.{yardOf}
 use Rattle.model.proofs.Judged.{facts, wood}
-use Rattle.planner.proofs.Planning.{front-length, front-long, sizes-range, sizes-shortest, root-found, plan-refused, root-asked, plan-accepted, plan-written}
+use Rattle.lists.proofs.Root.{root-found}
+use Rattle.planner.proofs.Planning.{front-length, front-long, sizes-range, sizes-shortest, plan-refused, root-asked, plan-accepted, plan-written}
 use borrow.Author.Needs.{needs}
 use Rattle.planner.proofs.plan.plan_matched.Statement.{statement}
 use Rattle.planner.proofs.plan.plan_matched.Tie as tie
