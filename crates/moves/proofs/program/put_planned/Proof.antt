@@ -62,7 +62,7 @@ put-report-requires c κs =
     let f = p .before .before .before .before in
     let d = demanded f in (
       d,
-      planned-few (yard (start f)) (start f .pre .0),
+      omega (arith, planned-few (yard (start f)) (start f .pre .0)),
       omega (arith, start f .pre .1, d .few, p .put-moves .ensures .end, written-length (p .put-moves .ensures), length-moveLines (start f .args .plan .now) (λ i. f .before .before .before .shared-slice-known4 .given i .fits)),
     )
 
