@@ -84,13 +84,16 @@ static void same_version(void)
 int main(void)
 {
     size_t bytes;
-    uint32_t n, moves, i;
+    uint32_t n, moves, needed, i;
 
     same_version();
     bytes = fread(sheet, 1, sizeof sheet, stdin);
     expect("standard input can be read", !ferror(stdin));
     n = accepted(javendriky_read_sheet(sheet, bytes, parents, sizeof parents, pebbles, sizeof pebbles, targets, sizeof targets));
-    moves = accepted(javendriky_plan(parents, n, pebbles, n, targets, n, plan, sizeof plan));
+    /* The bytes of the plan are known before it is made: a cabinet with little memory lends just those. */
+    moves = accepted(javendriky_length_bound(parents, n, pebbles, n, targets, n, &needed));
+    expect("no plan is longer", moves <= javendriky_longest_plan(n) && needed <= sizeof plan);
+    expect("the plan is as long as told", javendriky_plan(parents, n, pebbles, n, targets, n, plan, needed) == moves);
     expect("the checker accepts the plan", javendriky_check(parents, n, pebbles, n, targets, n, plan, 2 * moves) == 0);
     expect("no move is spare", javendriky_excess(parents, n, pebbles, n, targets, n, plan, 2 * moves) == 0);
 

@@ -20,6 +20,9 @@
  * call writes overlaps no other list of that call. A list passed as const is only read. No call keeps a pointer, asks for memory, or has a state of
  * its own, so calls on different lists may run at the same time.
  *
+ * Numbers. A call with a further value writes it through a pointer to one uint32_t, which is never NULL and overlaps no list of the call. A refused call
+ * leaves the number as it was.
+ *
  * Answers. Each call answers one number a:
  *   a < 1,000,000     accepted: a is the value, or 0 where the call has none
  *   a >= 1,000,000    refused: JAVENDRIKY_REFUSAL(a) is the refusal's number, 1 to 18, and JAVENDRIKY_PLACE(a) its place
@@ -37,7 +40,7 @@ extern "C" {
 
 /* The version of these calls, which the library answers too. It is raised whenever a call gets further arguments or another meaning under the same
  * name, which requests to come will do: a program built with another header would still link. So compare the two once, before any other call. */
-#define JAVENDRIKY_VERSION 1
+#define JAVENDRIKY_VERSION 2
 
 /* The most nodes that a yard can have. */
 #define JAVENDRIKY_MAX_NODES 256
@@ -46,7 +49,8 @@ extern "C" {
 #define JAVENDRIKY_MAX_PLAN_BYTES 131070
 
 /* The bytes of the longest plan that javendriky_plan writes: no yard of n nodes needs more moves than the whole part of n * n / 4, which is 16,384 for
- * 256 nodes, at two bytes each (proved, as plan-max in crates/model/proofs). A plan list of so many bytes is never refused with 8. */
+ * 256 nodes, at two bytes each (proved, as longest-most in crates/model/proofs). A plan list of so many bytes is never refused with 8. For one yard
+ * javendriky_length_bound tells the bytes that are needed, for a number of nodes javendriky_longest_plan the moves. */
 #define JAVENDRIKY_LONGEST_PLAN_BYTES (JAVENDRIKY_MAX_NODES * JAVENDRIKY_MAX_NODES / 4 * 2)
 
 /* What an accepted javendriky_trial adds to the moves taken where the budget ended it. */
@@ -141,11 +145,19 @@ uint32_t javendriky_demands(const uint8_t *parents, size_t parents_len,
                             const uint8_t *targets, size_t targets_len,
                             int16_t *list, size_t list_len);
 
-/* Bound: k * (n - 1) for k pebbles, which no plan of javendriky_plan has more moves than. Writes nothing.
- * Refused with 1 to 6, then 7. */
+/* Bound: how long the plan of javendriky_plan is, without planning.
+ * Answers its number of moves, and writes through `bytes` the bytes that its list needs, two for each move: javendriky_plan accepts a list exactly if it
+ * has at least so many.
+ * Refused with 1 to 6, then 7; then the number behind `bytes` is as before. */
 uint32_t javendriky_length_bound(const uint8_t *parents, size_t parents_len,
                                  const uint8_t *pebbles, size_t pebbles_len,
-                                 const uint8_t *targets, size_t targets_len);
+                                 const uint8_t *targets, size_t targets_len,
+                                 uint32_t *bytes);
+
+/* Longest plan: for a yard that is not drawn yet, of which only the number of nodes n is known. Takes no list and writes nothing.
+ * Answers the whole part of n * n / 4: no yard of n nodes needs more moves, and some yard needs as many.
+ * Refused with 1, place 0, if n is 0 or above 256. */
+uint32_t javendriky_longest_plan(size_t n);
 
 /* Displaced: how many pebbles stand on nodes that are no targets. Writes nothing.
  * Refused with 1 to 6, then 7. */

@@ -1,13 +1,21 @@
-//! Test, planner, checker and trial once more, written for speed: no list is asked for from the heap, children stand side by side in rising number,
+//! Test, bound, planner, checker and trial once more, written for speed: no list is asked for from the heap, children stand side by side in rising number,
 //! each demand is kept and changed by one when its edge is crossed. The benchmark sets the library beside these.
 
 use crate::checker::{Tried, MAX_PLAN_BYTES};
+use crate::figures::Length;
 use crate::yard::{refuse, Answer, Refusal, MAX_NODES};
 
 /// Refusals 1 to 6.
 pub fn test_yard(parents: &[u8], pebbles: &[u8], targets: &[u8]) -> Answer<()> {
     fold_up(parents, pebbles, targets, |_, _| {})?;
     Ok(())
+}
+
+/// Refusals 1 to 7; the moves of the plan and the bytes of its list, from the demands.
+pub fn length_bound(parents: &[u8], pebbles: &[u8], targets: &[u8]) -> Answer<Length> {
+    let (demand, _) = demands(parents, pebbles, targets)?;
+    let moves = sizes(&demand);
+    Ok(Length { moves, bytes: 2 * moves })
 }
 
 /// Refusals 1 to 8; writes the plan at the front of the list and answers its moves.
@@ -114,7 +122,8 @@ fn lowest_lost(parents: &[u8], root: usize) -> usize {
     (0..parents.len()).find(|&node| climb(node) != root).unwrap_or(0)
 }
 
-fn plan_by<C: Children, const CURSORS: bool>(parents: &[u8], pebbles: &[u8], targets: &[u8], list: &mut [u8]) -> Answer<u32> {
+/// Refusals 1 to 7; the demands of all nodes, and the root.
+fn demands(parents: &[u8], pebbles: &[u8], targets: &[u8]) -> Answer<([i16; MAX_NODES], usize)> {
     let mut demand = [0i16; MAX_NODES];
     for ((demand, &target), &pebble) in demand.iter_mut().zip(targets).zip(pebbles) {
         *demand = i16::from(target) - i16::from(pebble);
@@ -123,7 +132,16 @@ fn plan_by<C: Children, const CURSORS: bool>(parents: &[u8], pebbles: &[u8], tar
     if demand[root] != 0 {
         return refuse(7, 0);
     }
-    let moves: u32 = demand.iter().map(|demand| u32::from(demand.unsigned_abs())).sum();
+    Ok((demand, root))
+}
+
+fn sizes(demand: &[i16]) -> u32 {
+    demand.iter().map(|demand| u32::from(demand.unsigned_abs())).sum()
+}
+
+fn plan_by<C: Children, const CURSORS: bool>(parents: &[u8], pebbles: &[u8], targets: &[u8], list: &mut [u8]) -> Answer<u32> {
+    let (demand, root) = demands(parents, pebbles, targets)?;
+    let moves = sizes(&demand);
     if list.len() < 2 * moves as usize {
         return refuse(8, moves as usize);
     }

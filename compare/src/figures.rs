@@ -1,17 +1,38 @@
-//! The figures of document 01: shortest length, bound, displaced ('disturbed' there).
+//! The figures of document 01 and request 2.2: shortest length, bound, displaced ('disturbed' there), and the longest plan of n nodes.
 
 use crate::demands;
-use crate::yard::{judge_matched, total, Answer, Yard};
+use crate::planner;
+use crate::yard::{judge_matched, refuse, total, Answer, Yard, MAX_NODES};
 
 /// Theorem 14: the sum of the sizes of all demands. Asks for a tree with equal totals.
 pub fn shortest_length(yard: &Yard) -> u32 {
     demands::of_tree(yard).iter().map(|demand| u32::from(demand.unsigned_abs())).sum()
 }
 
-/// Corollary 15: no plan of the planner has more moves.
-pub fn length_bound(yard: &Yard) -> Answer<u32> {
-    judge_matched(yard)?;
-    Ok((total(&yard.pebbles) * (yard.nodes() - 1)) as u32)
+/// How long a plan is: its moves, and the bytes of its list.
+#[derive(Clone, Copy, Debug, PartialEq)]
+pub struct Length {
+    pub moves: u32,
+    pub bytes: u32,
+}
+
+/// The bound (request 2.2): the length of the plan, which is made and counted.
+pub fn length_bound(yard: &Yard) -> Answer<Length> {
+    let plan = planner::plan(yard, usize::MAX)?;
+    Ok(Length { moves: plan.chunks(2).count() as u32, bytes: plan.len() as u32 })
+}
+
+/// Corollary 15: no plan of the planner has more moves. Asks for a tree with equal totals.
+pub fn corollary_15(yard: &Yard) -> u32 {
+    (total(&yard.pebbles) * (yard.nodes() - 1)) as u32
+}
+
+/// No yard of n nodes needs more moves, and some yard needs as many (request 2.2).
+pub fn longest_plan(n: usize) -> Answer<u32> {
+    match n {
+        1..=MAX_NODES => Ok((n * n / 4) as u32),
+        _ => refuse(1, 0),
+    }
 }
 
 /// How many pebbles stand on nodes that are no targets.

@@ -1,10 +1,11 @@
 //! The proved library's calls, as include/javendriky.h tells them, with Rust's lists and answers.
 
 use crate::checker::Tried;
+use crate::figures::Length;
 use crate::yard::{Answer, Refusal};
 
 /// The version of the calls that are declared here: JAVENDRIKY_VERSION of the header. A library of another version must not be called.
-pub const VERSION: u32 = 1;
+pub const VERSION: u32 = 2;
 
 /// What an accepted trial adds to the moves taken where the budget ended it.
 const BUDGET_ENDED: u32 = 500_000;
@@ -26,7 +27,9 @@ pub mod raw {
         ) -> u32;
         pub fn javendriky_length_bound(
             parents: *const u8, parents_len: usize, pebbles: *const u8, pebbles_len: usize, targets: *const u8, targets_len: usize,
+            bytes: *mut u32,
         ) -> u32;
+        pub fn javendriky_longest_plan(n: usize) -> u32;
         pub fn javendriky_displaced(
             parents: *const u8, parents_len: usize, pebbles: *const u8, pebbles_len: usize, targets: *const u8, targets_len: usize,
         ) -> u32;
@@ -102,10 +105,20 @@ pub fn demands(parents: &[u8], pebbles: &[u8], targets: &[u8], list: &mut [i16])
     })
 }
 
-pub fn length_bound(parents: &[u8], pebbles: &[u8], targets: &[u8]) -> Answer<u32> {
-    answer(unsafe {
-        raw::javendriky_length_bound(parents.as_ptr(), parents.len(), pebbles.as_ptr(), pebbles.len(), targets.as_ptr(), targets.len())
-    })
+/// The bytes are written through the pointer, and a refusal leaves what is there.
+pub fn length_bound(parents: &[u8], pebbles: &[u8], targets: &[u8], bytes: &mut u32) -> Answer<Length> {
+    let moves = answer(unsafe {
+        raw::javendriky_length_bound(
+            parents.as_ptr(), parents.len(), pebbles.as_ptr(), pebbles.len(), targets.as_ptr(), targets.len(),
+            bytes,
+        )
+    });
+    moves.map(|moves| Length { moves, bytes: *bytes })
+}
+
+pub fn longest_plan(n: usize) -> Answer<u32> {
+    // SAFETY: it takes a number.
+    answer(unsafe { raw::javendriky_longest_plan(n) })
 }
 
 pub fn displaced(parents: &[u8], pebbles: &[u8], targets: &[u8]) -> Answer<u32> {

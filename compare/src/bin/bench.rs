@@ -4,6 +4,7 @@ use std::hint::black_box;
 use std::process::ExitCode;
 use std::time::Instant;
 use unrelated::checker::Tried;
+use unrelated::figures::Length;
 use unrelated::random::Random;
 use unrelated::shapes::{far, Shape};
 use unrelated::yard::{Answer, Yard};
@@ -109,6 +110,17 @@ fn tests(yard: &Yard) -> Option<Times> {
     Some(measure(|| call(library::test_yard), || call(fast::test_yard)))
 }
 
+fn bounds(yard: &Yard) -> Option<Times> {
+    let Yard { parents, pebbles, targets } = yard;
+    type Bound = fn(&[u8], &[u8], &[u8]) -> Answer<Length>;
+    let library: Bound = |parents, pebbles, targets| library::length_bound(parents, pebbles, targets, &mut 0);
+    let call = |bound: Bound| bound(black_box(parents), black_box(pebbles), black_box(targets));
+    if call(library).is_err() || call(library) != call(fast::length_bound) {
+        return None;
+    }
+    Some(measure(|| call(library), || call(fast::length_bound)))
+}
+
 /// The yards of the benchmark: root 0, parents before children, pebbles on the first half of the nodes, targets on the other. The line is yard I.
 fn yard(shape: Shape, n: usize) -> Yard {
     far(shape, n, &mut Random::new(n as u64))
@@ -123,7 +135,7 @@ fn run() -> Option<f64> {
     for shape in Shape::ALL {
         let yard = yard(shape, 256);
         let (plan, planned) = plans(&yard, fast::plan)?;
-        let rows = [("plan", planned), ("check", checks(&yard, &plan)?), ("trial", trials(&yard, &plan)?), ("test_yard", tests(&yard)?)];
+        let rows = [("plan", planned), ("check", checks(&yard, &plan)?), ("trial", trials(&yard, &plan)?), ("bound", bounds(&yard)?), ("test_yard", tests(&yard)?)];
         for (call, times) in rows {
             let (library, plain, ratio) = (times.library / 1e3, times.plain / 1e3, times.ratio());
             println!("{:<13}{call:<10}{:>7}{library:>12.2}{plain:>12.2}{ratio:>8.2}", shape.name(), plan.len() / 2);

@@ -2,6 +2,7 @@
 use model::Checked;
 use model::Counted;
 use model::Done;
+use model::Measured;
 use model::Refusal;
 use model::Tried;
 
@@ -101,5 +102,15 @@ pub fn tried(answer: Tried) {
         Tried::PlanEnded(taken) => figure(b"plan ended after ", taken),
         Tried::BudgetEnded(taken) => figure(b"budget ended after ", taken),
         Tried::Refused(r) => refused(r),
+    }
+}
+
+pub fn measured(answer: Measured) {
+    match answer {
+        Measured::Length(moves, bytes) => {
+            figure(b"moves ", moves);
+            figure(b" bytes ", bytes);
+        }
+        Measured::Refused(r) => refused(r),
     }
 }

@@ -5,15 +5,15 @@ ghost use lib.ListN.{length, getD};
 ghost use Rattle.model.specs.Yard.{sum, maxSize, shortest};
 ghost use Rattle.model.specs.Given.{given, handed, was, became};
 ghost use Rattle.model.specs.Judge.{Tree};
-ghost use Rattle.model.specs.Calls.Demands.{demandsFault, demandsList, boundAnswer, displacedAnswer};
-ghost use Rattle.model.specs.Paper.{paperDone, paperCounted};
+ghost use Rattle.model.specs.Calls.Demands.{demandsFault, demandsList, boundAnswer, displacedAnswer, longestAnswer};
+ghost use Rattle.model.specs.Paper.{paperDone, paperCounted, paperMeasured};
 use crate::fill::fill;
 use crate::signed::sizes;
 use judge::test::test_yard;
 use judge::totals::test_matched;
-use lists::total::total;
 use model::Counted;
 use model::Done;
+use model::Measured;
 use model::Refusal;
 
 // The account call: the demands of all nodes into a list of exactly one entry a node. Refusals 1 to 6, then 2 for a list of another length;
@@ -44,17 +44,29 @@ pub fn shortest_length(parents: &[u8], pebbles: &[u8], targets: &[u8]) -> usize
     sizes(&list[..n])
 }
 
-// Bound: k × (n − 1) moves for k pebbles. Refusals 1 to 7.
-pub fn length_bound(parents: &[u8], pebbles: &[u8], targets: &[u8]) -> Counted
-    ensures { λ r. ⌜ paperCounted r ≡ boundAnswer (given parents pebbles targets) ⌝ }
+// Bound: the moves of the plan and the bytes that its list needs, without planning: the shortest length is the plan's. Refusals 1 to 7. Linear work.
+pub fn length_bound(parents: &[u8], pebbles: &[u8], targets: &[u8]) -> Measured
+    ensures { λ r. ⌜ paperMeasured r ≡ boundAnswer (given parents pebbles targets) ⌝ }
 {
     let tested = test_matched(parents, pebbles, targets);
     if let Done::Refused(r) = tested {
-        return Counted::Refused(r);
+        return Measured::Refused(r);
     }
-    let count = total(pebbles);
-    let n = parents.len();
-    Counted::Number(count * (n - 1))
+    let moves = shortest_length(parents, pebbles, targets);
+    Measured::Length(moves, 2 * moves)
+}
+
+// The most moves that a yard of n nodes can need. Refusal 1 for an n outside 1 to 256.
+pub fn longest_plan(n: usize) -> Counted
+    ensures { λ r. ⌜ paperCounted r ≡ longestAnswer n ⌝ }
+{
+    if n == 0 {
+        return Counted::Refused(Refusal::NodeCount(0));
+    }
+    if n > 256 {
+        return Counted::Refused(Refusal::NodeCount(0));
+    }
+    Counted::Number(n * n / 4)
 }
 
 // How far a mark is above another, or else 0.

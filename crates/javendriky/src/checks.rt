@@ -40,6 +40,7 @@ pub extern "C" fn javendriky_excess(
     }
 }
 
+// The trial: obeys a plan until the budget or the plan ends, writes the new marks, and answers the moves taken, plus 500,000 where the budget ended
 // it. Refusals 1 to 6, 9 to 13.
 #[no_mangle]
 pub extern "C" fn javendriky_trial(

@@ -1,13 +1,16 @@
 // The demands (accounts) and the figures.
 ghost use mathlib.Core.Path.{_≡_};
 ghost use Rattle.model.specs.Given.{given, was, became};
-ghost use Rattle.model.specs.Calls.Answers.{inC, zeroInC};
-ghost use Rattle.model.specs.Calls.Demands.{demandsFault, demandsList, boundAnswer, displacedAnswer};
+ghost use Rattle.model.specs.Calls.Answers.{mapAnswer, inC, zeroInC, noted};
+ghost use Rattle.model.specs.Calls.Demands.{demandsFault, demandsList, boundAnswer, displacedAnswer, longestAnswer};
 use crate::answers::counted;
 use crate::answers::done;
+use crate::answers::refused;
 use demand::call::demands;
 use demand::call::displaced;
 use demand::call::length_bound;
+use demand::call::longest_plan;
+use model::Measured;
 
 // The demands of all nodes into a list of exactly one entry a node. Refusals 1 to 6, then 2 for a list of another length, or 0.
 #[no_mangle]
@@ -23,12 +26,32 @@ pub extern "C" fn javendriky_demands(
     done(demands(parents, pebbles, targets, list))
 }
 
-// Bound: k × (n − 1) for k pebbles on n nodes. Refusals 1 to 7.
+// Bound: the moves of the plan, and through the pointer the bytes that its list needs. Refusals 1 to 7.
 #[no_mangle]
-pub extern "C" fn javendriky_length_bound(parents: &[u8], pebbles: &[u8], targets: &[u8]) -> u32
-    ensures { λ r. ⌜ r ≡ inC (boundAnswer (given parents pebbles targets)) ⌝ }
+pub extern "C" fn javendriky_length_bound(
+    parents: &[u8],
+    pebbles: &[u8],
+    targets: &[u8],
+    bytes: &mut u32,
+) -> u32
+    ensures { λ r. ⌜ r ≡ inC (mapAnswer (λ l. l .moves) (boundAnswer (given parents pebbles targets))) ⌝ }
+    ensures { λ r. ⌜ became bytes ≡ noted (boundAnswer (given parents pebbles targets)) (λ l. l .listBytes) (was bytes) ⌝ }
 {
-    counted(length_bound(parents, pebbles, targets))
+    match length_bound(parents, pebbles, targets) {
+        Measured::Length(moves, list_bytes) => {
+            *bytes = list_bytes as u32;
+            moves as u32
+        }
+        Measured::Refused(r) => refused(r),
+    }
+}
+
+// The most moves that a yard of n nodes can need. Refusal 1.
+#[no_mangle]
+pub extern "C" fn javendriky_longest_plan(n: usize) -> u32
+    ensures { λ r. ⌜ r ≡ inC (longestAnswer n) ⌝ }
+{
+    counted(longest_plan(n))
 }
 
 // Displaced: the starting nodes that are not targets. Refusals 1 to 7.

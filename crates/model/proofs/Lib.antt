@@ -22,6 +22,7 @@ pub mod Balance
 pub mod Calls
 pub mod Yards
 pub mod Demand3
+pub mod Longest
 pub mod Moves
 pub mod Demand2
 pub mod Trial

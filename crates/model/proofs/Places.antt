@@ -6,7 +6,7 @@ use mathlib.Core.Bool.{Bool, true, false, not, cond, _&&_, and-eq-true-iff}
 use mathlib.Core.List.{List, [], _∷_}
 use mathlib.Core.Option.{Option, none, some}
 use Prim.Native.Nat.{ℕ, suc, _+_, _-_, _*_, _/_, _%_, _≤_, _<_}
-use native.Mathlib.Nat.{mul-le-mul}
+use native.Mathlib.Nat.{mul-le-mul, div-le-self}
 use native.Mathlib.Omega.{arith}
 use lib.ListN.{length, drop, length-take}
 use lib.IntN.{ℤ}
@@ -17,7 +17,7 @@ use Rattle.model.specs.Judge.{Fault, row, fault, firstOf, unless, atLowe
 use Rattle.model.specs.Push.{Move, adjacent, moveTests, moveFault, pushFault, pushed}
 use Rattle.model.specs.Plan.{plan}
 use Rattle.model.specs.Calls.Answers.{Answer, answered, refused, rowUnit, inC, told, InTable, Row, Small, answer, mapAnswer}
-use Rattle.model.specs.Calls.Demands.{demandsTests, demandsFault, boundAnswer, displacedAnswer}
+use Rattle.model.specs.Calls.Demands.{demandsTests, demandsFault, boundAnswer, displacedAnswer, longest, longestAnswer}
 use Rattle.model.specs.Calls.Plans.{planTests, planFault, movesOf}
 use Rattle.model.specs.Calls.Checks.{maxPlanBytes, bytesFault, movesFault, Verdict, checkTests, checkFault, checkAnswer, within, trialTests, trialFault, trialAnswer, trialInC}
 use Rattle.model.specs.Sheets.{maxSheetBytes, yardSheet, readYard, reader, readAnswer, writeTests, writeFault, writeAnswer}
@@ -188,18 +188,26 @@ module _ (y : Yard) where
   pub plan-small : (room : ℕ) → Small (answer (planFault y room) (length (plan y)))
   plan-small room = small _ (plan-low room) (λ e. let h = plan-none y room .0 e in plan-short (h .0) (h .1))
 
-  -- no more pebbles than nodes, so the bound is small
+  -- the bound's two values
+  pub moves-small : Small (mapAnswer (λ l. l .moves) (boundAnswer y))
+  moves-small = rw map-answer (small _ figure-low (λ e. let h = matched-tree y e in plan-short (h .0) (h .1)))
+
+  pub list-bytes-small : Small (mapAnswer (λ l. l .listBytes) (boundAnswer y))
+  list-bytes-small = rw map-answer (small _ figure-low (λ e. let h = matched-tree y e in omega (arith, plan-length y (h .0) (h .1), shortest-small y (h .0))))
+
+  -- no more pebbles than nodes
   pub pebbles-few : Tree y → pebbleCount y ≤ maxSize
   pebbles-few t = omega (arith, facts y t .few, sum-mono (size y) (pebble y) (λ _. 1) (facts y t .pebble-le), sum-le (size y) (λ _. 1) (λ _. omega arith))
 
-  pub bound-small : Tree y → pebbleCount y * (size y - 1) ≤ maxSize * maxSize
-  bound-small t = let few : size y - 1 ≤ maxSize = omega (arith, facts y t .few) in mul-le-mul (pebbles-few t) few
-
-  pub length-bound-small : Small (boundAnswer y)
-  length-bound-small = small _ figure-low (λ e. omega (arith, bound-small (matched-tree y e .0)))
-
   pub displaced-small : Small (displacedAnswer y)
   displaced-small = small _ figure-low (λ e. omega (arith, pebbles-few (matched-tree y e .0), sum-mono (size y) (λ v. pebble y v - target y v) (pebble y) (λ v _. omega arith)))
+
+-- the figure for n alone
+pub longest-small : (n : ℕ) → Small (longestAnswer n)
+longest-small n = small (longest n) (once ((ltb 0 n) && (leb n maxSize)) 1 0 (omega arith) (omega arith)) (λ e.
+    let h : n ≤ 256 = leb-true n 256 (and-eq-true-iff (ltb 0 n) _ .0 (unless-none _ 1 0 e) .1) in
+    let l : n * n / 4 ≤ n * n = div-le-self (n * n) 4 in
+    omega (arith, l, mul-le-mul h h))
 
 -- reading a sheet
 pub read-row : (bs : List ℕ) {f : Fault} → readYard bs ≡ refused f → Row f

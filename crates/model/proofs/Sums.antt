@@ -53,6 +53,12 @@ unfolding sum
 sum-swap zero n f = sym (sum-zero n (λ w. 0) (λ w _. refl))
 sum-swap (suc k) n f = rw (sum-swap k n f) (sym (sum-add n (λ w. sum k (λ v. f v w)) (f k)))
 
+-- the first term apart
+pub sum-front : (n : ℕ) (f : ℕ → ℕ) → sum (suc n) f ≡ f 0 + sum n (λ v. f (suc v))
+unfolding sum
+sum-front zero f = omega arith
+sum-front (suc n) f = omega (arith, sum-front n f)
+
 -- the term at c, picked out by a test
 pub sum-pick : (n c : ℕ) (f : ℕ → ℕ) → c < n → sum n (λ v. one (eqb v c) * f v) ≡ f c
 unfolding sum

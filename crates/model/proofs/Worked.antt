@@ -10,12 +10,12 @@ use native.Mathlib.Omega.{arith}
 use lib.ListN.{take, replicate}
 use lib.IntN.{ℤ, pos, negsuc}
 use Rattle.model.specs.Yard.{Yard, yardOf, sum, below, roots, climbs, inside, subtotal, shortest}
-use Rattle.model.specs.Judge.{Fault, row, fault, judge}
+use Rattle.model.specs.Judge.{Fault, row, fault, judge, matchedFault}
 use Rattle.model.specs.Push.{Move, push, moveFault, pushFault, legal, shifted, after, accepted, count}
 use Rattle.model.specs.Plan.{needy, choice, inject, extract, turn, settle, each, balance, planWithin, plan}
 use Rattle.model.specs.Follow.{placed, starts, At, Follows, route}
 use Rattle.model.specs.Calls.Answers.{Answer, answered, refused, range}
-use Rattle.model.specs.Calls.Demands.{demandsFault, demandsList}
+use Rattle.model.specs.Calls.Demands.{demandsFault, demandsList, Length, boundAnswer, longestAnswer}
 use Rattle.model.specs.Calls.Plans.{bytes, movesOf, planFault, planAnswer, planList}
 use Rattle.model.specs.Calls.Checks.{movesFault, Verdict, checkFault, checkAnswer, Trial, trialFault, trialAnswer, trialPebbles}
 use Rattle.model.specs.Sheets.{text, digits, decimal, stopBefore, line, lines, header, cut, same, value, field, readLine, readNodes, readYard, moveLines, edges, report, moveSheet, refusalSheet, program}
@@ -35,6 +35,8 @@ data Input : Type 0 where
   -- pushes, one after another, each on the yard that the one before gave back
   pushesOf : List Move → Yard → Input
   printOf : String → Input
+  boundOf : Yard → Input
+  longestOf : ℕ → Input
   -- where the pebbles start
   startsOf : Yard → Input
 
@@ -47,6 +49,8 @@ data Outcome : Type 0 where
   checked : Answer Verdict → Outcome
   tried : Answer Trial → List ℕ → Outcome
   left : List ℕ → Outcome
+  measured : Answer Length → Outcome
+  counted : Answer ℕ → Outcome
   printed : List ℕ → Outcome
 
 outcome : Input → Outcome
@@ -60,6 +64,8 @@ outcome (checkOf bs y) = checked (checkAnswer y bs)
 outcome (trialOf bs budget y) = tried (trialAnswer y bs budget) (trialPebbles y bs budget)
 outcome (pushesOf ms y) = left (after y ms)
 outcome (printOf sheet) = printed (program (text sheet))
+outcome (boundOf y) = measured (boundAnswer y)
+outcome (longestOf n) = counted (longestAnswer n)
 outcome (startsOf y) = left (starts y)
 
 record Case : Type 0 where
@@ -139,6 +145,18 @@ cases =
     ∷ (printOf "berth parent car target\n0 0 1 1\n1 0 0 0\n" gives printed (text "from to\ntrack up down\n1 0 0\ntotal\n0\n"))
     ∷ (printOf "berth parent car target\n0 1 1 0\n1 1 0 1\n" gives printed (text "from to\n0 1\ntrack up down\n0 1 0\ntotal\n1\n"))
     ∷ (printOf "berth parent car target\n0 0 1 0\n" gives printed (text "refusal place\n7 0\n"))
+    -- request 2.2: the lengths of yards A and B, and of yard D, which needs no move; a pebble and no target; n alone
+    ∷ (boundOf yardA gives measured (answered (record { moves = 4; listBytes = 8 })))
+    ∷ (boundOf yardB gives measured (answered (record { moves = 2; listBytes = 4 })))
+    ∷ (boundOf (yard (0 ∷ 0 ∷ []) (0 ∷ []) (0 ∷ [])) gives measured (answered (record { moves = 0; listBytes = 0 })))
+    ∷ (boundOf (yard (0 ∷ []) (0 ∷ []) []) gives measured (refused (row 7 0)))
+    ∷ (longestOf 0 gives counted (refused (row 1 0)))
+    ∷ (longestOf 1 gives counted (answered 0))
+    ∷ (longestOf 2 gives counted (answered 1))
+    ∷ (longestOf 3 gives counted (answered 2))
+    ∷ (longestOf 5 gives counted (answered 6))
+    ∷ (longestOf 256 gives counted (answered 16_384))
+    ∷ (longestOf 257 gives counted (refused (row 1 0)))
     -- children are balanced in rising number
     ∷ (planOf (yard (0 ∷ 0 ∷ 0 ∷ 1 ∷ 1 ∷ 2 ∷ 2 ∷ []) (3 ∷ 5 ∷ []) (4 ∷ 6 ∷ [])) gives moves (push 3 1 ∷ push 1 4 ∷ push 5 2 ∷ push 2 6 ∷ []))
     -- clearing fills the lowest child that lacks a pebble
@@ -156,7 +174,7 @@ cases =
     ∷ []
 
 worked : map (λ (c : Case). outcome (c .input)) cases ≡ map (λ (c : Case). c .expected) cases
-unfolding siding placed cases _gives_ outcome yard marks yardA yardB planB sum below roots climbs inside subtotal shortest judge moveFault pushFault legal shifted after accepted count needy choice inject extract turn settle each balance planWithin plan range demandsFault bytes movesOf planFault movesFault checkFault trialFault text digits decimal stopBefore line lines header cut same value field readLine readNodes readYard moveLines edges report moveSheet refusalSheet program
+unfolding siding placed cases _gives_ outcome yard marks yardA yardB planB sum below roots climbs inside subtotal shortest judge moveFault pushFault legal shifted after accepted count needy choice inject extract turn settle each balance planWithin plan range demandsFault bytes movesOf planFault movesFault checkFault trialFault matchedFault text digits decimal stopBefore line lines header cut same value field readLine readNodes readYard moveLines edges report moveSheet refusalSheet program
 worked = refl
 
 -- two pebbles start at node 1, and one at node 2: whichever is taken, pebble 1 may go the second time, and each has its own route

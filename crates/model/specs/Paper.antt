@@ -9,9 +9,11 @@ use Rattle.model.specs.declared.Done.{Done}
 use Rattle.model.specs.declared.Counted.{Counted}
 use Rattle.model.specs.declared.Checked.{Checked}
 use Rattle.model.specs.declared.Tried.{Tried}
+use Rattle.model.specs.declared.Measured.{Measured}
 use Rattle.model.specs.Judge.{Fault, row}
 use Rattle.model.specs.Calls.Answers.{Answer, answered, refused}
 use Rattle.model.specs.Calls.Checks.{Verdict, Trial}
+use Rattle.model.specs.Calls.Demands.{Length}
 
 abbrev pub paper : Refusal → Fault
 paper (NodeCount p) = row 1 p
@@ -53,3 +55,8 @@ abbrev pub paperTried : Tried → Answer Trial
 paperTried (Tried.PlanEnded n) = answered (record { taken = n; planEnded = true })
 paperTried (Tried.BudgetEnded n) = answered (record { taken = n; planEnded = false })
 paperTried (Tried.Refused r) = refused (paper r)
+
+-- moves and bytes, or the refusal
+abbrev pub paperMeasured : Measured → Answer Length
+paperMeasured (Measured.Length moves bytes) = answered (record { moves = moves; listBytes = bytes })
+paperMeasured (Measured.Refused r) = refused (paper r)

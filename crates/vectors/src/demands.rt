@@ -1,14 +1,17 @@
-// The account call, the bound and the displaced.
+// The account call, the bound, the displaced, and the longest plan of n nodes.
 use crate::signed::signed_list;
 use crate::signed::signed_part;
 use cases::kinds::kind;
 use cases::lines::field;
+use cases::lists::value;
 use cases::print::counted;
 use cases::print::done;
+use cases::print::measured;
 use cases::print::text;
 use demand::call::demands;
 use demand::call::displaced;
 use demand::call::length_bound;
+use demand::call::longest_plan;
 
 // The answer, and the list, which is full of 9 before the call.
 fn account(line: &[u8], parents: &[u8], pebbles: &[u8], targets: &[u8]) {
@@ -27,7 +30,7 @@ fn account_ends(parents: &[u8], pebbles: &[u8], targets: &[u8]) {
 
 fn figures(parents: &[u8], pebbles: &[u8], targets: &[u8]) {
     text(b"bound ");
-    counted(length_bound(parents, pebbles, targets));
+    measured(length_bound(parents, pebbles, targets));
     text(b", displaced ");
     counted(displaced(parents, pebbles, targets));
 }
@@ -37,6 +40,15 @@ pub fn case(line: &[u8], parents: &[u8], pebbles: &[u8], targets: &[u8]) -> bool
         0 => account(line, parents, pebbles, targets),
         1 => account_ends(parents, pebbles, targets),
         2 => figures(parents, pebbles, targets),
+        _ => return false,
+    }
+    true
+}
+
+// A case on a number of nodes alone.
+pub fn case_alone(line: &[u8]) -> bool {
+    match kind(line, b"longest 2") {
+        0 => counted(longest_plan(value(field(line, 2)))),
         _ => return false,
     }
     true

@@ -50,7 +50,8 @@ fn case(line: &[u8], yard: Yard) -> Yard {
     if which < NONE {
         return states::case(line, which, yard);
     }
-    if !reads::case(line) {
+    let known = reads::case(line) | demands::case_alone(line);
+    if !known {
         with_lists(line);
     }
     yard

@@ -160,9 +160,22 @@ impl Caller {
 
     pub fn length_bound(&self, yard: &Yard) -> Same {
         let inputs = Inputs { call: "length_bound", yard, bytes: &[], numbers: &[] };
+        // No number of bytes that a plan can have.
+        let before = [1_234_567];
         let lent = self.lend(yard);
-        let got = during(&inputs, || library::length_bound(lent.parents.list(), lent.pebbles.list(), lent.targets.list()));
-        self.same(&inputs, got, figures::length_bound(yard), lent.wrong(yard))
+        let mut bytes = self.lender.lend(&before);
+        let got = during(&inputs, || library::length_bound(lent.parents.list(), lent.pebbles.list(), lent.targets.list(), &mut bytes.list_mut()[0]));
+        let expected = figures::length_bound(yard);
+        quick(&inputs, fast::length_bound(&yard.parents, &yard.pebbles, &yard.targets), &expected)?;
+        let after = written(&before, &expected.map(|length| vec![length.bytes]));
+        self.same(&inputs, got, expected, lent.wrong(yard).or_else(|| bytes.wrong("bytes", &after)))
+    }
+
+    pub fn longest_plan(&self, n: usize) -> Same {
+        let nothing = Yard::default();
+        let inputs = Inputs { call: "longest_plan", yard: &nothing, bytes: &[], numbers: &[n] };
+        let got = during(&inputs, || library::longest_plan(n));
+        self.same(&inputs, got, figures::longest_plan(n), None)
     }
 
     pub fn displaced(&self, yard: &Yard) -> Same {

@@ -12,12 +12,13 @@ use unrelated::{checker, damage, figures, library, planner, report, sheet, short
 /// A family tries its cases and tells how many there were.
 pub type Family = fn(&Caller, Thin) -> Same<u64>;
 
-pub const FAMILIES: [(&str, Family); 18] = [
+pub const FAMILIES: [(&str, Family); 19] = [
     ("yards and examples of documents 01 and 02", |caller, _| worked(caller)),
     ("every tree up to 5 nodes with all marks, against the search", every_tree),
     ("6 and 7 nodes, against the search", against_search),
     ("up to 24 nodes, against the cheapest matching", against_matching),
     ("6 to 256 nodes in six shapes", all_shapes),
+    ("the longest plans of n nodes", longest_plans),
     ("every three lists up to length 3 with few values", every_list),
     ("lists with one to three faults", damaged_lists),
     ("lists that were never legal", noise),
@@ -74,8 +75,8 @@ fn solved(caller: &Caller, yard: &Yard, least: u32, random: &mut Random) -> Same
     if moves != least as usize || length != least {
         return Err(format!("{yard:?}: {moves} moves, the demands say {length}, the least is {least}"));
     }
-    // Corollary 15, and the room for any plan that the header promises.
-    if figures::length_bound(yard).is_ok_and(|bound| least > bound) || moves > n * n / 4 {
+    // Corollary 15, and the figure for n alone.
+    if least > figures::corollary_15(yard) || figures::longest_plan(n).is_ok_and(|longest| least > longest) {
         return Err(format!("{yard:?}: {moves} moves are above a bound"));
     }
     Ok(())
@@ -127,6 +128,32 @@ fn every_tree(caller: &Caller, thin: Thin) -> Same<u64> {
                     searched(caller, &yard, least, &mut random)?;
                 }
             }
+        }
+    }
+    Ok(cases)
+}
+
+/// The figure for n alone: every n that is no number of nodes or just is one, and any large ones. Up to 5 nodes it is the length of the longest of all
+/// plans; beyond them some yard, a line with its halves exchanged, has a plan of that length.
+fn longest_plans(caller: &Caller, thin: Thin) -> Same<u64> {
+    let mut random = Random::new(31);
+    let mut cases = 0;
+    let powers = (0..usize::BITS).flat_map(|bit| [(1usize << bit) - 1, 1 << bit, (1 << bit) + 1]);
+    for n in (0..=600).chain(powers).chain([usize::MAX - 1, usize::MAX]).chain((0..200).map(|_| random.draw() as usize)) {
+        cases += 1;
+        caller.longest_plan(n)?;
+    }
+    let plan_length = |yard: &Yard| planner::plan(yard, usize::MAX).map_or(0, |plan| plan.len() as u32 / 2);
+    for n in 1..=yard::MAX_NODES {
+        if !thin.keeps(n as u64) {
+            continue;
+        }
+        cases += 1;
+        let far = shapes::far(Shape::Line, n, &mut random);
+        caller.length_bound(&far)?;
+        let longest = if n <= 5 { shapes::every_yard(n).map(|yard| plan_length(&yard)).max() } else { Some(plan_length(&far)) };
+        if longest != figures::longest_plan(n).ok() {
+            return Err(format!("the longest plan of {n} nodes has {longest:?} moves"));
         }
     }
     Ok(cases)
@@ -347,6 +374,7 @@ fn pushes(caller: &Caller, thin: Thin) -> Same<u64> {
 fn no_address(_: &Caller, _: Thin) -> Same<u64> {
     use std::ptr::{null, null_mut};
     let (parents, one, zero) = ([0u8], [1u8], [0u8]);
+    let mut bytes = 0;
     // SAFETY: lengths are 0 where there is no address, else those of the arrays.
     let answers = unsafe {
         use library::raw::*;
@@ -354,7 +382,7 @@ fn no_address(_: &Caller, _: Thin) -> Same<u64> {
             ("plan", javendriky_plan(null(), 0, null(), 0, null(), 0, null_mut(), 0), 1_000_000),
             ("test_yard", javendriky_test_yard(null(), 0, null(), 0, null(), 0), 1_000_000),
             ("demands", javendriky_demands(null(), 0, null(), 0, null(), 0, null_mut(), 0), 1_000_000),
-            ("length_bound", javendriky_length_bound(null(), 0, null(), 0, null(), 0), 1_000_000),
+            ("length_bound", javendriky_length_bound(null(), 0, null(), 0, null(), 0, &mut bytes), 1_000_000),
             ("displaced", javendriky_displaced(null(), 0, null(), 0, null(), 0), 1_000_000),
             ("push", javendriky_push(null(), 0, null_mut(), 0, null(), 0, 0, 0), 1_000_000),
             ("check", javendriky_check(null(), 0, null(), 0, null(), 0, null(), 0), 1_000_000),

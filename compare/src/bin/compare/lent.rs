@@ -28,6 +28,7 @@ impl Placement {
 pub trait Element: Copy + PartialEq + Debug {}
 impl Element for u8 {}
 impl Element for i16 {}
+impl Element for u32 {}
 
 const MARGIN: usize = 64;
 

@@ -50,6 +50,11 @@ told r = cond (ltb r rowUnit) (answered r) (refused (record { number = r / rowUn
 abbrev pub zeroInC : Option Fault → ℕ
 zeroInC f = inC (answer f 0)
 
+-- a further value of an accepted call, written through a pointer to a number, which holds what it held before after a refusal (demand 1)
+abbrev pub noted : {A : Type 0} → Answer A → (A → ℕ) → ℕ → ℕ
+noted (answered a) value old = value a
+noted (refused f) value old = old
+
 -- an answer that one number tells: a value below 1,000,000, or a refusal of the table with such a place. So all fits 32 bits, and value or number
 -- and place can be read off again (`tells`)
 abbrev pub InTable : ℕ → Type 0
@@ -65,4 +70,4 @@ Small (refused f) = Row f
 
 -- the version of the calls for C: raised whenever one gets further arguments or another meaning under its name
 abbrev pub version : ℕ
-version = 1
+version = 2

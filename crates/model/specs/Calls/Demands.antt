@@ -1,12 +1,14 @@
--- The account call ('Accounts'), and the figures bound and disturbed ('Checker, trial and three figures').
+-- The account call ('Accounts'), the figures bound and disturbed ('Checker, trial and three figures', request 2.2), and the figure for n alone (request 2.2).
+use mathlib.Core.Bool.{_&&_}
 use mathlib.Core.List.{List, [], _∷_, map}
 use mathlib.Core.Option.{Option}
-use Prim.Native.Nat.{ℕ, _-_, _*_}
+use Prim.Native.Nat.{ℕ, _-_, _*_, _/_}
 use lib.ListN.{length}
-use lib.Dec.{eqb}
+use lib.Dec.{leb, ltb, eqb}
 use lib.IntN.{ℤ}
-use Rattle.model.specs.Yard.{Yard, size, pebble, target, sum, demand, pebbleCount}
+use Rattle.model.specs.Yard.{Yard, size, maxSize, pebble, target, sum, demand}
 use Rattle.model.specs.Judge.{Fault, fault, firstOf, unless, judge, matchedFault}
+use Rattle.model.specs.Plan.{plan}
 use Rattle.model.specs.Calls.Answers.{Answer, answer, lent, range}
 
 -- The account call ('Accounts'): refusals 1 to 6, then 2 for a list of another length than n; it writes the demands of all nodes.
@@ -19,10 +21,27 @@ demandsFault y list = firstOf (demandsTests y list)
 abbrev pub demandsList : Yard → List ℤ → List ℤ
 demandsList y list = lent (demandsFault y list) (map (demand y) (range 0 (size y))) list
 
--- The figures: refusals 1 to 7. The bound is k × (n − 1) for k pebbles (Corollary 15). Displaced (disturbed) are the pebbles above the
--- targets, summed: with marks of 0 and 1 the number of starting nodes that are not targets.
-abbrev pub boundAnswer : Yard → Answer ℕ
-boundAnswer y = answer (matchedFault y) (pebbleCount y * (size y - 1))
+-- The figures: refusals 1 to 7. The bound (request 2.2) is how long the plan is: its moves, and the bytes that a list needs to hold it, two a move
+pub record Length : Type 0 where
+  pub moves : ℕ
+  pub listBytes : ℕ
 
+abbrev pub lengthOf : ℕ → Length
+lengthOf moves = record { moves = moves; listBytes = 2 * moves }
+
+abbrev pub boundAnswer : Yard → Answer Length
+boundAnswer y = answer (matchedFault y) (lengthOf (length (plan y)))
+
+-- displaced (disturbed) are the pebbles above the targets, summed: with marks of 0 and 1 the number of starting nodes that are not targets
 abbrev pub displacedAnswer : Yard → Answer ℕ
 displacedAnswer y = answer (matchedFault y) (sum (size y) (λ v. pebble y v - target y v))
+
+-- The figure for n alone (request 2.2): the most moves that a yard of n nodes can need, a quarter of n × n, rounded down; 1, n is 0 or above 256
+abbrev pub longest : ℕ → ℕ
+longest n = n * n / 4
+
+abbrev pub longestFault : ℕ → Option Fault
+longestFault n = unless ((ltb 0 n) && (leb n maxSize)) (fault 1 0)
+
+abbrev pub longestAnswer : ℕ → Answer ℕ
+longestAnswer n = answer (longestFault n) (longest n)

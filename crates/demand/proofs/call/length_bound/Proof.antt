@@ -1,16 +1,16 @@
--- `length_bound` is refused as the yard is, or else gives the product: of a tree the total of the pebble list is the number of pebbles, at most
--- 256, and there is a node, so nothing wraps.
+-- `length_bound` is refused as the yard is, or else gives the shortest length, which is the plan's, and twice as many bytes.
 use borrow.Author.Needs.{needs}
 use native.Mathlib.Omega.{arith}
-use Prim.Native.Nat.{ℕ, _-_, _*_}
-use mathlib.Core.Path.{_≡_, ap, _∙_}
+use Prim.Native.Nat.{ℕ}
+use mathlib.Core.Path.{_≡_, ap}
 use mathlib.Core.Option.{none}
-use Rattle.model.specs.Yard.{Yard, yardOf, size, pebble, sum, pebbleCount}
+use Rattle.model.specs.Yard.{Yard, yardOf}
 use Rattle.model.specs.Judge.{Tree, matchedFault}
 use Rattle.model.specs.Calls.Answers.{answered}
-use Rattle.model.proofs.Judged.{facts}
+use Rattle.model.specs.Calls.Demands.{lengthOf}
 use Rattle.model.proofs.Calls.{sees, matched-tree}
-use Rattle.model.proofs.Places.{bound-small}
+use Rattle.model.proofs.Signed.{shortest-small}
+use Rattle.model.proofs.Longest.{bound-answer}
 use Rattle.demand.proofs.call.length_bound.Statement.{statement}
 use Rattle.demand.proofs.call.length_bound.Tie as tie
 
@@ -37,23 +37,14 @@ returns c = rw (sees (c .before .before .before .test-matched .ensures) (c .befo
 enum-told : tie.Need-enum-told
 enum-told c = search needs
 
-total-requires : tie.Need-total-requires
-total-requires c κs = let f = facts (yard c) (tree c) in omega (arith, f .few, f .pebbles-size)
+shortest-length-requires : tie.Need-shortest-length-requires
+shortest-length-requires c κs = tree c
 
-sub-t8 : tie.Need-sub-t8
-sub-t8 c = omega (arith, facts (yard (c .before)) (tree (c .before)) .few)
-
--- what is multiplied is the number of pebbles
-product : (c : tie.After-total) → c .total .result * (size (yard (c .before)) - 1) ≡ pebbleCount (yard (c .before)) * (size (yard (c .before)) - 1)
-product c =
-    let y = yard (c .before) in
-    ap (λ (k : ℕ). k * (size y - 1)) (c .total .ensures ∙ ap (λ (n : ℕ). sum n (pebble y)) (facts y (tree (c .before)) .pebbles-size))
-
-mul-t9 : tie.Need-mul-t9
-mul-t9 c = omega (arith, product c, bound-small (yard (c .before)) (tree (c .before)))
+mul-t7 : tie.Need-mul-t7
+mul-t7 c = omega (arith, c .shortest-length .ensures, shortest-small (yard (c .before)) (tree (c .before)))
 
 returns-2 : tie.Need-returns-2
-returns-2 c = rw (accepted (c .before)) (ap answered (omega (arith, product c)))
+returns-2 c = rw (bound-answer (yard (c .before)), accepted (c .before)) (ap (λ (n : ℕ). answered (lengthOf n)) (c .shortest-length .ensures))
 
 pub length-bound-spec : {M : Type 1} → statement M
 length-bound-spec =
@@ -63,7 +54,6 @@ length-bound-spec =
     enum-known-tested
     returns
     enum-told
-    total-requires
-    sub-t8
-    mul-t9
+    shortest-length-requires
+    mul-t7
     returns-2)
