@@ -1,4 +1,4 @@
--- The state of `fill`: a node's pending number counts itself, until it is added to its parent, and the nodes under it that wait. At 1 no child
+-- The state of `gather`: a node's pending number counts itself, until it is added to its parent, and the nodes under it that wait. At 1 no child
 -- waits, so its entry is its demand (equation 2); adding it takes one term from the parent's sums and from no other's.
 use mathlib.Core.Path.{_≡_, refl, sym, ap, _∙_}
 use mathlib.Core.Logic.{_≢_}
@@ -13,23 +13,23 @@ use lib.Seq.{getD-set-same, getD-set-other}
 use lib.Dec.{ltb, eqb}
 use lib.IntN.{ℤ, pos, natAbs, subℕ, _+ℤ_}
 use borrow.Author.Tests.{lt-ltb, eqb-true, eq-eqb, ne-eqb}
-use Rattle.model.specs.Yard.{Yard, size, maxSize, parent, pebble, target, one, sum, isChild, targetsIn, pebblesIn, demand}
+use Rattle.model.specs.Yard.{Yard, size, maxSize, parent, pebble, target, one, sum, isChild, root, climbs, targetsIn, pebblesIn, demand}
 use Rattle.model.specs.Judge.{Tree}
 use Rattle.model.proofs.Basics.{eqb-sym, one-le}
-use Rattle.model.proofs.Sums.{sum-cong, sum-add, sum-zero, sum-pick, sum-term}
-use Rattle.model.proofs.Trees.{Child, is-child, child-is, child-off-root}
-use Rattle.model.proofs.Judged.{facts, wood}
-use Rattle.model.proofs.Demands.{overChildren, weight, weight-le, weight-child, subtotal-weight, targetsIn-children, pebblesIn-children}
-use Rattle.model.proofs.Signed.{sub-add}
-use Rattle.demand.proofs.Numbers.{sub-small}
+use Rattle.model.proofs.Sums.{sum-cong, sum-mono, sum-ones, sum-add, sum-zero, sum-pick, sum-term, sum-some}
+use Rattle.model.proofs.Climb.{climbs-self, climbs-fixed, climbs-up, climbs-inside}
+use Rattle.model.proofs.Trees.{Wood, Child, is-child, child-is, child-off-root}
+use Rattle.model.proofs.Judged.{Flat, wood}
+use Rattle.model.proofs.Demands.{overChildren, weight, weight-le, weight-child, targetsIn-children, pebblesIn-children}
+use Rattle.model.proofs.Signed.{sub-size, sub-add, size-add}
 use Rattle.demand.proofs.Lists.{stored}
 
 -- 1 for a node that waits to be added, 0 for one that is added
-abbrev waiting : List ℕ → ℕ → ℕ
+abbrev pub waiting : List ℕ → ℕ → ℕ
 waiting pending v = one (ltb 0 (getD pending v 0))
 
 -- the sum of f over the waiting nodes
-abbrev overWaiting : Yard → List ℕ → (ℕ → ℕ) → ℕ
+abbrev pub overWaiting : Yard → List ℕ → (ℕ → ℕ) → ℕ
 overWaiting y pending f = sum (size y) (λ c. f c * waiting pending c)
 
 -- 1 at the nodes whose parent is v, and f at the children of v
@@ -47,32 +47,45 @@ pub record Entry (y : Yard) (pending : List ℕ) (v : ℕ) (entry : ℤ) : Type 
   pub all-targets : targets + overWaiting y pending (atChildren y (targetsIn y) v) ≡ targetsIn y v
   pub all-pebbles : pebbles + overWaiting y pending (atChildren y (pebblesIn y) v) ≡ pebblesIn y v
 
+-- the size of the entry of v
+abbrev sizeAt : List ℤ → ℕ → ℕ
+sizeAt list v = natAbs (getD list v (pos 0))
+
+-- climbing from v meets a node that waits
+abbrev Reaches : Yard → List ℕ → ℕ → Type 0
+Reaches y pending v = (t : ℕ) × (t < size y) × (waiting pending t ≡ 1) × ((k : ℕ) × (climbs k (y .parents) v t ≡ true))
+
+-- whether the parents are a tree's is not known: only of a tree do the entries say what they are to say. The sizes of what waits never grow
 pub record Partial (y : Yard) (pending : List ℕ) (list : List ℤ) : Type 0 where
-  pub tree : Tree y
+  pub lists : Flat y
   pub room : size y ≤ length pending
   pub long : length list ≡ size y
   pub waits : (v : ℕ) → v < size y → getD pending v 0 ≡ waiting pending v + overWaiting y pending (under y v)
-  pub entry : (v : ℕ) → v < size y → Entry y pending v (getD list v (pos 0))
+  pub entry : Tree y → (v : ℕ) → v < size y → Entry y pending v (getD list v (pos 0))
+  pub sizes : overWaiting y pending (sizeAt list) ≤ maxSize
+  pub reach : (v : ℕ) → v < size y → Reaches y pending v
 
 waits-one : (pending : List ℕ) (v : ℕ) → 0 < getD pending v 0 → waiting pending v ≡ 1
 waits-one pending v l = rw (lt-ltb 0 (getD pending v 0) l)
 
 -- at the start every node waits
-pub starts : (y : Yard) (pending : List ℕ) (list : List ℤ) → Tree y → size y ≤ length pending → length list ≡ size y
+pub starts : (y : Yard) (pending : List ℕ) (list : List ℤ) → Flat y → size y ≤ length pending → length list ≡ size y
     → ((v : ℕ) → v < size y → getD pending v 0 ≡ 1 + sum (size y) (under y v))
     → ((v : ℕ) → v < size y → getD list v (pos 0) ≡ subℕ (target y v) (pebble y v)) → Partial y pending list
-starts y pending list t room long counts own = record {
-  tree = t;
+starts y pending list f room long counts own = record {
+  lists = f;
   room = room;
   long = long;
   waits = λ v l. counts v l ∙ rw (all v l) (ap (λ (x : ℕ). 1 + x) (sum-cong (size y) _ _ (λ c k. rw (all c k) (omega arith))));
-  entry = λ v l. record {
+  entry = λ t v l. record {
     targets = target y v;
     pebbles = pebble y v;
     is = own v l;
     all-targets = ap (λ (x : ℕ). target y v + x) (every (targetsIn y) v) ∙ sym (targetsIn-children y t v l);
     all-pebbles = ap (λ (x : ℕ). pebble y v + x) (every (pebblesIn y) v) ∙ sym (pebblesIn-children y t v l);
   };
+  sizes = omega (arith, sum-mono (size y) (λ v. sizeAt list v * waiting pending v) (λ _. 1) (λ v l. rw (own v l, all v l) (omega (arith, sub-size (target y v) (pebble y v), f .target-le v l, f .pebble-le v l))), sum-ones (size y), f .few);
+  reach = λ v l. (v, l, all v l, (0, climbs-self 0 (y .parents) v));
 }
   where
     all : (v : ℕ) → v < size y → waiting pending v ≡ 1
@@ -81,13 +94,16 @@ starts y pending list t room long counts own = record {
     every : (g : ℕ → ℕ) (v : ℕ) → overWaiting y pending (atChildren y g v) ≡ overChildren (y .parents) g v
     every g v = sum-cong (size y) _ _ (λ c k. rw (all c k) (omega arith))
 
--- an entry is a number from −256 to 256, and the demand if no child waits
-module _ {y : Yard} {pending : List ℕ} {v : ℕ} {z : ℤ} (e : Entry y pending v z) where
-  pub small : Tree y → natAbs z ≤ maxSize
-  small t = rw (e .is) (sub-small (e .targets) (e .pebbles)
-      (omega (arith, e .all-targets, facts y t .few, subtotal-weight (y .parents) (target y) v (facts y t .target-le), weight-le (y .parents) v))
-      (omega (arith, e .all-pebbles, facts y t .few, subtotal-weight (y .parents) (pebble y) v (facts y t .pebble-le), weight-le (y .parents) v)))
+-- the entry of a node that waits is a number from −256 to 256
+pub small : {y : Yard} {pending : List ℕ} {list : List ℤ} → Partial y pending list → (v : ℕ) → v < size y → waiting pending v ≡ 1 → sizeAt list v ≤ maxSize
+small {y} {pending} {list} h v l w = omega (arith, h .sizes, sum-term (size y) v (λ c. sizeAt list c * waiting pending c) l, ap (λ (x : ℕ). sizeAt list v * x) w)
 
+-- at the start all nodes wait
+pub all-wait : (y : Yard) (pending : List ℕ) → ((v : ℕ) → v < size y → 0 < getD pending v 0) → size y ≡ overWaiting y pending (λ _. 1)
+all-wait y pending h = sym (sum-cong (size y) (λ c. 1 * waiting pending c) (λ _. 1) (λ c l. rw (waits-one pending c (h c l))) ∙ sum-ones (size y))
+
+-- an entry is the demand if no child waits
+module _ {y : Yard} {pending : List ℕ} {v : ℕ} {z : ℤ} (e : Entry y pending v z) where
   settled : ((c : ℕ) → Child (y .parents) v c → waiting pending c ≡ 0) → z ≡ demand y v
   settled h = e .is ∙ rw (← (e .all-targets), ← (e .all-pebbles), none (targetsIn y), none (pebblesIn y)) (simp add-zero)
     where
@@ -109,7 +125,7 @@ pub record Ready (y : Yard) (pending : List ℕ) (list : List ℤ) (u : ℕ) : T
   pub alone : getD pending u 0 ≡ 1
 
 module _ {y : Yard} {pending : List ℕ} {list : List ℤ} {u : ℕ} (r : Ready y pending list u) where
-  waits : waiting pending u ≡ 1
+  pub waits : waiting pending u ≡ 1
   waits = waits-one pending u (omega (arith, r .alone))
 
   none-under : overWaiting y pending (under y u) ≡ 0
@@ -122,11 +138,11 @@ module _ {y : Yard} {pending : List ℕ} {list : List ℤ} {u : ℕ} (r : Ready 
   pub child : Child (y .parents) (parent y u) u
   child = record { lt = r .lt; up = refl; other = λ e. omega (arith, none-under, waits, counts u u (r .lt) (sym e)) }
 
-  ready-demand : getD list u (pos 0) ≡ demand y u
-  ready-demand = settled (r .state .entry u (r .lt)) (λ c k. omega (arith, none-under, counts c u (k .lt) (k .up)))
+  ready-demand : Tree y → getD list u (pos 0) ≡ demand y u
+  ready-demand t = settled (r .state .entry t u (r .lt)) (λ c k. omega (arith, none-under, counts c u (k .lt) (k .up)))
 
   pub parent-lt : parent y u < size y
-  parent-lt = wood y (r .state .tree) .parent-lt u (r .lt)
+  parent-lt = r .state .lists .parent-lt u (r .lt)
 
   -- the parent waits for itself and for u
   pub parent-waits : 2 ≤ getD pending (parent y u) 0
@@ -134,6 +150,9 @@ module _ {y : Yard} {pending : List ℕ} {list : List ℤ} {u : ℕ} (r : Ready 
       let e = r .state .waits (parent y u) parent-lt in
       let k = counts u (parent y u) (r .lt) refl in
       omega (arith, waits, waits-one pending (parent y u) (omega (arith, waits)))
+
+  pub above-waits : waiting pending (parent y u) ≡ 1
+  above-waits = waits-one pending (parent y u) (omega (arith, parent-waits))
 
   next : List ℕ
   next = after pending u (parent y u)
@@ -164,6 +183,9 @@ module _ {y : Yard} {pending : List ℕ} {list : List ℤ} {u : ℕ} (r : Ready 
           let same : getD next v 0 ≡ getD pending v 0 = omega (arith, counted v, ap one (ne-eqb v u d), ap one (ne-eqb v (parent y u) g)) in
           rw (same, ne-eqb v u d) (omega arith)
 
+  stays : waiting next (parent y u) ≡ 1
+  stays = omega (arith, waited (parent y u), above-waits, ap one (ne-eqb (parent y u) u (λ e. child .other (sym e))))
+
   -- its term goes from every sum over the waiting nodes
   gone : (f : ℕ → ℕ) → overWaiting y pending f ≡ overWaiting y next f + f u
   gone f =
@@ -171,21 +193,57 @@ module _ {y : Yard} {pending : List ℕ} {list : List ℤ} {u : ℕ} (r : Ready 
       ∙ sum-add (size y) (λ c. f c * waiting next c) (λ c. one (eqb c u) * f c)
       ∙ ap (λ (x : ℕ). overWaiting y next f + x) (sum-pick (size y) u f (r .lt))
 
+  pub fewer : overWaiting y pending (λ _. 1) ≡ overWaiting y (after pending u (parent y u)) (λ _. 1) + 1
+  unfolding next
+  fewer = gone (λ _. 1)
+
   -- the sum of the two entries is one of the parent
-  joined : Entry y next (parent y u) (getD list (parent y u) (pos 0) +ℤ getD list u (pos 0))
-  joined =
-      let e = r .state .entry (parent y u) parent-lt in
+  joined : Tree y → Entry y next (parent y u) (getD list (parent y u) (pos 0) +ℤ getD list u (pos 0))
+  joined t =
+      let e = r .state .entry t (parent y u) parent-lt in
       let c = ap one (child-is (y .parents) (parent y u) u child) in
       record {
         targets = e .targets + targetsIn y u;
         pebbles = e .pebbles + pebblesIn y u;
-        is = rw (e .is, ready-demand) (sub-add (e .targets) (e .pebbles) (targetsIn y u) (pebblesIn y u));
+        is = rw (e .is, ready-demand t) (sub-add (e .targets) (e .pebbles) (targetsIn y u) (pebblesIn y u));
         all-targets = omega (arith, e .all-targets, gone (atChildren y (targetsIn y) (parent y u)), ap (λ (k : ℕ). k * targetsIn y u) c);
         all-pebbles = omega (arith, e .all-pebbles, gone (atChildren y (pebblesIn y) (parent y u)), ap (λ (k : ℕ). k * pebblesIn y u) c);
       }
 
   pub joined-small : natAbs (getD list (parent y u) (pos 0) +ℤ getD list u (pos 0)) ≤ maxSize
-  joined-small = small joined (r .state .tree)
+  joined-small = omega (
+    arith,
+    size-add (getD list (parent y u) (pos 0)) (getD list u (pos 0)),
+    gone (sizeAt list),
+    r .state .sizes,
+    sum-term (size y) (parent y u) (λ c. sizeAt list c * waiting next c) parent-lt,
+    ap (λ (x : ℕ). sizeAt list (parent y u) * x) stays,
+  )
+
+  -- what waits is no larger than before
+  sized : {z : ℤ} → z ≡ getD list (parent y u) (pos 0) +ℤ getD list u (pos 0) → overWaiting y next (sizeAt (set list (parent y u) z)) ≤ maxSize
+  sized {z} q = omega (
+    arith,
+    r .state .sizes,
+    gone (sizeAt list),
+    sum-mono (size y) (λ v. sizeAt (set list (parent y u) z) v * waiting next v) (λ v. sizeAt list v * waiting next v + one (eqb v (parent y u)) * sizeAt list u) (λ v _. at v (ℕ-discrete v (parent y u))),
+    sum-add (size y) (λ v. sizeAt list v * waiting next v) (λ v. one (eqb v (parent y u)) * sizeAt list u),
+    sum-pick (size y) (parent y u) (λ _. sizeAt list u) parent-lt,
+  )
+    where
+      at : (v : ℕ) → Dec (v ≡ parent y u) → sizeAt (set list (parent y u) z) v * waiting next v ≤ sizeAt list v * waiting next v + one (eqb v (parent y u)) * sizeAt list u
+      at v (yes e) =
+          rw (e, getD-set-same list (parent y u) z (pos 0) (omega (arith, r .state .long, parent-lt)), q, stays, eq-eqb (parent y u) (parent y u) refl)
+          (omega (arith, size-add (getD list (parent y u) (pos 0)) (getD list u (pos 0))))
+      at v (no d) = rw (getD-set-other list (parent y u) v z (pos 0) d) (omega arith)
+
+  -- what reached u reaches its parent
+  reaches : (v : ℕ) → v < size y → Reaches y next v
+  reaches v l = let q = r .state .reach v l in go (q .0) (q .1) (q .2) (q .3 .0) (q .3 .1) (ℕ-discrete (q .0) u)
+    where
+      go : (t : ℕ) → t < size y → waiting pending t ≡ 1 → (k : ℕ) → climbs k (y .parents) v t ≡ true → Dec (t ≡ u) → Reaches y next v
+      go t m w k c (yes e) = (parent y u, parent-lt, stays, (suc k, climbs-up k (y .parents) v u (rw e at c)))
+      go t m w k c (no d) = (t, m, omega (arith, waited t, ap one (ne-eqb t u d)), (k, c))
 
   other : {v : ℕ} {z : ℤ} → v ≢ parent y u → Entry y pending v z → Entry y next v z
   other {v} d e = record {
@@ -202,16 +260,18 @@ module _ {y : Yard} {pending : List ℕ} {list : List ℤ} {u : ℕ} (r : Ready 
   pub adds : {z : ℤ} → z ≡ getD list (parent y u) (pos 0) +ℤ getD list u (pos 0) → Partial y (after pending u (parent y u)) (set list (parent y u) z)
   unfolding next
   adds {z} q = record {
-    tree = r .state .tree;
+    lists = r .state .lists;
     room = simp length-set (r .state .room);
     long = simp length-set (r .state .long);
     waits = λ v k. omega (arith, r .state .waits v k, counted v, waited v, ap one (eqb-sym v (parent y u)), gone (under y v));
-    entry = λ v k. at v k (ℕ-discrete v (parent y u));
+    entry = λ t v k. at t v k (ℕ-discrete v (parent y u));
+    sizes = sized q;
+    reach = reaches;
   }
     where
-      at : (v : ℕ) → v < size y → Dec (v ≡ parent y u) → Entry y next v (getD (set list (parent y u) z) v (pos 0))
-      at v k (yes e) = rw (e, getD-set-same list (parent y u) z (pos 0) (omega (arith, r .state .long, parent-lt)), q) joined
-      at v k (no d) = rw (getD-set-other list (parent y u) v z (pos 0) d) (other d (r .state .entry v k))
+      at : Tree y → (v : ℕ) → v < size y → Dec (v ≡ parent y u) → Entry y next v (getD (set list (parent y u) z) v (pos 0))
+      at t v k (yes e) = rw (e, getD-set-same list (parent y u) z (pos 0) (omega (arith, r .state .long, parent-lt)), q) (joined t)
+      at t v k (no d) = rw (getD-set-other list (parent y u) v z (pos 0) d) (other d (r .state .entry t v k))
 
   -- no other node but the parent becomes ready
   pub only : (v : ℕ) → (getD pending v 0 ≡ 1 → v ≡ u) → getD (after pending u (parent y u)) v 0 ≡ 1 → v ≡ parent y u
@@ -223,24 +283,86 @@ module _ {y : Yard} {pending : List ℕ} {list : List ℤ} {u : ℕ} (r : Ready 
       go (yes q) (no g) = absurd (omega (arith, counted v, r .alone, ap one (eq-eqb v u q), ap (λ (v : ℕ). getD pending v 0) q))
       go (no d) (no g) = absurd (d (f (omega (arith, counted v, ap one (ne-eqb v u d), ap one (ne-eqb v (parent y u) g)))))
 
--- if no node is ready, none but the root waits, from the leaves up, and every entry is a demand
+-- where no node is ready
 module _ {y : Yard} {pending : List ℕ} {list : List ℤ} (h : Partial y pending list) (none : (v : ℕ) → v < size y → getD pending v 0 ≡ 1 → ⊥) where
+  -- if one waits, it is its own parent, as else it were ready, and every node climbs to it
+  pub one-left : overWaiting y pending (λ _. 1) ≡ 1 → (r : ℕ) × Wood (y .parents) r
+  one-left e = (
+    r,
+    record {
+      parent-lt = h .lists .parent-lt;
+      root-lt = s .1;
+      root-parent = own (ℕ-discrete (parent y r) r);
+      root-only = λ v l q. let m = h .reach v l in eqb-true v (m .0) (sym (climbs-fixed (m .3 .0) (y .parents) v (m .0) q) ∙ m .3 .1) ∙ alone (m .0) (m .1) (m .2);
+      to-root = λ v l. let m = h .reach v l in climbs-inside (y .parents) (h .lists .parent-lt) r (m .3 .0) v l (rw (alone (m .0) (m .1) (m .2)) at (m .3 .1));
+    },
+  )
+    where
+      s : (v : ℕ) × (v < size y) × (0 < 1 * waiting pending v)
+      s = sum-some (size y) (λ c. 1 * waiting pending c) (omega (arith, e))
+
+      r : ℕ
+      r = s .0
+
+      alone : (t : ℕ) → t < size y → waiting pending t ≡ 1 → t ≡ r
+      alone t l w = go (ℕ-discrete t r)
+        where
+          two : t ≢ r → (c : ℕ) → Dec (c ≡ t) → Dec (c ≡ r) → one (eqb c t) * 1 + one (eqb c r) * 1 ≤ 1 * waiting pending c
+          two d c (yes p) _ = rw (p, eq-eqb t t refl, ne-eqb t r d, w) (omega arith)
+          two d c (no p) (yes q) = rw (ne-eqb c t p, eq-eqb c r q) (omega (arith, s .2, ap (waiting pending) q))
+          two d c (no p) (no q) = rw (ne-eqb c t p, ne-eqb c r q) (omega arith)
+
+          go : Dec (t ≡ r) → t ≡ r
+          go (yes q) = q
+          go (no d) = absurd (omega (
+            arith,
+            e,
+            sum-mono (size y) (λ c. one (eqb c t) * 1 + one (eqb c r) * 1) (λ c. 1 * waiting pending c) (λ c _. two d c (ℕ-discrete c t) (ℕ-discrete c r)),
+            sum-add (size y) (λ c. one (eqb c t) * 1) (λ c. one (eqb c r) * 1),
+            sum-pick (size y) t (λ _. 1) l,
+            sum-pick (size y) r (λ _. 1) (s .1),
+          ))
+
+      own : Dec (parent y r ≡ r) → parent y r ≡ r
+      own (yes q) = q
+      own (no d) = absurd (none r (s .1) (omega (arith, h .waits r (s .1), s .2, one-le (ltb 0 (getD pending r 0)), sum-zero (size y) (λ c. under y r c * waiting pending c) (λ c l. at c l (ltb 0 (getD pending c 0)) refl))))
+        where
+          at : (c : ℕ) → c < size y → (b : Bool) → ltb 0 (getD pending c 0) ≡ b → under y r c * one b ≡ 0
+          at c l true q = rw (alone c l (ap one q), ne-eqb (parent y r) r d)
+          at c l false q = omega arith
+
+-- on a tree none but the root waits, from the leaves up, and every entry is a demand
+module _ {y : Yard} {pending : List ℕ} {list : List ℤ} (h : Partial y pending list) (none : (v : ℕ) → v < size y → getD pending v 0 ≡ 1 → ⊥) (t : Tree y) where
   quiet : (k v : ℕ) → v < size y → weight (y .parents) v ≤ k → (c : ℕ) → Child (y .parents) v c → waiting pending c ≡ 0
-  quiet zero v l b c e = absurd (omega (arith, weight-child (wood y (h .tree)) v c l e))
+  quiet zero v l b c e = absurd (omega (arith, weight-child (wood y t) v c l e))
   quiet (suc k) v l b c e = omega (
     arith,
     h .waits c (e .lt),
     one-le (ltb 0 (getD pending c 0)),
     none c (e .lt),
-    sum-zero (size y) _ (λ d m. go d m (eqb (parent y d) c) refl (quiet k c (e .lt) (omega (arith, weight-child (wood y (h .tree)) v c l e)) d)),
+    sum-zero (size y) _ (λ d m. go d m (eqb (parent y d) c) refl (quiet k c (e .lt) (omega (arith, weight-child (wood y t) v c l e)) d)),
   )
     where
       go : (d : ℕ) → d < size y → (q : Bool) → eqb (parent y d) c ≡ q → (Child (y .parents) c d → waiting pending d ≡ 0) → one q * waiting pending d ≡ 0
       go d m true q ih =
           let p = eqb-true (parent y d) c q in
-          let off : d ≢ c = λ x. child-off-root (wood y (h .tree)) v c e (wood y (h .tree) .root-only c (e .lt) (ap (parent y) (sym x) ∙ p)) in
+          let off : d ≢ c = λ x. child-off-root (wood y t) v c e (wood y t .root-only c (e .lt) (ap (parent y) (sym x) ∙ p)) in
           rw (ih (record { lt = m; up = p; other = off }))
       go d m false q ih = omega arith
 
   pub ends : (v : ℕ) → v < size y → getD list v (pos 0) ≡ demand y v
-  ends v l = settled (h .entry v l) (quiet (size y) v l (weight-le (y .parents) v))
+  ends v l = settled (h .entry t v l) (quiet (size y) v l (weight-le (y .parents) v))
+
+  pub root-left : overWaiting y pending (λ _. 1) ≡ 1
+  root-left =
+      sum-cong (size y) (λ c. 1 * waiting pending c) (λ c. one (eqb c (root y)) * 1) (λ c l. go c l (ℕ-discrete c (root y)))
+      ∙ sum-pick (size y) (root y) (λ _. 1) (wood y t .root-lt)
+    where
+      go : (c : ℕ) → c < size y → Dec (c ≡ root y) → 1 * waiting pending c ≡ one (eqb c (root y)) * 1
+      go c l (yes e) =
+          let m = h .reach c l in
+          let q : c ≡ m .0 = eqb-true c (m .0) (sym (climbs-fixed (m .3 .0) (y .parents) c (m .0) (ap (parent y) e ∙ wood y t .root-parent ∙ sym e)) ∙ m .3 .1) in
+          rw (eq-eqb c (root y) e) (omega (arith, m .2, ap (waiting pending) q))
+      go c l (no d) =
+          rw (ne-eqb c (root y) d)
+          (omega (arith, quiet (size y) (parent y c) (wood y t .parent-lt c l) (weight-le (y .parents) (parent y c)) c (record { lt = l; up = refl; other = λ e. d (wood y t .root-only c l (sym e)) })))

@@ -1,16 +1,22 @@
 // The account call and the figures.
 ghost use mathlib.Core.Path.{_≡_};
+ghost use mathlib.Core.List.{[]};
 ghost use Prim.Native.Nat.{_-_, _≤_};
 ghost use lib.ListN.{length, getD};
-ghost use Rattle.model.specs.Yard.{sum, maxSize, shortest};
+ghost use Rattle.model.specs.Yard.{yardOf, sum, maxSize, shortest};
 ghost use Rattle.model.specs.Given.{given, handed, was, became};
-ghost use Rattle.model.specs.Judge.{Tree};
-ghost use Rattle.model.specs.Calls.Demands.{demandsFault, demandsList, boundAnswer, displacedAnswer, longestAnswer};
+ghost use Rattle.model.specs.Judge.{firstOf, shapeTests, Tree, Parents};
+ghost use Rattle.model.specs.Calls.Answers.{answer};
+ghost use Rattle.model.specs.Calls.Demands.{demandsFault, demandsList, lengthOf, boundAnswer, displacedAnswer, longestAnswer};
 ghost use Rattle.model.specs.Paper.{paperDone, paperCounted, paperMeasured};
 use crate::fill::fill;
+use crate::fill::gather;
 use crate::signed::sizes;
+use judge::test::test_lists;
+use judge::test::test_shape;
 use judge::test::test_yard;
 use judge::totals::test_matched;
+use lists::find::first_own;
 use model::Counted;
 use model::Done;
 use model::Measured;
@@ -44,15 +50,38 @@ pub fn shortest_length(parents: &[u8], pebbles: &[u8], targets: &[u8]) -> usize
     sizes(&list[..n])
 }
 
-// Bound: the moves of the plan and the bytes that its list needs, without planning: the shortest length is the plan's. Refusals 1 to 7. Linear work.
+// What the test of the shape of parents that are nodes refuses, or a length of 0.
+fn refused_shape(parents: &[u8]) -> Measured
+    requires { ⌜ Parents (now parents) ⌝ }
+    ensures { λ r. ⌜ paperMeasured r ≡ answer (firstOf (shapeTests (yardOf (was parents) [] []))) (lengthOf 0) ⌝ }
+{
+    let shape = test_shape(parents);
+    if let Done::Refused(r) = shape {
+        return Measured::Refused(r);
+    }
+    Measured::Length(0, 0)
+}
+
+// Bound: the moves of the plan and the bytes that its list needs, without planning: the shortest length is the plan's. Refusals 1 to 7. Linear work: that
+// the parents are a tree's is seen while the demands are gathered, and the root's demand tells whether the totals differ.
 pub fn length_bound(parents: &[u8], pebbles: &[u8], targets: &[u8]) -> Measured
     ensures { λ r. ⌜ paperMeasured r ≡ boundAnswer (given parents pebbles targets) ⌝ }
 {
-    let tested = test_matched(parents, pebbles, targets);
-    if let Done::Refused(r) = tested {
+    let lists = test_lists(parents, pebbles, targets);
+    if let Done::Refused(r) = lists {
         return Measured::Refused(r);
     }
-    let moves = shortest_length(parents, pebbles, targets);
+    let n = parents.len();
+    let mut demands = [0i16; 256];
+    let left = gather(parents, pebbles, targets, &mut demands[..n]);
+    if left != 1 {
+        return refused_shape(parents);
+    }
+    let root = first_own(parents, 0);
+    if demands[root] != 0 {
+        return Measured::Refused(Refusal::Totals);
+    }
+    let moves = sizes(&demands[..n]);
     Measured::Length(moves, 2 * moves)
 }
 

@@ -4,7 +4,7 @@ ghost use mathlib.Core.List.{[]};
 ghost use lib.ListN.{length};
 ghost use Rattle.model.specs.Yard.{yardOf};
 ghost use Rattle.model.specs.Given.{given, was};
-ghost use Rattle.model.specs.Judge.{firstOf, lengthTests, entryTests, shapeTests, judge, Parents};
+ghost use Rattle.model.specs.Judge.{firstOf, lengthTests, entryTests, listTests, shapeTests, judge, Parents};
 ghost use Rattle.model.specs.Paper.{paperDone};
 use crate::circle::first_circle;
 use lists::find::first_at_least;
@@ -53,8 +53,19 @@ fn test_entries(parents: &[u8], pebbles: &[u8], targets: &[u8]) -> Done
     Done::Accepted
 }
 
+// Refusals 1 to 4.
+pub fn test_lists(parents: &[u8], pebbles: &[u8], targets: &[u8]) -> Done
+    ensures { λ r. ⌜ paperDone r ≡ firstOf (listTests (given parents pebbles targets)) ⌝ }
+{
+    let lengths = test_lengths(parents, pebbles, targets);
+    if let Done::Refused(r) = lengths {
+        return Done::Refused(r);
+    }
+    test_entries(parents, pebbles, targets)
+}
+
 // Refusals 5 and 6, of parents that are nodes.
-fn test_shape(parents: &[u8]) -> Done
+pub fn test_shape(parents: &[u8]) -> Done
     requires { ⌜ Parents (now parents) ⌝ }
     ensures { λ r. ⌜ paperDone r ≡ firstOf (shapeTests (yardOf (was parents) [] [])) ⌝ }
 {
@@ -78,12 +89,8 @@ fn test_shape(parents: &[u8]) -> Done
 pub fn test_yard(parents: &[u8], pebbles: &[u8], targets: &[u8]) -> Done
     ensures { λ r. ⌜ paperDone r ≡ judge (given parents pebbles targets) ⌝ }
 {
-    let lengths = test_lengths(parents, pebbles, targets);
-    if let Done::Refused(r) = lengths {
-        return Done::Refused(r);
-    }
-    let entries = test_entries(parents, pebbles, targets);
-    if let Done::Refused(r) = entries {
+    let lists = test_lists(parents, pebbles, targets);
+    if let Done::Refused(r) = lists {
         return Done::Refused(r);
     }
     test_shape(parents)

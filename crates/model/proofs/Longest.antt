@@ -11,18 +11,18 @@ use native.Mathlib.Nat.{mul-sub, mul-le-mul-left, div-mul-le-self, lt-div-mul-ad
 use native.Mathlib.Omega.{arith}
 use native.Mathlib.Decide.{ℕ-discrete, decLe}
 use lib.ListN.{length}
-use lib.Dec.{leb, ltb, eqb}
+use lib.Dec.{leb, ltb, eqb, leb·zero}
 use borrow.Author.Tests.{leb-true, leb-false, ltb-true, ltb-false, lt-ltb, le-ltb, le-leb, lt-leb, eq-eqb, ne-eqb}
 use Rattle.model.specs.Yard.{Yard, yardOf, size, maxSize, up, pebble, target, one, sum, below, roots, root, climbs, inside, subtotal, pebblesIn, targetsIn, imbalance, shortest, Matched}
-use Rattle.model.specs.Judge.{Fault, atLowest, rootFault, Tree, matchedFault}
+use Rattle.model.specs.Judge.{Fault, atLowest, shapeTests, Tree, matchedFault}
 use Rattle.model.specs.Plan.{plan}
 use Rattle.model.specs.Calls.Answers.{answered, answer, range}
 use Rattle.model.specs.Calls.Plans.{planFault, planAnswer}
 use Rattle.model.specs.Calls.Demands.{Length, lengthOf, boundAnswer, longest}
-use Rattle.model.proofs.Basics.{one-le, none-below}
+use Rattle.model.proofs.Basics.{one-le, none-below, none-all}
 use Rattle.model.proofs.Sums.{sum-cong, sum-add, sum-scale, sum-ones, sum-front}
-use Rattle.model.proofs.Found.{below-rest}
-use Rattle.model.proofs.Judged.{tree, wood}
+use Rattle.model.proofs.Trees.{Wood}
+use Rattle.model.proofs.Judged.{tree, wood, roots-wood, shape-wood}
 use Rattle.model.proofs.Demands.{root-subtotal}
 use Rattle.model.proofs.Ranges.{length-range, getD-range}
 use Rattle.model.proofs.Calls.{answer-answered, plan-none, matched-tree}
@@ -164,18 +164,17 @@ module _ (k n : ℕ) where
 
 -- the line is a tree with the root 0
 module _ (n : ℕ) (l : 0 < n) where
-  roots-line : roots (lineParents n) ≡ 0 ∷ []
-  unfolding roots
-  roots-line =
-      rw (length-line n, below-rest n 0 own l (eq-eqb _ _ (up-line n 0 l)) (λ v k. absurd (omega arith)))
-      (ap (λ (vs : List ℕ). 0 ∷ vs) (none-below n (λ v. (leb 1 v) && (own v)) (λ v k. other v k (decLe 1 v))))
-    where
-      own : ℕ → Bool
-      own v = eqb (up (lineParents n) v) v
+  lt : {v : ℕ} → v < length (lineParents n) → v < n
+  lt k = omega (arith, length-line n)
 
-      other : (v : ℕ) → v < n → Dec (1 ≤ v) → ((leb 1 v) && (own v)) ≡ false
-      other v k (yes h) = rw (le-leb 1 v h, up-line n v k) (ne-eqb (v - 1) v (omega arith))
-      other v k (no h) = rw (lt-leb 1 v (omega arith))
+  wood-line : Wood (lineParents n) 0
+  wood-line = record {
+    parent-lt = λ v k. omega (arith, length-line n, up-line n v (lt k));
+    root-lt = omega (arith, length-line n);
+    root-parent = up-line n 0 l;
+    root-only = λ v k e. omega (arith, up-line n v (lt k));
+    to-root = λ v k. inside-line n 0 v (lt k) ∙ leb·zero v;
+  }
 
   tree-line : n ≤ maxSize → Tree (lineYard 1 n)
   tree-line h = tree (lineYard 1 n) (
@@ -187,30 +186,21 @@ module _ (n : ℕ) (l : 0 < n) where
         (
           small (last n),
           (
-            ap (atLowest 4) (none-below (length (lineParents n)) _ (λ v k. rw (length-line n, up-line n v (lt v k)) (lt-leb n (v - 1) (omega (arith, lt v k))))),
-            (
-              ap rootFault roots-line,
-              (
-                ap (atLowest 6) (none-below (length (lineParents n)) _ (λ v k. rw (roots-line, length-line n, climbs-to n n v 0 (lt v k) (omega arith) (omega (arith, lt v k))))),
-                tt,
-              ),
-            ),
+            ap (atLowest 4) (none-below (length (lineParents n)) _ (λ v k. lt-leb (length (lineParents n)) (up (lineParents n) v) (wood-line .parent-lt v k))),
+            none-all (shapeTests (lineYard 1 n)) (shape-wood wood-line (heaps 1 n (first n)) (heaps 1 n (last n))),
           ),
         ),
       ),
     ),
   )
     where
-      lt : (v : ℕ) → v < length (lineParents n) → v < n
-      lt v k = omega (arith, length-line n)
-
       small : (p : ℕ → Bool) → atLowest 3 (below (length (lineParents n)) (λ v. ltb 1 (up (heaps 1 n p) v))) ≡ none
-      small p = ap (atLowest 3) (none-below (length (lineParents n)) _ (λ v k. rw (heap n 1 p v (lt v k)) (le-ltb 1 (1 * one (p v)) (omega (arith, one-le (p v))))))
+      small p = ap (atLowest 3) (none-below (length (lineParents n)) _ (λ v k. rw (heap n 1 p v (lt k)) (le-ltb 1 (1 * one (p v)) (omega (arith, one-le (p v))))))
 
   matched-line : n ≤ maxSize → Matched (lineYard 1 n)
   matched-line h =
       let t = tree-line h in
-      let r : root (lineYard 1 n) ≡ 0 = rw roots-line in
+      let r : root (lineYard 1 n) ≡ 0 = rw (roots-wood wood-line) in
       omega (
         arith,
         half n,

@@ -41,6 +41,9 @@ pub parts-size : (k : ℤ) → natAbs k ≡ above0 k + below0 k
 parts-size (pos n) = omega arith
 parts-size (negsuc n) = omega arith
 
+pub sub-size : (a b : ℕ) → natAbs (subℕ a b) ≡ (a - b) + (b - a)
+sub-size a b = parts-size (subℕ a b) ∙ rw (sub-parts a b .0, sub-parts a b .1)
+
 -- the demand is what its subtree lacks minus what it has too many, one of which is 0, and its size is their sum
 pub demand-parts : (y : Yard) (v : ℕ) → (above0 (demand y v) ≡ lacking y v) × (below0 (demand y v) ≡ surplus y v)
 demand-parts y v = sub-parts (targetsIn y v) (pebblesIn y v)
@@ -49,7 +52,7 @@ pub demand-is : (y : Yard) (v : ℕ) → demand y v ≡ subℕ (lacking y v) (su
 demand-is y v = parts-sub (demand y v) ∙ rw (demand-parts y v .0, demand-parts y v .1)
 
 pub demand-size : (y : Yard) (v : ℕ) → natAbs (demand y v) ≡ imbalance y v
-demand-size y v = parts-size (demand y v) ∙ rw (demand-parts y v .0, demand-parts y v .1)
+demand-size y v = sub-size (targetsIn y v) (pebblesIn y v)
 
 -- it lies from −256 to 256, whatever the totals: no subtree has more nodes, and no node more than one pebble or target
 pub demand-range : (y : Yard) → Tree y → (v : ℕ) → natAbs (demand y v) ≤ maxDemand
@@ -87,6 +90,13 @@ pub sub-add : (a b c d : ℕ) → subℕ a b +ℤ subℕ c d ≡ subℕ (a + c) 
 sub-add a b zero zero = +ℤ-idr (subℕ a b) ∙ rw (add-zero a, add-zero b)
 sub-add a b (suc c) zero = ap (λ (k : ℤ). subℕ a b +ℤ k) (suc-sub c 0) ∙ +ℤ-sucℤ (subℕ a b) (subℕ c 0) ∙ ap sucℤ (sub-add a b c 0) ∙ sym (suc-sub (a + c) (b + 0)) ∙ rw (add-suc a c)
 sub-add a b c (suc d) = ap (λ (k : ℤ). subℕ a b +ℤ k) (sub-suc c d) ∙ +ℤ-predℤ (subℕ a b) (subℕ c d) ∙ ap predℤ (sub-add a b c d) ∙ sym (sub-suc (a + c) (b + d)) ∙ rw (add-suc b d)
+
+-- a sum is no larger than its parts together
+pub size-add : (a b : ℤ) → natAbs (a +ℤ b) ≤ natAbs a + natAbs b
+size-add a b =
+    let e : a +ℤ b ≡ subℕ (above0 a + above0 b) (below0 a + below0 b)
+    = ap (λ (k : ℤ). k +ℤ b) (parts-sub a) ∙ ap (λ (k : ℤ). subℕ (above0 a) (below0 a) +ℤ k) (parts-sub b) ∙ sub-add (above0 a) (below0 a) (above0 b) (below0 b) in
+    omega (arith, ap natAbs e, sub-size (above0 a + above0 b) (below0 a + below0 b), parts-size a, parts-size b)
 
 -- the sum of a list of signed numbers
 unfoldable pub sumℤ : List ℤ → ℤ

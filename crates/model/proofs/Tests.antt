@@ -10,7 +10,7 @@ use lib.ListN.{length, getD}
 use lib.Dec.{leb, ltb, eqb, leb·zero}
 use borrow.Author.Tests.{ltb-true, leb-true, eqb-true, lt-ltb, le-leb, lt-leb, leb-false, eq-eqb, ne-eqb}
 use Rattle.model.specs.Yard.{Yard, yardOf, maxSize, up, below, climbs, roots, headOr}
-use Rattle.model.specs.Judge.{Fault, fault, firstOf, sizeFault, rootFault, lengthTests, entryTests, shapeTests, judge}
+use Rattle.model.specs.Judge.{Fault, fault, firstOf, sizeFault, rootFault, lengthTests, entryTests, listTests, shapeTests, judge}
 use Rattle.model.proofs.Basics.{first-refused, first-passed, below-none, none-all, unless-none, atLowest-none}
 use Rattle.model.proofs.Found.{lowest-fault, lowest-none, lowest-is, below-rest, below-cong}
 
@@ -67,11 +67,6 @@ module _ (ps qs ts : List ℕ) where
       pub entries-pass : (r : ℕ) → r ≡ headOr (length ps) (below (length ps) outside) → length ps ≤ r → none ≡ firstOf (entryTests (yardOf ps qs ts))
       entries-pass r g n = rw (lowest-none (length ps) (above1 qs) p e l, lowest-none (length ps) (above1 ts) t f m, lowest-none (length ps) outside r g n)
 
-  pub passed-parents : none ≡ firstOf (entryTests (yardOf ps qs ts)) → (v : ℕ) → v < length ps → up ps v < length ps
-  passed-parents e v l =
-      let a = none-all (entryTests (yardOf ps qs ts)) (sym e) in
-      leb-false (length ps) (up ps v) (below-none (length ps) outside (atLowest-none 4 (below (length ps) outside) (a .1 .1 .0)) v l)
-
 -- 5 and 6, by what the searches for a root, for a second one behind it and for a circle answer
 module _ (ps : List ℕ) where
   abbrev shape : List (Option Fault)
@@ -114,17 +109,18 @@ module _ (ps : List ℕ) where
       pub shape-pass : (c : ℕ) → c ≡ headOr (length ps) (below (length ps) lost) → length ps ≤ c → none ≡ firstOf shape
       shape-pass c g n = rw (one-root, lowest-none (length ps) lost c g n)
 
--- all six, by the three groups
+-- 1 to 4, and all six, by the groups
 module _ (y : Yard) where
-  pub judge-lengths : (f : Fault) → some f ≡ firstOf (lengthTests y) → some f ≡ judge y
+  pub lists-lengths : (f : Fault) → some f ≡ firstOf (lengthTests y) → some f ≡ firstOf (listTests y)
+  lists-lengths f e = sym (first-refused (lengthTests y) (entryTests y) f (sym e))
+
+  pub lists-entries : none ≡ firstOf (lengthTests y) → firstOf (entryTests y) ≡ firstOf (listTests y)
+  lists-entries e = sym (first-passed (lengthTests y) (entryTests y) (sym e))
+
+  pub judge-lists : (f : Fault) → some f ≡ firstOf (listTests y) → some f ≡ judge y
   unfolding judge
-  judge-lengths f e = sym (first-refused (lengthTests y) (entryTests y ++ shapeTests y) f (sym e))
+  judge-lists f e = sym (first-refused (listTests y) (shapeTests y) f (sym e))
 
-  module _ (p : none ≡ firstOf (lengthTests y)) where
-    pub judge-entries : (f : Fault) → some f ≡ firstOf (entryTests y) → some f ≡ judge y
-    unfolding judge
-    judge-entries f e = sym (first-passed (lengthTests y) (entryTests y ++ shapeTests y) (sym p) ∙ first-refused (entryTests y) (shapeTests y) f (sym e))
-
-    pub judge-shape : none ≡ firstOf (entryTests y) → firstOf (shapeTests y) ≡ judge y
-    unfolding judge
-    judge-shape e = sym (first-passed (lengthTests y) (entryTests y ++ shapeTests y) (sym p) ∙ first-passed (entryTests y) (shapeTests y) (sym e))
+  pub judge-shape : none ≡ firstOf (listTests y) → firstOf (shapeTests y) ≡ judge y
+  unfolding judge
+  judge-shape e = sym (first-passed (listTests y) (shapeTests y) (sym e))

@@ -65,13 +65,17 @@ entryTests y =
     ∷ atLowest 4 (below (size y) (λ v. leb (size y) (parent y v)))
     ∷ []
 
+-- both: refusals 1 to 4, on what the lists say entry by entry
+abbrev pub listTests : Yard → List (Option Fault)
+listTests y = lengthTests y ++ entryTests y
+
 -- the shape: 5, and 6, a circle, at the lowest node from which climbing does not reach the root (in n steps: so in none, `never-root`)
 abbrev pub shapeTests : Yard → List (Option Fault)
 shapeTests y = rootFault (roots (y .parents)) ∷ atLowest 6 (below (size y) (λ v. not (climbs (size y) (y .parents) v (root y)))) ∷ []
 
 -- all of them, in their order
 abbrev pub tests : Yard → List (Option Fault)
-tests y = lengthTests y ++ (entryTests y ++ shapeTests y)
+tests y = listTests y ++ shapeTests y
 
 unfoldable pub judge : Yard → Option Fault
 judge y = firstOf (tests y)
