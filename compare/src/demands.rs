@@ -17,6 +17,16 @@ pub fn of_tree(yard: &Yard) -> Vec<i16> {
     demands
 }
 
+/// Whether a list of numbers meets equation 2 of the source at every node (request 2.3): target minus pebble, plus what the list has for the children.
+pub fn meets_equation_2(yard: &Yard, list: &[i16]) -> bool {
+    let children = yard.children();
+    let asked = |node: usize| -> i16 {
+        let own = i16::from(yard.targets[node]) - i16::from(yard.pebbles[node]);
+        own + children[node].iter().map(|&child| list[child]).sum::<i16>()
+    };
+    (0..yard.nodes()).all(|node| list[node] == asked(node))
+}
+
 /// The call that writes them into a list of the given length. Totals may differ.
 pub fn list(yard: &Yard, length: usize) -> Answer<Vec<i16>> {
     judge(yard)?;

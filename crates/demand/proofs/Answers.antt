@@ -2,10 +2,9 @@
 -- their sizes add up to the shortest length.
 use mathlib.Core.Path.{_≡_, sym, ap, _∙_}
 use mathlib.Core.Logic.{_↔_}
-use mathlib.Core.List.{List, _++_, map}
+use mathlib.Core.List.{List, _++_}
 use mathlib.Core.Option.{Option, none, some}
 use Prim.Native.Nat.{ℕ, _≤_, _<_}
-use native.Mathlib.Nat.{zero-add}
 use native.Mathlib.Omega.{arith}
 use lib.ListN.{length, getD, take, replicate, length-replicate, List·getD-append}
 use lib.Seq.{take-at}
@@ -13,10 +12,11 @@ use lib.IntN.{ℤ, pos, negsuc, natAbs}
 use borrow.Author.Tests.{eq-eqb, ne-eqb}
 use Rattle.model.specs.Yard.{Yard, size, maxSize, pebble, target, root, sum, demand, imbalance, shortest, Matched}
 use Rattle.model.specs.Judge.{Fault, fault, firstOf, listTests, shapeTests, judge, Tree}
-use Rattle.model.specs.Calls.Answers.{answer, lent, range}
-use Rattle.model.specs.Calls.Demands.{demandsFault, lengthOf, boundAnswer}
+use Rattle.model.specs.Calls.Answers.{answer, lent}
+use Rattle.model.specs.Calls.Demands.{demandsFault, demandsOf, lengthOf, boundAnswer}
 use Rattle.model.proofs.Sums.{sum-cong}
-use Rattle.model.proofs.Ranges.{length-range, getD-range}
+use Rattle.model.proofs.Ranges.{length-range}
+use Rattle.model.proofs.Equation2.{demands-entry}
 use Rattle.model.proofs.Judged.{facts, wood}
 use Rattle.model.proofs.Tests.{judge-shape}
 use Rattle.model.proofs.Demands.{root-subtotal, root-even}
@@ -70,7 +70,7 @@ module _ (y : Yard) where
 
   module _ (t : Tree y) where
     -- a list of all demands
-    pub demands-small : {list : List ℤ} → list ≡ map (demand y) (range 0 (size y)) → (length list ≤ maxSize) × ((v : ℕ) → natAbs (getD list v (pos 0)) ≤ maxSize)
+    pub demands-small : {list : List ℤ} → list ≡ demandsOf y → (length list ≤ maxSize) × ((v : ℕ) → natAbs (getD list v (pos 0)) ≤ maxSize)
     demands-small e = rw e (
       omega (arith, length-range (demand y) 0 (size y), facts y t .few),
       all-listed (λ z. natAbs z ≤ maxSize) (demand y) (omega arith) (demand-range y t) 0 (size y),
@@ -80,19 +80,19 @@ module _ (y : Yard) where
     pub demands-room : size y ≤ length (replicate 256 (pos 0))
     demands-room = array-room (size y) (facts y t .few .1)
 
-  pub demands-long : {list : List ℤ} → list ≡ map (demand y) (range 0 (size y)) → length list ≡ size y
+  pub demands-long : {list : List ℤ} → list ≡ demandsOf y → length list ≡ size y
   demands-long e = ap length e ∙ length-range (demand y) 0 (size y)
 
   -- and whatever lies behind it there, it is the first n entries
-  pub demands-front : {list : List ℤ} (rest : List ℤ) → list ≡ map (demand y) (range 0 (size y)) → take (size y) (list ++ rest) ≡ map (demand y) (range 0 (size y))
+  pub demands-front : {list : List ℤ} (rest : List ℤ) → list ≡ demandsOf y → take (size y) (list ++ rest) ≡ demandsOf y
   demands-front {list} rest e = take-at list rest (size y) (demands-long e) ∙ e
 
-  pub demands-at : {list : List ℤ} (rest : List ℤ) (v : ℕ) → list ≡ map (demand y) (range 0 (size y)) → v < size y → getD (list ++ rest) v (pos 0) ≡ demand y v
+  pub demands-at : {list : List ℤ} (rest : List ℤ) (v : ℕ) → list ≡ demandsOf y → v < size y → getD (list ++ rest) v (pos 0) ≡ demand y v
   demands-at {list} rest v e l =
-      List·getD-append list rest (pos 0) v (omega (arith, demands-long e)) ∙ rw e (getD-range (demand y) (pos 0) 0 (size y) v l ∙ ap (demand y) (zero-add v))
+      List·getD-append list rest (pos 0) v (omega (arith, demands-long e)) ∙ rw e (demands-entry y v l)
 
-  pub demands-sum : {list : List ℤ} → list ≡ map (demand y) (range 0 (size y)) → sum (length list) (λ v. natAbs (getD list v (pos 0))) ≡ shortest y
+  pub demands-sum : {list : List ℤ} → list ≡ demandsOf y → sum (length list) (λ v. natAbs (getD list v (pos 0))) ≡ shortest y
   unfolding shortest
   demands-sum e =
       rw (e, length-range (demand y) 0 (size y))
-      (sum-cong (size y) _ (imbalance y) (λ v l. ap natAbs (getD-range (demand y) (pos 0) 0 (size y) v l ∙ ap (demand y) (zero-add v)) ∙ demand-size y v))
+      (sum-cong (size y) _ (imbalance y) (λ v l. ap natAbs (demands-entry y v l) ∙ demand-size y v))

@@ -1,9 +1,7 @@
--- Lists by their entries. A store changes the entry at its place and no other; a list whose entries are f of the numbers from a on is the
--- list of those.
-use mathlib.Core.Path.{_≡_, refl, ap, _∙_}
-use mathlib.Core.List.{List, [], _∷_, map}
+-- Lists by their entries. A store changes the entry at its place and no other; what holds of f everywhere holds of a list of f at rising numbers.
+use mathlib.Core.Path.{_≡_, refl}
+use mathlib.Core.List.{List, map}
 use Prim.Native.Nat.{ℕ, zero, suc, _+_, _*_, _<_}
-use native.Mathlib.Nat.{add-zero}
 use native.Mathlib.Omega.{arith}
 use native.Mathlib.Decide.{ℕ-discrete}
 use lib.ListN.{length, getD, set}
@@ -22,12 +20,7 @@ stored xs i v a d e l h = go (ℕ-discrete v i)
     go (yes q) = rw (q, eq-eqb i i refl, getD-set-same xs i a 0 l) (omega arith)
     go (no n) = rw (ne-eqb v i n, getD-set-other xs i v a 0 n) (omega arith)
 
-pub listed : (f : ℕ → ℤ) (a : ℕ) (xs : List ℤ) → ((v : ℕ) → v < length xs → getD xs v (pos 0) ≡ f (a + v)) → xs ≡ map f (range a (length xs))
-unfolding range
-listed f a [] h = refl
-listed f a (x ∷ xs) h = cc (h 0 (omega arith), add-zero a, listed f (suc a) xs (λ v l. h (suc v) (omega arith) ∙ ap f (omega arith)))
-
--- what holds of 0 and of every f v holds of each of its entries, past the end too
+-- what holds of 0 and of every f v holds of each entry, past the end too
 pub all-listed : (P : ℤ → Type 0) (f : ℕ → ℤ) → P (pos 0) → ((v : ℕ) → P (f v)) → (a k v : ℕ) → P (getD (map f (range a k)) v (pos 0))
 unfolding range
 all-listed P f z h a zero v = z

@@ -1,27 +1,28 @@
--- The state of `gather`: a node's pending number counts itself, until it is added to its parent, and the nodes under it that wait. At 1 no child
--- waits, so its entry is its demand (equation 2); adding it takes one term from the parent's sums and from no other's.
+-- The state of `gather`: a node's pending number counts itself, until it is added to its parent, and the nodes under it that wait; its entry is what
+-- equation 2 says of the children that are added. At 1 no child waits; adding the node changes its parent's entry and sum, and no other.
 use mathlib.Core.Path.{_≡_, refl, sym, ap, _∙_}
 use mathlib.Core.Logic.{_≢_}
-use mathlib.Core.Bool.{Bool, true, false}
-use mathlib.Core.List.{List}
+use mathlib.Core.Bool.{Bool, true, false, not, _&&_, _||_, and-false, and-eq-true-iff}
+use mathlib.Core.List.{List, [], map}
 use Prim.Native.Nat.{ℕ, zero, suc, _+_, _-_, _*_, _≤_, _<_}
-use native.Mathlib.Nat.{add-zero}
 use native.Mathlib.Omega.{arith}
 use native.Mathlib.Decide.{ℕ-discrete}
 use lib.ListN.{length, getD, set, length-set}
 use lib.Seq.{getD-set-same, getD-set-other}
 use lib.Dec.{ltb, eqb}
-use lib.IntN.{ℤ, pos, natAbs, subℕ, _+ℤ_}
-use borrow.Author.Tests.{lt-ltb, eqb-true, eq-eqb, ne-eqb}
-use Rattle.model.specs.Yard.{Yard, size, maxSize, parent, pebble, target, one, sum, isChild, root, climbs, targetsIn, pebblesIn, demand}
+use lib.IntN.{ℤ, pos, natAbs, subℕ, _+ℤ_, +ℤ-idr, +ℤ-assoc}
+use borrow.Author.Tests.{lt-ltb, eqb-true, eq-eqb, ne-eqb, not-true}
+use Rattle.model.specs.Yard.{Yard, size, maxSize, parent, pebble, target, one, sum, below, isChild, root, climbs, sumℤ, entry, Equation2}
 use Rattle.model.specs.Judge.{Tree}
-use Rattle.model.proofs.Basics.{eqb-sym, one-le}
+use Rattle.model.proofs.Basics.{eqb-sym, one-le, all-below, none-below}
+use Rattle.model.proofs.Found.{below-cong}
+use Rattle.model.proofs.Ranges.{map-all}
 use Rattle.model.proofs.Sums.{sum-cong, sum-mono, sum-ones, sum-add, sum-zero, sum-pick, sum-term, sum-some}
 use Rattle.model.proofs.Climb.{climbs-self, climbs-fixed, climbs-up, climbs-inside}
 use Rattle.model.proofs.Trees.{Wood, Child, is-child, child-is, child-off-root}
 use Rattle.model.proofs.Judged.{Flat, wood}
-use Rattle.model.proofs.Demands.{overChildren, weight, weight-le, weight-child, targetsIn-children, pebblesIn-children}
-use Rattle.model.proofs.Signed.{sub-size, sub-add, size-add}
+use Rattle.model.proofs.Demands.{weight, weight-le, weight-child}
+use Rattle.model.proofs.Signed.{sub-size, size-add, sum-insert}
 use Rattle.demand.proofs.Lists.{stored}
 
 -- 1 for a node that waits to be added, 0 for one that is added
@@ -32,20 +33,16 @@ waiting pending v = one (ltb 0 (getD pending v 0))
 abbrev pub overWaiting : Yard → List ℕ → (ℕ → ℕ) → ℕ
 overWaiting y pending f = sum (size y) (λ c. f c * waiting pending c)
 
--- 1 at the nodes whose parent is v, and f at the children of v
+-- 1 at the nodes whose parent is v
 abbrev under : Yard → ℕ → ℕ → ℕ
 under y v c = one (eqb (parent y c) v)
 
-abbrev atChildren : Yard → (ℕ → ℕ) → ℕ → ℕ → ℕ
-atChildren y f v c = one (isChild (y .parents) v c) * f c
+-- the children of v that are added, and their entries summed
+abbrev added : Yard → List ℕ → ℕ → ℕ → Bool
+added y pending v c = (isChild (y .parents) v c) && (not (ltb 0 (getD pending c 0)))
 
--- an entry of v: some targets minus some pebbles, which with those of its waiting children are all of its subtree
-pub record Entry (y : Yard) (pending : List ℕ) (v : ℕ) (entry : ℤ) : Type 0 where
-  pub targets : ℕ
-  pub pebbles : ℕ
-  pub is : entry ≡ subℕ targets pebbles
-  pub all-targets : targets + overWaiting y pending (atChildren y (targetsIn y) v) ≡ targetsIn y v
-  pub all-pebbles : pebbles + overWaiting y pending (atChildren y (pebblesIn y) v) ≡ pebblesIn y v
+abbrev taken : Yard → List ℕ → List ℤ → ℕ → ℤ
+taken y pending list v = sumℤ (map (entry list) (below (size y) (added y pending v)))
 
 -- the size of the entry of v
 abbrev sizeAt : List ℤ → ℕ → ℕ
@@ -55,13 +52,13 @@ sizeAt list v = natAbs (getD list v (pos 0))
 abbrev Reaches : Yard → List ℕ → ℕ → Type 0
 Reaches y pending v = (t : ℕ) × (t < size y) × (waiting pending t ≡ 1) × ((k : ℕ) × (climbs k (y .parents) v t ≡ true))
 
--- whether the parents are a tree's is not known: only of a tree do the entries say what they are to say. The sizes of what waits never grow
+-- equation 2 as far as children are added; the sizes of what waits never grow, and whether the parents are a tree's is not known
 pub record Partial (y : Yard) (pending : List ℕ) (list : List ℤ) : Type 0 where
   pub lists : Flat y
   pub room : size y ≤ length pending
   pub long : length list ≡ size y
   pub waits : (v : ℕ) → v < size y → getD pending v 0 ≡ waiting pending v + overWaiting y pending (under y v)
-  pub entry : Tree y → (v : ℕ) → v < size y → Entry y pending v (getD list v (pos 0))
+  pub entry : (v : ℕ) → v < size y → entry list v ≡ subℕ (target y v) (pebble y v) +ℤ taken y pending list v
   pub sizes : overWaiting y pending (sizeAt list) ≤ maxSize
   pub reach : (v : ℕ) → v < size y → Reaches y pending v
 
@@ -72,18 +69,13 @@ waits-one pending v l = rw (lt-ltb 0 (getD pending v 0) l)
 pub starts : (y : Yard) (pending : List ℕ) (list : List ℤ) → Flat y → size y ≤ length pending → length list ≡ size y
     → ((v : ℕ) → v < size y → getD pending v 0 ≡ 1 + sum (size y) (under y v))
     → ((v : ℕ) → v < size y → getD list v (pos 0) ≡ subℕ (target y v) (pebble y v)) → Partial y pending list
+unfolding sumℤ
 starts y pending list f room long counts own = record {
   lists = f;
   room = room;
   long = long;
   waits = λ v l. counts v l ∙ rw (all v l) (ap (λ (x : ℕ). 1 + x) (sum-cong (size y) _ _ (λ c k. rw (all c k) (omega arith))));
-  entry = λ t v l. record {
-    targets = target y v;
-    pebbles = pebble y v;
-    is = own v l;
-    all-targets = ap (λ (x : ℕ). target y v + x) (every (targetsIn y) v) ∙ sym (targetsIn-children y t v l);
-    all-pebbles = ap (λ (x : ℕ). pebble y v + x) (every (pebblesIn y) v) ∙ sym (pebblesIn-children y t v l);
-  };
+  entry = λ v l. own v l ∙ sym (ap (λ (vs : List ℕ). subℕ (target y v) (pebble y v) +ℤ sumℤ (map (entry list) vs)) (none v) ∙ +ℤ-idr (subℕ (target y v) (pebble y v)));
   sizes = omega (arith, sum-mono (size y) (λ v. sizeAt list v * waiting pending v) (λ _. 1) (λ v l. rw (own v l, all v l) (omega (arith, sub-size (target y v) (pebble y v), f .target-le v l, f .pebble-le v l))), sum-ones (size y), f .few);
   reach = λ v l. (v, l, all v l, (0, climbs-self 0 (y .parents) v));
 }
@@ -91,8 +83,8 @@ starts y pending list f room long counts own = record {
     all : (v : ℕ) → v < size y → waiting pending v ≡ 1
     all v l = waits-one pending v (omega (arith, counts v l))
 
-    every : (g : ℕ → ℕ) (v : ℕ) → overWaiting y pending (atChildren y g v) ≡ overChildren (y .parents) g v
-    every g v = sum-cong (size y) _ _ (λ c k. rw (all c k) (omega arith))
+    none : (v : ℕ) → below (size y) (added y pending v) ≡ []
+    none v = none-below (size y) (added y pending v) (λ c l. rw (lt-ltb 0 (getD pending c 0) (omega (arith, counts c l))) (and-false (isChild (y .parents) v c)))
 
 -- the entry of a node that waits is a number from −256 to 256
 pub small : {y : Yard} {pending : List ℕ} {list : List ℤ} → Partial y pending list → (v : ℕ) → v < size y → waiting pending v ≡ 1 → sizeAt list v ≤ maxSize
@@ -101,18 +93,6 @@ small {y} {pending} {list} h v l w = omega (arith, h .sizes, sum-term (size y) v
 -- at the start all nodes wait
 pub all-wait : (y : Yard) (pending : List ℕ) → ((v : ℕ) → v < size y → 0 < getD pending v 0) → size y ≡ overWaiting y pending (λ _. 1)
 all-wait y pending h = sym (sum-cong (size y) (λ c. 1 * waiting pending c) (λ _. 1) (λ c l. rw (waits-one pending c (h c l))) ∙ sum-ones (size y))
-
--- an entry is the demand if no child waits
-module _ {y : Yard} {pending : List ℕ} {v : ℕ} {z : ℤ} (e : Entry y pending v z) where
-  settled : ((c : ℕ) → Child (y .parents) v c → waiting pending c ≡ 0) → z ≡ demand y v
-  settled h = e .is ∙ rw (← (e .all-targets), ← (e .all-pebbles), none (targetsIn y), none (pebblesIn y)) (simp add-zero)
-    where
-      none : (g : ℕ → ℕ) → overWaiting y pending (atChildren y g v) ≡ 0
-      none g = sum-zero (size y) _ (λ c l. go c l (isChild (y .parents) v c) refl)
-        where
-          go : (c : ℕ) → c < size y → (b : Bool) → isChild (y .parents) v c ≡ b → one b * g c * waiting pending c ≡ 0
-          go c l true q = rw (h c (is-child (y .parents) v c l q)) (omega arith)
-          go c l false q = omega arith
 
 -- the pending numbers after u is added to its parent p
 abbrev pub after : List ℕ → ℕ → ℕ → List ℕ
@@ -137,9 +117,6 @@ module _ {y : Yard} {pending : List ℕ} {list : List ℤ} {u : ℕ} (r : Ready 
 
   pub child : Child (y .parents) (parent y u) u
   child = record { lt = r .lt; up = refl; other = λ e. omega (arith, none-under, waits, counts u u (r .lt) (sym e)) }
-
-  ready-demand : Tree y → getD list u (pos 0) ≡ demand y u
-  ready-demand t = settled (r .state .entry t u (r .lt)) (λ c k. omega (arith, none-under, counts c u (k .lt) (k .up)))
 
   pub parent-lt : parent y u < size y
   parent-lt = r .state .lists .parent-lt u (r .lt)
@@ -197,18 +174,40 @@ module _ {y : Yard} {pending : List ℕ} {list : List ℤ} {u : ℕ} (r : Ready 
   unfolding next
   fewer = gone (λ _. 1)
 
-  -- the sum of the two entries is one of the parent
-  joined : Tree y → Entry y next (parent y u) (getD list (parent y u) (pos 0) +ℤ getD list u (pos 0))
-  joined t =
-      let e = r .state .entry t (parent y u) parent-lt in
-      let c = ap one (child-is (y .parents) (parent y u) u child) in
-      record {
-        targets = e .targets + targetsIn y u;
-        pebbles = e .pebbles + pebblesIn y u;
-        is = rw (e .is, ready-demand t) (sub-add (e .targets) (e .pebbles) (targetsIn y u) (pebblesIn y u));
-        all-targets = omega (arith, e .all-targets, gone (atChildren y (targetsIn y) (parent y u)), ap (λ (k : ℕ). k * targetsIn y u) c);
-        all-pebbles = omega (arith, e .all-pebbles, gone (atChildren y (pebblesIn y) (parent y u)), ap (λ (k : ℕ). k * pebblesIn y u) c);
-      }
+  -- u is added, and no other node is that was not
+  more : (v c : ℕ) → added y next v c ≡ ((isChild (y .parents) v c) && ((eqb c u) || (not (ltb 0 (getD pending c 0)))))
+  more v c = ap (λ (b : Bool). (isChild (y .parents) v c) && b) (go (ltb 0 (getD pending c 0)) (ltb 0 (getD next c 0)) (eqb c u) (waited c))
+    where
+      go : (a b e : Bool) → one a ≡ one b + one e → not b ≡ (e || not a)
+      go true true true q = absurd (omega arith)
+      go true true false q = refl
+      go true false true q = refl
+      go true false false q = absurd (omega arith)
+      go false true e q = absurd (omega arith)
+      go false false true q = absurd (omega arith)
+      go false false false q = refl
+
+  -- so the sum of its parent has its entry more, and the other sums are as they were
+  joined : taken y next list (parent y u) ≡ taken y pending list (parent y u) +ℤ entry list u
+  joined = sum-insert (entry list) (added y pending (parent y u)) (added y next (parent y u)) u (rw (lt-ltb 0 (getD pending u 0) (omega (arith, r .alone))) (and-false (isChild (y .parents) (parent y u) u))) (size y) (r .lt) (λ c _. more (parent y u) c ∙ at c (ℕ-discrete c u))
+    where
+      at : (c : ℕ) → Dec (c ≡ u) → ((isChild (y .parents) (parent y u) c) && ((eqb c u) || (not (ltb 0 (getD pending c 0))))) ≡ ((eqb c u) || (added y pending (parent y u) c))
+      at c (yes e) = rw (e, eq-eqb u u refl, child-is (y .parents) (parent y u) u child)
+      at c (no d) = rw (ne-eqb c u d)
+
+  other : (v : ℕ) → v ≢ parent y u → taken y next list v ≡ taken y pending list v
+  other v d = ap (λ (vs : List ℕ). sumℤ (map (entry list) vs)) (below-cong (size y) (added y next v) (added y pending v) (λ c _. more v c ∙ at c (ℕ-discrete c u)))
+    where
+      at : (c : ℕ) → Dec (c ≡ u) → ((isChild (y .parents) v c) && ((eqb c u) || (not (ltb 0 (getD pending c 0))))) ≡ added y pending v c
+      at c (yes e) = rw (e, ne-eqb (parent y u) v (λ q. d (sym q)))
+      at c (no n) = rw (ne-eqb c u n)
+
+  -- the parent itself waits, and so is in no sum
+  same : (z : ℤ) (v : ℕ) → taken y next (set list (parent y u) z) v ≡ taken y next list v
+  same z v = ap sumℤ (map-all (entry (set list (parent y u) z)) (entry list) (below (size y) (added y next v)) (all-below _ (added y next v) (size y) (λ c _ e. getD-set-other list (parent y u) c z (pos 0) (λ q. at c q (and-eq-true-iff (isChild (y .parents) v c) (not (ltb 0 (getD next c 0))) .0 e .1)))))
+    where
+      at : (c : ℕ) → c ≡ parent y u → not (ltb 0 (getD next c 0)) ≡ true → ⊥
+      at c q e = omega (arith, stays, ap (waiting next) q, ap one (not-true (ltb 0 (getD next c 0)) e))
 
   pub joined-small : natAbs (getD list (parent y u) (pos 0) +ℤ getD list u (pos 0)) ≤ maxSize
   joined-small = omega (
@@ -245,18 +244,6 @@ module _ {y : Yard} {pending : List ℕ} {list : List ℤ} {u : ℕ} (r : Ready 
       go t m w k c (yes e) = (parent y u, parent-lt, stays, (suc k, climbs-up k (y .parents) v u (rw e at c)))
       go t m w k c (no d) = (t, m, omega (arith, waited t, ap one (ne-eqb t u d)), (k, c))
 
-  other : {v : ℕ} {z : ℤ} → v ≢ parent y u → Entry y pending v z → Entry y next v z
-  other {v} d e = record {
-    targets = e .targets;
-    pebbles = e .pebbles;
-    is = e .is;
-    all-targets = omega (arith, e .all-targets, kept (targetsIn y));
-    all-pebbles = omega (arith, e .all-pebbles, kept (pebblesIn y));
-  }
-    where
-      kept : (g : ℕ → ℕ) → overWaiting y pending (atChildren y g v) ≡ overWaiting y next (atChildren y g v)
-      kept g = gone (atChildren y g v) ∙ rw (ne-eqb (parent y u) v (λ e. d (sym e))) (omega arith)
-
   pub adds : {z : ℤ} → z ≡ getD list (parent y u) (pos 0) +ℤ getD list u (pos 0) → Partial y (after pending u (parent y u)) (set list (parent y u) z)
   unfolding next
   adds {z} q = record {
@@ -264,14 +251,16 @@ module _ {y : Yard} {pending : List ℕ} {list : List ℤ} {u : ℕ} (r : Ready 
     room = simp length-set (r .state .room);
     long = simp length-set (r .state .long);
     waits = λ v k. omega (arith, r .state .waits v k, counted v, waited v, ap one (eqb-sym v (parent y u)), gone (under y v));
-    entry = λ t v k. at t v k (ℕ-discrete v (parent y u));
+    entry = λ v k. at v k (ℕ-discrete v (parent y u));
     sizes = sized q;
     reach = reaches;
   }
     where
-      at : Tree y → (v : ℕ) → v < size y → Dec (v ≡ parent y u) → Entry y next v (getD (set list (parent y u) z) v (pos 0))
-      at t v k (yes e) = rw (e, getD-set-same list (parent y u) z (pos 0) (omega (arith, r .state .long, parent-lt)), q) (joined t)
-      at t v k (no d) = rw (getD-set-other list (parent y u) v z (pos 0) d) (other d (r .state .entry t v k))
+      at : (v : ℕ) → v < size y → Dec (v ≡ parent y u) → entry (set list (parent y u) z) v ≡ subℕ (target y v) (pebble y v) +ℤ taken y next (set list (parent y u) z) v
+      at v k (yes e) = rw (e, same z (parent y u), joined) (
+          getD-set-same list (parent y u) z (pos 0) (omega (arith, r .state .long, parent-lt)) ∙ q ∙ ap (λ (x : ℤ). x +ℤ entry list u) (r .state .entry (parent y u) parent-lt)
+          ∙ +ℤ-assoc (subℕ (target y (parent y u)) (pebble y (parent y u))) (taken y pending list (parent y u)) (entry list u))
+      at v k (no d) = rw (same z v, other v d) (getD-set-other list (parent y u) v z (pos 0) d ∙ r .state .entry v k)
 
   -- no other node but the parent becomes ready
   pub only : (v : ℕ) → (getD pending v 0 ≡ 1 → v ≡ u) → getD (after pending u (parent y u)) v 0 ≡ 1 → v ≡ parent y u
@@ -283,11 +272,43 @@ module _ {y : Yard} {pending : List ℕ} {list : List ℤ} {u : ℕ} (r : Ready 
       go (yes q) (no g) = absurd (omega (arith, counted v, r .alone, ap one (eq-eqb v u q), ap (λ (v : ℕ). getD pending v 0) q))
       go (no d) (no g) = absurd (d (f (omega (arith, counted v, ap one (ne-eqb v u d), ap one (ne-eqb v (parent y u) g)))))
 
--- where no node is ready
-module _ {y : Yard} {pending : List ℕ} {list : List ℤ} (h : Partial y pending list) (none : (v : ℕ) → v < size y → getD pending v 0 ≡ 1 → ⊥) where
-  -- if one waits, it is its own parent, as else it were ready, and every node climbs to it
-  pub one-left : overWaiting y pending (λ _. 1) ≡ 1 → (r : ℕ) × Wood (y .parents) r
-  one-left e = (
+-- where no node is ready and one waits, that is its own parent, as else it were ready; every node climbs to it, and equation 2 is met
+module _ {y : Yard} {pending : List ℕ} {list : List ℤ} (h : Partial y pending list) (none : (v : ℕ) → v < size y → getD pending v 0 ≡ 1 → ⊥) (e : overWaiting y pending (λ _. 1) ≡ 1) where
+  s : (v : ℕ) × (v < size y) × (0 < 1 * waiting pending v)
+  s = sum-some (size y) (λ c. 1 * waiting pending c) (omega (arith, e))
+
+  abbrev r : ℕ
+  r = s .0
+
+  alone : (t : ℕ) → t < size y → waiting pending t ≡ 1 → t ≡ r
+  alone t l w = go (ℕ-discrete t r)
+    where
+      two : t ≢ r → (c : ℕ) → Dec (c ≡ t) → Dec (c ≡ r) → one (eqb c t) * 1 + one (eqb c r) * 1 ≤ 1 * waiting pending c
+      two d c (yes p) _ = rw (p, eq-eqb t t refl, ne-eqb t r d, w) (omega arith)
+      two d c (no p) (yes q) = rw (ne-eqb c t p, eq-eqb c r q) (omega (arith, s .2, ap (waiting pending) q))
+      two d c (no p) (no q) = rw (ne-eqb c t p, ne-eqb c r q) (omega arith)
+
+      go : Dec (t ≡ r) → t ≡ r
+      go (yes q) = q
+      go (no d) = absurd (omega (
+        arith,
+        e,
+        sum-mono (size y) (λ c. one (eqb c t) * 1 + one (eqb c r) * 1) (λ c. 1 * waiting pending c) (λ c _. two d c (ℕ-discrete c t) (ℕ-discrete c r)),
+        sum-add (size y) (λ c. one (eqb c t) * 1) (λ c. one (eqb c r) * 1),
+        sum-pick (size y) t (λ _. 1) l,
+        sum-pick (size y) r (λ _. 1) (s .1),
+      ))
+
+  own : Dec (parent y r ≡ r) → parent y r ≡ r
+  own (yes q) = q
+  own (no d) = absurd (none r (s .1) (omega (arith, h .waits r (s .1), s .2, one-le (ltb 0 (getD pending r 0)), sum-zero (size y) (λ c. under y r c * waiting pending c) (λ c l. at c l (ltb 0 (getD pending c 0)) refl))))
+    where
+      at : (c : ℕ) → c < size y → (b : Bool) → ltb 0 (getD pending c 0) ≡ b → under y r c * one b ≡ 0
+      at c l true q = rw (alone c l (ap one q), ne-eqb (parent y r) r d)
+      at c l false q = omega arith
+
+  pub left-wood : (w : ℕ) × Wood (y .parents) w
+  left-wood = (
     r,
     record {
       parent-lt = h .lists .parent-lt;
@@ -297,41 +318,18 @@ module _ {y : Yard} {pending : List ℕ} {list : List ℤ} (h : Partial y pendin
       to-root = λ v l. let m = h .reach v l in climbs-inside (y .parents) (h .lists .parent-lt) r (m .3 .0) v l (rw (alone (m .0) (m .1) (m .2)) at (m .3 .1));
     },
   )
+
+  pub left-meets : (v : ℕ) → v < size y → Equation2 y list v
+  left-meets v l =
+      h .entry v l
+      ∙ ap (λ (vs : List ℕ). subℕ (target y v) (pebble y v) +ℤ sumℤ (map (entry list) vs)) (below-cong (size y) (added y pending v) (isChild (y .parents) v) (λ c k. at c k (isChild (y .parents) v c) refl (ltb 0 (getD pending c 0)) refl))
     where
-      s : (v : ℕ) × (v < size y) × (0 < 1 * waiting pending v)
-      s = sum-some (size y) (λ c. 1 * waiting pending c) (omega (arith, e))
+      at : (c : ℕ) → c < size y → (a : Bool) → isChild (y .parents) v c ≡ a → (b : Bool) → ltb 0 (getD pending c 0) ≡ b → (a && (not b)) ≡ a
+      at c k true p true q = let f = is-child (y .parents) v c k p in absurd (f .other (alone c k (ap one q) ∙ sym (own (ℕ-discrete (parent y r) r)) ∙ ap (parent y) (sym (alone c k (ap one q))) ∙ f .up))
+      at c k true p false q = refl
+      at c k false p b q = refl
 
-      r : ℕ
-      r = s .0
-
-      alone : (t : ℕ) → t < size y → waiting pending t ≡ 1 → t ≡ r
-      alone t l w = go (ℕ-discrete t r)
-        where
-          two : t ≢ r → (c : ℕ) → Dec (c ≡ t) → Dec (c ≡ r) → one (eqb c t) * 1 + one (eqb c r) * 1 ≤ 1 * waiting pending c
-          two d c (yes p) _ = rw (p, eq-eqb t t refl, ne-eqb t r d, w) (omega arith)
-          two d c (no p) (yes q) = rw (ne-eqb c t p, eq-eqb c r q) (omega (arith, s .2, ap (waiting pending) q))
-          two d c (no p) (no q) = rw (ne-eqb c t p, ne-eqb c r q) (omega arith)
-
-          go : Dec (t ≡ r) → t ≡ r
-          go (yes q) = q
-          go (no d) = absurd (omega (
-            arith,
-            e,
-            sum-mono (size y) (λ c. one (eqb c t) * 1 + one (eqb c r) * 1) (λ c. 1 * waiting pending c) (λ c _. two d c (ℕ-discrete c t) (ℕ-discrete c r)),
-            sum-add (size y) (λ c. one (eqb c t) * 1) (λ c. one (eqb c r) * 1),
-            sum-pick (size y) t (λ _. 1) l,
-            sum-pick (size y) r (λ _. 1) (s .1),
-          ))
-
-      own : Dec (parent y r ≡ r) → parent y r ≡ r
-      own (yes q) = q
-      own (no d) = absurd (none r (s .1) (omega (arith, h .waits r (s .1), s .2, one-le (ltb 0 (getD pending r 0)), sum-zero (size y) (λ c. under y r c * waiting pending c) (λ c l. at c l (ltb 0 (getD pending c 0)) refl))))
-        where
-          at : (c : ℕ) → c < size y → (b : Bool) → ltb 0 (getD pending c 0) ≡ b → under y r c * one b ≡ 0
-          at c l true q = rw (alone c l (ap one q), ne-eqb (parent y r) r d)
-          at c l false q = omega arith
-
--- on a tree none but the root waits, from the leaves up, and every entry is a demand
+-- on a tree none but the root waits, from the leaves up
 module _ {y : Yard} {pending : List ℕ} {list : List ℤ} (h : Partial y pending list) (none : (v : ℕ) → v < size y → getD pending v 0 ≡ 1 → ⊥) (t : Tree y) where
   quiet : (k v : ℕ) → v < size y → weight (y .parents) v ≤ k → (c : ℕ) → Child (y .parents) v c → waiting pending c ≡ 0
   quiet zero v l b c e = absurd (omega (arith, weight-child (wood y t) v c l e))
@@ -349,9 +347,6 @@ module _ {y : Yard} {pending : List ℕ} {list : List ℤ} (h : Partial y pendin
           let off : d ≢ c = λ x. child-off-root (wood y t) v c e (wood y t .root-only c (e .lt) (ap (parent y) (sym x) ∙ p)) in
           rw (ih (record { lt = m; up = p; other = off }))
       go d m false q ih = omega arith
-
-  pub ends : (v : ℕ) → v < size y → getD list v (pos 0) ≡ demand y v
-  ends v l = settled (h .entry t v l) (quiet (size y) v l (weight-le (y .parents) v))
 
   pub root-left : overWaiting y pending (λ _. 1) ≡ 1
   root-left =

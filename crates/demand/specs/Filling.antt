@@ -1,14 +1,13 @@
 -- What filling a list of demands begins with, and what it comes to.
 use mathlib.Core.Path.{_≡_}
-use mathlib.Core.List.{List, map}
+use mathlib.Core.List.{List}
 use mathlib.Core.Option.{none}
 use Prim.Native.Nat.{ℕ, _+_, _<_}
 use lib.ListN.{length, getD}
 use lib.Dec.{eqb}
 use lib.IntN.{ℤ, pos, subℕ}
-use Rattle.model.specs.Yard.{Yard, size, up, one, sum, demand}
+use Rattle.model.specs.Yard.{Yard, size, up, one, sum, Equation2}
 use Rattle.model.specs.Judge.{firstOf, shapeTests, Tree}
-use Rattle.model.specs.Calls.Answers.{range}
 
 -- the first n entries are target minus pebble of their nodes
 abbrev pub Differences : List ℕ → List ℕ → ℕ → List ℤ → Type 0
@@ -18,7 +17,9 @@ Differences targets pebbles n list = (v : ℕ) → v < n → getD list v (pos 0)
 abbrev pub Pending : List ℕ → List ℕ → Type 0
 Pending parents pending = (length pending ≡ 256) × ((v : ℕ) → v < 256 → getD pending v 0 ≡ 1 + sum (length parents) (λ c. one (eqb (up parents c) v)))
 
--- one node is left over only of a tree's parents, and of a tree's it is one, and the list is that of the demands
+-- one node is left over exactly of a tree's parents, and then the list meets equation 2 at every node
 pub record Gathered (y : Yard) (left : ℕ) (list : List ℤ) : Type 0 where
+  pub long : length list ≡ size y
   pub shape : left ≡ 1 → firstOf (shapeTests y) ≡ none
-  pub tree : Tree y → (left ≡ 1) × (list ≡ map (demand y) (range 0 (size y)))
+  pub tree : Tree y → left ≡ 1
+  pub meets : left ≡ 1 → (v : ℕ) → v < size y → Equation2 y list v

@@ -1,29 +1,28 @@
-// The demands of all nodes, leaves first, in linear time; and on the way whether the parents are a tree's.
+// The demands of all nodes by equation 2 of the source, leaves first, in linear time; and on the way whether the parents are a tree's.
 ghost use mathlib.Core.Path.{_≡_};
-ghost use mathlib.Core.List.{map};
 ghost use mathlib.Core.Option.{none};
 ghost use Prim.Native.Nat.{_≤_};
 ghost use lib.ListN.{length};
-ghost use Rattle.model.specs.Yard.{demand};
 ghost use Rattle.model.specs.Given.{given, handed, was, became};
 ghost use Rattle.model.specs.Judge.{firstOf, listTests, Tree};
-ghost use Rattle.model.specs.Calls.Answers.{range};
+ghost use Rattle.model.specs.Calls.Demands.{demandsOf};
 ghost use Rattle.demand.specs.Filling.{Differences, Pending, Gathered};
 use crate::signed::difference;
 use crate::signed::plus;
 
-// Writes the demand of each node of a tree into a list of one entry a node.
+// Writes the demand of each node of a tree into a list of one entry a node: the only list that meets equation 2 at every node.
 pub fn fill(parents: &[u8], pebbles: &[u8], targets: &[u8], list: &mut [i16])
     requires { ⌜ Tree (handed parents pebbles targets) × (length (now list) ≡ length (now parents)) ⌝ }
-    ensures { λ _. ⌜ became list ≡ map (demand (given parents pebbles targets)) (range 0 (length (was parents))) ⌝ }
+    ensures { λ _. ⌜ became list ≡ demandsOf (given parents pebbles targets) ⌝ }
 {
     gather(parents, pebbles, targets, list);
 }
 
-// Writes the demand of each node into a list of one entry a node, if the parents are a tree's, of lists that refusals 1 to 4 do not meet. Answers how
-// many nodes were added to no parent: 1, the root, exactly if they are. A node's pending number is 1 for itself, until it is added to its
-// parent, and 1 for each node whose parent it is and that is not added yet: at 1 all its children are added. Adding it may make its parent
-// ready, and so on up, so that each node is added once. A node that is its own parent, or on a circle, is never ready.
+// Equation 2, of lists that refusals 1 to 4 do not meet: each node's entry begins as its target minus its pebble, and the entries of its children are
+// added to it, each once all of its own children are added to it. A node's pending number is 1 for itself, until it is added to its parent, and 1 for
+// each node whose parent it is and that is not added yet: at 1 it is ready. Adding it may make its parent ready, and so on up, so that each node is added
+// once. A node that is its own parent, or on a circle, is never ready: so one node is left over, the root, exactly if the parents are a tree's. Answers how
+// many are.
 pub fn gather(parents: &[u8], pebbles: &[u8], targets: &[u8], list: &mut [i16]) -> usize
     requires { ⌜ (firstOf (listTests (handed parents pebbles targets)) ≡ none) × (length (now list) ≡ length (now parents)) ⌝ }
     ensures { λ r. ⌜ Gathered (given parents pebbles targets) r (became list) ⌝ }

@@ -81,10 +81,10 @@ below-rest (suc n) r p l e h = go (ℕ-discrete r n) (below-rest n r p)
     go (yes q) ih = rw (none-below n p (λ v k. h v (omega arith)), none-below n behind (λ v k. early v (omega arith)), early n (omega arith), ← q, e)
     go (no q) ih = rw (ih (omega arith) e h, le-leb (r + 1) n (omega arith))
 
-pub below-cong : (n : ℕ) (p q : ℕ → Bool) → ((v : ℕ) → p v ≡ q v) → below n p ≡ below n q
+pub below-cong : (n : ℕ) (p q : ℕ → Bool) → ((v : ℕ) → v < n → p v ≡ q v) → below n p ≡ below n q
 unfolding below
 below-cong zero p q h = refl
-below-cong (suc n) p q h = rw (below-cong n p q h, h n)
+below-cong (suc n) p q h = rw (below-cong n p q (λ v l. h v (omega arith)), h n (omega arith))
 
 -- a search that answers a number which does not pass has found none
 pub lowest-missing : (n d : ℕ) (p : ℕ → Bool) → d ≡ headOr d (below n p) → p d ≡ false → (v : ℕ) → v < n → p v ≡ false

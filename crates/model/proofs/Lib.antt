@@ -11,6 +11,7 @@ pub mod Demands
 pub mod Bounds
 pub mod Step
 pub mod Signed
+pub mod Equation2
 pub mod Runs
 pub mod Shortest
 pub mod Follow

@@ -1,17 +1,19 @@
 -- The demand as a signed number: its two parts, its size and range, equation 2 of the source, Lemma 1, and what a legal push does to it.
 use mathlib.Core.Path.{_≡_, refl, sym, ap, _∙_}
 use mathlib.Core.Logic.{_≢_, _↔_}
-use mathlib.Core.Bool.{Bool, true, false, not, cond}
+use mathlib.Core.Bool.{Bool, true, false, not, cond, _||_}
 use mathlib.Core.List.{List, [], _∷_, _++_, map}
 use Prim.Native.Nat.{ℕ, zero, suc, _+_, _-_, _*_, _≤_, _<_}
 use native.Mathlib.Omega.{arith}
+use native.Mathlib.Decide.{ℕ-discrete}
 use native.Mathlib.Nat.{add-zero, add-suc, one-mul, zero-mul}
-use lib.Dec.{ltb}
-use lib.IntN.{ℤ, pos, negsuc, natAbs, subℕ, sucℤ, predℤ, _+ℤ_, suc-pred, +ℤ-sucℤ, +ℤ-predℤ, sucℤ-+ℤ, +ℤ-idl, +ℤ-idr, +ℤ-assoc}
-use borrow.Author.Tests.{ltb-true, ltb-false, lt-ltb, le-ltb}
-use Rattle.model.specs.Yard.{Yard, size, maxSize, maxDemand, pebble, target, one, sum, below, isChild, children, targetsIn, pebblesIn, demand, lacking, surplus, imbalance, shortest}
+use lib.Dec.{ltb, eqb}
+use lib.IntN.{ℤ, pos, negsuc, natAbs, subℕ, sucℤ, predℤ, _+ℤ_, suc-pred, +ℤ-sucℤ, +ℤ-predℤ, sucℤ-+ℤ, +ℤ-idl, +ℤ-idr, +ℤ-assoc, +ℤ-comm}
+use borrow.Author.Tests.{ltb-true, ltb-false, lt-ltb, le-ltb, eq-eqb, ne-eqb}
+use Rattle.model.specs.Yard.{Yard, size, maxSize, maxDemand, pebble, target, one, sum, below, isChild, children, targetsIn, pebblesIn, demand, sumℤ, lacking, surplus, imbalance, shortest}
 use Rattle.model.specs.Judge.{Tree}
 use Rattle.model.specs.Push.{Move, moved, Solved}
+use Rattle.model.proofs.Found.{below-cong}
 use Rattle.model.proofs.Sums.{sum-mono, sum-scale, sum-le}
 use Rattle.model.proofs.Judged.{facts}
 use Rattle.model.proofs.Demands.{overChildren, subtotal-weight, weight-le, targetsIn-children, pebblesIn-children, solved-even, even-solved}
@@ -98,11 +100,6 @@ size-add a b =
     = ap (λ (k : ℤ). k +ℤ b) (parts-sub a) ∙ ap (λ (k : ℤ). subℕ (above0 a) (below0 a) +ℤ k) (parts-sub b) ∙ sub-add (above0 a) (below0 a) (above0 b) (below0 b) in
     omega (arith, ap natAbs e, sub-size (above0 a + above0 b) (below0 a + below0 b), parts-size a, parts-size b)
 
--- the sum of a list of signed numbers
-unfoldable pub sumℤ : List ℤ → ℤ
-sumℤ [] = pos 0
-sumℤ (k ∷ ks) = k +ℤ sumℤ ks
-
 sum-map-append : (f : ℕ → ℤ) (vs ws : List ℕ) → sumℤ (map f (vs ++ ws)) ≡ sumℤ (map f vs) +ℤ sumℤ (map f ws)
 unfolding sumℤ
 sum-map-append f [] ws = sym (+ℤ-idl (sumℤ (map f ws)))
@@ -123,6 +120,27 @@ sum-below f g p (suc n) =
     last : (b : Bool) → sumℤ (map (λ v. subℕ (f v) (g v)) (cond b (n ∷ []) [])) ≡ subℕ (one b * f n) (one b * g n)
     last true = rw (one-mul (f n), one-mul (g n)) (+ℤ-idr (subℕ (f n) (g n)))
     last false = rw (zero-mul (f n), zero-mul (g n))
+
+-- one number more that passes adds its term
+pub sum-insert : (f : ℕ → ℤ) (p q : ℕ → Bool) (u : ℕ) → p u ≡ false → (n : ℕ) → u < n → ((c : ℕ) → c < n → q c ≡ ((eqb c u) || (p c)))
+    → sumℤ (map f (below n q)) ≡ sumℤ (map f (below n p)) +ℤ f u
+unfolding below sumℤ
+sum-insert f p q u o zero l h = absurd (omega arith)
+sum-insert f p q u o (suc n) l h =
+    sum-map-append f (below n q) (cond (q n) (n ∷ []) [])
+    ∙ go (ℕ-discrete n u) (sum-insert f p q u o n)
+    ∙ ap (λ (k : ℤ). k +ℤ f u) (sym (sum-map-append f (below n p) (cond (p n) (n ∷ []) [])))
+  where
+    go : Dec (n ≡ u) → (u < n → ((c : ℕ) → c < n → q c ≡ ((eqb c u) || (p c))) → sumℤ (map f (below n q)) ≡ sumℤ (map f (below n p)) +ℤ f u)
+        → sumℤ (map f (below n q)) +ℤ sumℤ (map f (cond (q n) (n ∷ []) [])) ≡ (sumℤ (map f (below n p)) +ℤ sumℤ (map f (cond (p n) (n ∷ []) []))) +ℤ f u
+    go (yes e) ih =
+        let here : q n ≡ true = h n (omega arith) ∙ rw (eq-eqb n u e) in
+        let none : p n ≡ false = ap p e ∙ o in
+        rw (below-cong n q p (λ c k. h c (omega arith) ∙ rw (ne-eqb c u (omega arith))), here, none, +ℤ-idr (f n), +ℤ-idr (sumℤ (map f (below n p))), e)
+    go (no d) ih =
+        let same : q n ≡ p n = h n (omega arith) ∙ rw (ne-eqb n u d) in
+        rw (ih (omega arith) (λ c k. h c (omega arith)), same)
+        (+ℤ-assoc (sumℤ (map f (below n p))) (f u) _ ∙ ap (λ (k : ℤ). sumℤ (map f (below n p)) +ℤ k) (+ℤ-comm (f u) _) ∙ sym (+ℤ-assoc (sumℤ (map f (below n p))) _ (f u)))
 
 module _ (y : Yard) (t : Tree y) where
   -- equation 2: target minus pebble, plus the demands of the children

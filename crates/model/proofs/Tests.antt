@@ -77,7 +77,7 @@ module _ (ps : List ℕ) where
 
   roots-own : roots ps ≡ below (length ps) (own 0)
   unfolding roots
-  roots-own = below-cong (length ps) (λ v. eqb (up ps v) v) (own 0) (λ v. rw (leb·zero v))
+  roots-own = below-cong (length ps) (λ v. eqb (up ps v) v) (own 0) (λ v _. rw (leb·zero v))
 
   pub no-root : (r : ℕ) → r ≡ headOr (length ps) (below (length ps) (own 0)) → length ps ≤ r → fault 5 0 ≡ firstOf shape
   no-root r e l = rw (roots-own, lowest-none (length ps) (own 0) r e l)
@@ -87,7 +87,7 @@ module _ (ps : List ℕ) where
     roots-first =
         let f = lowest-is (length ps) (length ps) r (own 0) e (omega arith) in
         roots-own ∙ below-rest (length ps) r (own 0) l (f .1) (f .2)
-        ∙ ap (λ (vs : List ℕ). r ∷ vs) (below-cong (length ps) (λ v. (leb (r + 1) v) && (own 0 v)) (own (r + 1)) (λ v. rw (leb·zero v)))
+        ∙ ap (λ (vs : List ℕ). r ∷ vs) (below-cong (length ps) (λ v. (leb (r + 1) v) && (own 0 v)) (own (r + 1)) (λ v _. rw (leb·zero v)))
 
     pub second-root : {place : ℕ} (s : ℕ) → s ≡ headOr (length ps) (below (length ps) (own (r + 1))) → s < length ps → place ≡ s → fault 5 place ≡ firstOf shape
     second-root s f m e = rw (e, ap rootFault roots-first ∙ go (below (length ps) (own (r + 1))) f)

@@ -8,8 +8,8 @@ use Prim.Native.Nat.{ℕ}
 use Prim.Native.String.{String}
 use native.Mathlib.Omega.{arith}
 use lib.ListN.{take, replicate}
-use lib.IntN.{ℤ, pos, negsuc}
-use Rattle.model.specs.Yard.{Yard, yardOf, sum, below, roots, climbs, inside, subtotal, shortest}
+use lib.IntN.{ℤ, pos}
+use Rattle.model.specs.Yard.{Yard, yardOf, sum, below, roots, climbs, inside, subtotal, sumℤ, Equation2, shortest}
 use Rattle.model.specs.Judge.{Fault, row, fault, judge, matchedFault}
 use Rattle.model.specs.Push.{Move, push, moveFault, pushFault, legal, shifted, after, accepted, count}
 use Rattle.model.specs.Plan.{needy, choice, inject, extract, turn, settle, each, balance, planWithin, plan}
@@ -19,7 +19,7 @@ use Rattle.model.specs.Calls.Demands.{demandsFault, demandsList, Length,
 use Rattle.model.specs.Calls.Plans.{bytes, movesOf, planFault, planAnswer, planList}
 use Rattle.model.specs.Calls.Checks.{movesFault, Verdict, checkFault, checkAnswer, Trial, trialFault, trialAnswer, trialPebbles}
 use Rattle.model.specs.Sheets.{text, digits, decimal, stopBefore, line, lines, header, cut, same, value, field, readLine, readNodes, readYard, moveLines, edges, report, moveSheet, refusalSheet, program}
-use Rattle.model.proofs.Yards.{marks, yard, yardA, yardB, planB}
+use Rattle.model.proofs.Yards.{marks, yard, yardA, demandsA, yardB, planB}
 
 data Input : Type 0 where
   demandsOf : Yard → Input
@@ -83,7 +83,7 @@ siding = yardOf (0 ∷ 0 ∷ 0 ∷ []) (0 ∷ 2 ∷ 1 ∷ []) (1 ∷ 1 ∷ 1 ∷
 cases : List Case
 cases =
     -- A
-    (demandsOf yardA gives demands (pos 0 ∷ negsuc 0 ∷ pos 1 ∷ negsuc 0 ∷ pos 1 ∷ []))
+    (demandsOf yardA gives demands demandsA)
     ∷ (lengthOf yardA gives number 4)
     ∷ (planOf yardA gives moves (push 1 0 ∷ push 0 2 ∷ push 3 1 ∷ push 1 4 ∷ []))
     ∷ (printOf "berth parent car target\n0 0 0 0\n1 0 1 0\n2 0 0 1\n3 1 1 0\n4 1 0 1\n" gives printed (text "from to\n1 0\n0 2\n3 1\n1 4\ntrack up down\n1 1 0\n2 0 1\n3 1 0\n4 0 1\ntotal\n4\n"))
@@ -174,7 +174,7 @@ cases =
     ∷ []
 
 worked : map (λ (c : Case). outcome (c .input)) cases ≡ map (λ (c : Case). c .expected) cases
-unfolding siding placed cases _gives_ outcome yard marks yardA yardB planB sum below roots climbs inside subtotal shortest judge moveFault pushFault legal shifted after accepted count needy choice inject extract turn settle each balance planWithin plan range demandsFault bytes movesOf planFault movesFault checkFault trialFault matchedFault text digits decimal stopBefore line lines header cut same value field readLine readNodes readYard moveLines edges report moveSheet refusalSheet program
+unfolding demandsA siding placed cases _gives_ outcome yard marks yardA yardB planB sum below roots climbs inside subtotal shortest judge moveFault pushFault legal shifted after accepted count needy choice inject extract turn settle each balance planWithin plan range demandsFault bytes movesOf planFault movesFault checkFault trialFault matchedFault text digits decimal stopBefore line lines header cut same value field readLine readNodes readYard moveLines edges report moveSheet refusalSheet program
 worked = refl
 
 -- two pebbles start at node 1, and one at node 2: whichever is taken, pebble 1 may go the second time, and each has its own route
@@ -193,3 +193,12 @@ either = Follows.next first (Follows.next second (Follows.next third Follows.don
 routes : map (λ (i : ℕ). route i (push 1 0 ∷ push 0 1 ∷ push 1 0 ∷ []) (0 ∷ 0 ∷ 1 ∷ [])) (0 ∷ 1 ∷ 2 ∷ []) ≡ (push 1 0 ∷ push 0 1 ∷ []) ∷ (push 1 0 ∷ []) ∷ [] ∷ []
 unfolding route
 routes = refl
+
+-- request 2.3: the demands of yards A and B meet equation 2, entry by entry; in B a node's child is counted once
+equation2 : Equation2 yardA demandsA 0 × Equation2 yardA demandsA 1 × Equation2 yardA demandsA 2 × Equation2 yardA demandsA 3 × Equation2 yardA demandsA 4
+unfolding yardA yard marks demandsA below sumℤ
+equation2 = (refl, refl, refl, refl, refl)
+
+equation2B : let ks = pos 0 ∷ pos 1 ∷ pos 1 ∷ [] in Equation2 yardB ks 0 × Equation2 yardB ks 1 × Equation2 yardB ks 2
+unfolding yardB yard marks below sumℤ
+equation2B = (refl, refl, refl)

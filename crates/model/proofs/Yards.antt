@@ -2,6 +2,7 @@
 use mathlib.Core.List.{List, [], _∷_}
 use Prim.Native.Nat.{ℕ}
 use lib.ListN.{length, set, replicate}
+use lib.IntN.{ℤ, pos, negsuc}
 use Rattle.model.specs.Yard.{Yard, yardOf}
 
 -- a list of n marks with a 1 at some nodes
@@ -16,6 +17,10 @@ yard parents pebbles targets = yardOf parents (marks (length parents) pebbles) (
 -- A
 unfoldable pub yardA : Yard
 yardA = yard (0 ∷ 0 ∷ 0 ∷ 1 ∷ 1 ∷ []) (1 ∷ 3 ∷ []) (2 ∷ 4 ∷ [])
+
+-- its demands
+unfoldable pub demandsA : List ℤ
+demandsA = pos 0 ∷ negsuc 0 ∷ pos 1 ∷ negsuc 0 ∷ pos 1 ∷ []
 
 -- B, and its plan
 unfoldable pub yardB : Yard

@@ -2,11 +2,11 @@
 -- and the demand (account) of each node.
 use mathlib.Core.Path.{_≡_}
 use mathlib.Core.Bool.{Bool, true, false, not, cond, _&&_, _||_}
-use mathlib.Core.List.{List, [], _∷_, _++_}
+use mathlib.Core.List.{List, [], _∷_, _++_, map}
 use Prim.Native.Nat.{ℕ, zero, suc, _+_, _-_, _*_, max}
 use lib.ListN.{length, getD}
 use lib.Dec.{leb, ltb, eqb}
-use lib.IntN.{ℤ, subℕ}
+use lib.IntN.{ℤ, pos, subℕ, _+ℤ_}
 
 -- three lists give for each node its parent, its pebbles (1 car, 0 none) and its targets (1 target, 0 none)
 pub record Yard : Type 0 where
@@ -126,7 +126,18 @@ pebblesIn y t = subtotal (y .parents) (pebble y) t
 abbrev pub demand : Yard → ℕ → ℤ
 demand y v = subℕ (targetsIn y v) (pebblesIn y v)
 
--- its two parts, of which one is 0: the pebbles that the subtree lacks (a positive demand), and those that it has too many (a negative one)
+-- equation 2 (request 2.3), of any list of signed numbers, at v: its entry there is v's target minus v's pebble, plus the entries of v's children
+unfoldable pub sumℤ : List ℤ → ℤ
+sumℤ [] = pos 0
+sumℤ (k ∷ ks) = k +ℤ sumℤ ks
+
+abbrev pub entry : List ℤ → ℕ → ℤ
+entry ks v = getD ks v (pos 0)
+
+abbrev pub Equation2 : Yard → List ℤ → ℕ → Type 0
+Equation2 y ks v = entry ks v ≡ subℕ (target y v) (pebble y v) +ℤ sumℤ (map (entry ks) (children y v))
+
+-- the demand's two parts, of which one is 0: the pebbles that the subtree lacks (a positive demand), and those that it has too many (a negative one)
 abbrev pub lacking : Yard → ℕ → ℕ
 lacking y v = targetsIn y v - pebblesIn y v
 

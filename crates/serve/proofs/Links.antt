@@ -50,7 +50,7 @@ entered {i} {ps} f l =
 module _ (v : ℕ) {ps t : List ℕ} (f : Linked (v + 1) ps t) where
   -- linking v changes nothing for a node u that is not its parent
   other-parent : (u : ℕ) → isChild ps u v ≡ false → {c : ℕ} → Lowest ps u (v + 1) c → Lowest ps u v c
-  other-parent u e h = record { is = h .is ∙ ap (headOr u) (below-cong (length ps) (isChildFrom ps u (v + 1)) (isChildFrom ps u v) (λ w. go w (ℕ-discrete w v) (leb v w) refl)) }
+  other-parent u e h = record { is = h .is ∙ ap (headOr u) (below-cong (length ps) (isChildFrom ps u (v + 1)) (isChildFrom ps u v) (λ w _. go w (ℕ-discrete w v) (leb v w) refl)) }
     where
       go : (w : ℕ) → Dec (w ≡ v) → (b : Bool) → leb v w ≡ b → isChildFrom ps u (v + 1) w ≡ isChildFrom ps u v w
       go w (yes q) b s = rw (q, e) (and-false (leb (v + 1) v) ∙ sym (and-false (leb v v)))

@@ -44,7 +44,7 @@ wants-need y false v = below-sign (demand y v) ∙ ap (ltb 0) (demand-parts y v 
 
 wants-choice : (y : Yard) (b : Bool) (u : ℕ) → headOr u (below (size y) (wantingChild b y u)) ≡ choice (need y b) y u
 unfolding choice needy
-wants-choice y b u = ap (headOr u) (below-cong (size y) _ _ (λ v. ap (λ (t : Bool). (isChild (y .parents) u v) && t) (wants-need y b v)))
+wants-choice y b u = ap (headOr u) (below-cong (size y) _ _ (λ v _. ap (λ (t : Bool). (isChild (y .parents) u v) && t) (wants-need y b v)))
 
 module _ {b : Bool} {y : Yard} {u : ℕ} where
   -- what is not below the number looked from, and no child from it on, does not want

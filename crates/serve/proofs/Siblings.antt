@@ -17,7 +17,7 @@ use Rattle.model.proofs.Trees.{Child, is-child}
 use Rattle.serve.specs.Serving.{isChildFrom, childrenFrom, Lowest, Tables}
 
 pub from-0 : (ps : List ℕ) (u : ℕ) → childrenFrom ps u 0 ≡ below (length ps) (isChild ps u)
-from-0 ps u = below-cong (length ps) (isChildFrom ps u 0) (isChild ps u) (λ v. rw (le-leb 0 v (omega arith)))
+from-0 ps u = below-cong (length ps) (isChildFrom ps u 0) (isChild ps u) (λ v _. rw (le-leb 0 v (omega arith)))
 
 module _ {ps : List ℕ} {u i c : ℕ} (e : Lowest ps u i c) where
   -- u itself is none of them
@@ -39,7 +39,7 @@ module _ {ps : List ℕ} {u i c : ℕ} (e : Lowest ps u i c) where
     pub some-from : childrenFrom ps u i ≡ c ∷ childrenFrom ps u (c + 1)
     some-from =
         below-rest (length ps) c (isChildFrom ps u i) (found-from .0) (found-from .1) (found-from .2)
-        ∙ ap (λ (l : List ℕ). c ∷ l) (below-cong (length ps) _ (isChildFrom ps u (c + 1)) (λ v. higher v (leb (c + 1) v) refl))
+        ∙ ap (λ (l : List ℕ). c ∷ l) (below-cong (length ps) _ (isChildFrom ps u (c + 1)) (λ v _. higher v (leb (c + 1) v) refl))
       where
         higher : (v : ℕ) (b : Bool) → leb (c + 1) v ≡ b → ((leb (c + 1) v) && (isChildFrom ps u i v)) ≡ isChildFrom ps u (c + 1) v
         higher v true q = rw (q, le-leb i v (omega (arith, leb-true (c + 1) v q, child-from .1)))

@@ -154,6 +154,9 @@ impl Caller {
         let mut list = self.lender.lend(&before);
         let got = during(&inputs, || library::demands(lent.parents.list(), lent.pebbles.list(), lent.targets.list(), list.list_mut()));
         let expected = demands::list(yard, length);
+        if expected.is_ok() && !demands::meets_equation_2(yard, list.list()) {
+            return Err(format!("{inputs}what the library wrote does not meet equation 2"));
+        }
         let wrong = lent.wrong(yard).or_else(|| list.wrong("demands", &written(&before, &expected)));
         self.same(&inputs, got, expected.map(|_| ()), wrong)
     }

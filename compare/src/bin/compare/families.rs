@@ -7,18 +7,19 @@ use std::ops::RangeInclusive;
 use unrelated::random::Random;
 use unrelated::shapes::{self, Shape};
 use unrelated::yard::{Refusal, Yard};
-use unrelated::{checker, damage, figures, library, planner, report, sheet, shortest, yard};
+use unrelated::{checker, damage, demands, figures, library, planner, report, sheet, shortest, yard};
 
 /// A family tries its cases and tells how many there were.
 pub type Family = fn(&Caller, Thin) -> Same<u64>;
 
-pub const FAMILIES: [(&str, Family); 19] = [
+pub const FAMILIES: [(&str, Family); 20] = [
     ("yards and examples of documents 01 and 02", |caller, _| worked(caller)),
     ("every tree up to 5 nodes with all marks, against the search", every_tree),
     ("6 and 7 nodes, against the search", against_search),
     ("up to 24 nodes, against the cheapest matching", against_matching),
     ("6 to 256 nodes in six shapes", all_shapes),
     ("the longest plans of n nodes", longest_plans),
+    ("every list of small numbers against equation 2, up to 3 nodes", equation_2),
     ("every three lists up to length 3 with few values", every_list),
     ("lists with one to three faults", damaged_lists),
     ("lists that were never legal", noise),
@@ -154,6 +155,28 @@ fn longest_plans(caller: &Caller, thin: Thin) -> Same<u64> {
         let longest = if n <= 5 { shapes::every_yard(n).map(|yard| plan_length(&yard)).max() } else { Some(plan_length(&far)) };
         if longest != figures::longest_plan(n).ok() {
             return Err(format!("the longest plan of {n} nodes has {longest:?} moves"));
+        }
+    }
+    Ok(cases)
+}
+
+/// Of all lists of numbers from -4 to 4, which is more than a demand can be there, one meets equation 2 at every node: the demands. Totals may differ.
+fn equation_2(caller: &Caller, thin: Thin) -> Same<u64> {
+    const NUMBERS: usize = 9;
+    let (mut number, mut cases) = (0, 0);
+    for n in 1..=3 {
+        for yard in shapes::every_yard(n) {
+            number += 1;
+            if !thin.keeps(number) {
+                continue;
+            }
+            cases += 1;
+            caller.demands(&yard, n)?;
+            let lists = (0..NUMBERS.pow(n as u32)).map(|code| (0..n).map(|node| (code / NUMBERS.pow(node as u32) % NUMBERS) as i16 - 4).collect::<Vec<i16>>());
+            let meet: Vec<Vec<i16>> = lists.filter(|list| demands::meets_equation_2(&yard, list)).collect();
+            if meet != [demands::of_tree(&yard)] {
+                return Err(format!("{yard:?}: equation 2 is met by {meet:?}"));
+            }
         }
     }
     Ok(cases)

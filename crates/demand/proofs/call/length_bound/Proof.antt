@@ -5,7 +5,7 @@ use native.Mathlib.Omega.{arith}
 use Prim.Native.Nat.{ℕ, _<_}
 use mathlib.Core.Path.{_≡_, sym, ap, _∙_}
 use mathlib.Core.Option.{none}
-use mathlib.Core.List.{List, _++_, map}
+use mathlib.Core.List.{List, _++_}
 use lib.ListN.{getD, length-append}
 use lib.IntN.{ℤ, pos}
 use mir.Syntax.{w16}
@@ -14,12 +14,13 @@ use mir.ValLaws.{toZ-ofZ}
 use lib.Seq.{length-take-le}
 use Rattle.model.specs.Yard.{Yard, yardOf, size, root, demand, shortest, Matched}
 use Rattle.model.specs.Judge.{firstOf, listTests, Tree}
-use Rattle.model.specs.Calls.Answers.{answered, range}
-use Rattle.model.specs.Calls.Demands.{lengthOf}
+use Rattle.model.specs.Calls.Answers.{answered}
+use Rattle.model.specs.Calls.Demands.{demandsOf, lengthOf}
 use Rattle.model.proofs.Tests.{judge-lists, judge-shape}
 use Rattle.model.proofs.Judged.{Flat, flat, wood}
 use Rattle.model.proofs.Calls.{sees, matched-refused, matched-totals, matched-none}
 use Rattle.model.proofs.Signed.{demand-range, shortest-small}
+use Rattle.model.proofs.Equation2.{only-demands}
 use Rattle.model.proofs.Longest.{bound-answer}
 use Rattle.lists.proofs.Root.{root-found}
 use Rattle.demand.proofs.Numbers.{small-fits}
@@ -54,8 +55,11 @@ within : (c : tie.After-first-own) → c .first-own .result < 256
 within c = let e = c .before .before .before .before .before in omega (arith, found c, wood (yard e) (tree (c .before)) .root-lt, lists e .few)
 
 -- what is gathered, and the root's entry in it
-gathered : (c : tie.Else1) → let g = c .before .before in let y = yard (g .before .before) in g .gather .last .1 .1 .1 .0 ≡ map (demand y) (range 0 (size y))
-gathered c = c .before .before .gather .ensures .tree (tree c) .1
+gathered : (c : tie.Else1) → let g = c .before .before in let y = yard (g .before .before) in g .gather .last .1 .1 .1 .0 ≡ demandsOf y
+gathered c =
+    let g = c .before .before in
+    let e = g .gather .ensures in
+    only-demands (yard (g .before .before)) (tree c) _ (e .long) .0 (e .meets (e .tree (tree c)))
 
 entry : (c : tie.After-first-own) (rest : List ℤ) → let g = c .before .before .before in let y = yard (g .before .before) in
     getD (g .gather .last .1 .1 .1 .0 ++ rest) (c .first-own .result) (pos 0) ≡ demand y (root y)
@@ -108,7 +112,7 @@ returns-2 : tie.Need-returns-2
 returns-2 c =
     let g = c .before .before .before in
     let e = g .before .before in
-    c .refused-shape .ensures ∙ bound-shape (yard e) (sym (passed e)) (λ t. c .before .if1 .taken (g .gather .ensures .tree t .0))
+    c .refused-shape .ensures ∙ bound-shape (yard e) (sym (passed e)) (λ t. c .before .if1 .taken (g .gather .ensures .tree t))
 
 first-own-requires : tie.Need-first-own-requires
 first-own-requires c κs = search needs

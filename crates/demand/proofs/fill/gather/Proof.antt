@@ -1,22 +1,18 @@
 -- `gather` writes the demands of a tree. The state is `Partial` all the way: no node before v is ready, and in a climb none up to v but u, so none is left
 -- where the climb ends, and in the end none at all. Each step of a climb leaves one node less that waits, so it ends.
 use borrow.Author.Count.{below-more}
-use native.Mathlib.Nat.{zero-add}
 use native.Mathlib.Omega.{arith}
 use Prim.Native.Nat.{ℕ, _+_, _-_, _≤_, _<_}
 use mathlib.Core.Path.{_≡_, refl, sym, ap, _∙_}
-use mathlib.Core.List.{map}
 use lib.IntN.{ℤ, pos, natAbs, _+ℤ_}
 use lib.ListN.{length, getD}
 use mir.Syntax.{w16}
 use mir.Val.{toZ, ofZ}
 use mir.ValLaws.{toZ-ofZ}
-use Rattle.model.specs.Yard.{Yard, yardOf, size, parent, demand}
-use Rattle.model.specs.Calls.Answers.{range}
+use Rattle.model.specs.Yard.{Yard, yardOf, size, parent}
 use Rattle.model.proofs.Judged.{flat, shape-wood}
 use Rattle.demand.proofs.Numbers.{small-fits}
-use Rattle.demand.proofs.Lists.{listed}
-use Rattle.demand.proofs.Partial.{waiting, overWaiting, Partial, Ready, small, starts, all-wait, parent-lt, parent-waits, waits, above-waits, fewer, joined-small, adds, only, one-left, ends, root-left}
+use Rattle.demand.proofs.Partial.{waiting, overWaiting, Partial, Ready, small, starts, all-wait, parent-lt, parent-waits, waits, above-waits, fewer, joined-small, adds, only, left-wood, left-meets, root-left}
 use Rattle.demand.proofs.fill.gather.Statement.{statement}
 use Rattle.demand.proofs.fill.gather.Tie as tie
 
@@ -175,12 +171,10 @@ returns c =
     let i = c .before .loop .inv in
     let none : (w : ℕ) → w < size y → getD (c .before .loop .pending) w 0 ≡ 1 → ⊥ = λ w k. i .2 w (omega arith) in
     record {
-      shape = λ e. shape-wood (one-left (i .1) none (sym (i .3) ∙ e) .1) (y .pebbles) (y .targets);
-      tree = λ t. (
-        i .3 ∙ root-left (i .1) none t,
-        listed (demand y) 0 (c .before .loop .list) (λ v l. ends (i .1) none t v (omega (arith, i .1 .long)) ∙ ap (demand y) (sym (zero-add v)))
-            ∙ ap (λ (n : ℕ). map (demand y) (range 0 n)) (i .1 .long),
-      );
+      long = i .1 .long;
+      shape = λ e. shape-wood (left-wood (i .1) none (sym (i .3) ∙ e) .1) (y .pebbles) (y .targets);
+      tree = λ t. i .3 ∙ root-left (i .1) none t;
+      meets = λ e. left-meets (i .1) none (sym (i .3) ∙ e);
     }
 
 pub gather-spec : {M : Type 1} → statement M
