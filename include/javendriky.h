@@ -40,7 +40,7 @@ extern "C" {
 
 /* The version of these calls, which the library answers too. It is raised whenever a call gets further arguments or another meaning under the same
  * name, which requests to come will do: a program built with another header would still link. So compare the two once, before any other call. */
-#define JAVENDRIKY_VERSION 2
+#define JAVENDRIKY_VERSION 3
 
 /* The most nodes that a yard can have. */
 #define JAVENDRIKY_MAX_NODES 256
@@ -159,7 +159,8 @@ uint32_t javendriky_length_bound(const uint8_t *parents, size_t parents_len,
  * Refused with 1, place 0, if n is 0 or above 256. */
 uint32_t javendriky_longest_plan(size_t n);
 
-/* Displaced: how many pebbles stand on nodes that are no targets. Writes nothing.
+/* Displaced: how many pebbles, each followed from its starting node, take part in at least one move of the plan of javendriky_plan, without planning;
+ * also those that start on a target and are pushed off it. Writes nothing.
  * Refused with 1 to 6, then 7. */
 uint32_t javendriky_displaced(const uint8_t *parents, size_t parents_len,
                               const uint8_t *pebbles, size_t pebbles_len,

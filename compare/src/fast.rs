@@ -1,5 +1,5 @@
-//! Test, bound, planner, checker and trial once more, written for speed: no list is asked for from the heap, children stand side by side in rising number,
-//! each demand is kept and changed by one when its edge is crossed. The benchmark sets the library beside these.
+//! Test, bound, displaced, planner, checker and trial once more, written for speed: no list is asked for from the heap, children stand side by side in
+//! rising number, each demand is kept and changed by one when its edge is crossed. The benchmark sets the library beside these.
 
 use crate::checker::{Tried, MAX_PLAN_BYTES};
 use crate::figures::Length;
@@ -16,6 +16,20 @@ pub fn length_bound(parents: &[u8], pebbles: &[u8], targets: &[u8]) -> Answer<Le
     let (demand, _) = demands(parents, pebbles, targets)?;
     let moves = sizes(&demand);
     Ok(Length { moves, bytes: 2 * moves })
+}
+
+/// Refusals 1 to 7; the pebbles that take part in a move of the plan, from the demands. A node is left by pebbles exactly if its subtree has too many or a
+/// child's too few, and the first to leave it is the one that started there.
+pub fn displaced(parents: &[u8], pebbles: &[u8], targets: &[u8]) -> Answer<u32> {
+    let mut left = [0; MAX_NODES];
+    demands_with(parents, pebbles, targets, |node, parent, demand| {
+        if demand < 0 {
+            left[node] = 1;
+        } else if demand > 0 {
+            left[parent] = 1;
+        }
+    })?;
+    Ok(pebbles.iter().zip(&left).map(|(pebble, left)| u32::from(pebble & left)).sum())
 }
 
 /// Refusals 1 to 8; writes the plan at the front of the list and answers its moves.
@@ -124,11 +138,19 @@ fn lowest_lost(parents: &[u8], root: usize) -> usize {
 
 /// Refusals 1 to 7; the demands of all nodes, and the root.
 fn demands(parents: &[u8], pebbles: &[u8], targets: &[u8]) -> Answer<([i16; MAX_NODES], usize)> {
+    demands_with(parents, pebbles, targets, |_, _, _| {})
+}
+
+/// The same, and on the way calls `settled` with each node but the root, its parent and its demand, children first.
+fn demands_with(parents: &[u8], pebbles: &[u8], targets: &[u8], mut settled: impl FnMut(usize, usize, i16)) -> Answer<([i16; MAX_NODES], usize)> {
     let mut demand = [0i16; MAX_NODES];
     for ((demand, &target), &pebble) in demand.iter_mut().zip(targets).zip(pebbles) {
         *demand = i16::from(target) - i16::from(pebble);
     }
-    let root = fold_up(parents, pebbles, targets, |node, parent| demand[parent] += demand[node])?;
+    let root = fold_up(parents, pebbles, targets, |node, parent| {
+        settled(node, parent, demand[node]);
+        demand[parent] += demand[node];
+    })?;
     if demand[root] != 0 {
         return refuse(7, 0);
     }

@@ -1,8 +1,9 @@
-//! The figures of document 01 and request 2.2: shortest length, bound, displaced ('disturbed' there), and the longest plan of n nodes.
+//! The figures of document 01 and requests 2.2 and 2.4: shortest length, bound, displaced ('disturbed' there), and the longest plan of n nodes.
 
 use crate::demands;
+use crate::follow::follow;
 use crate::planner;
-use crate::yard::{judge_matched, refuse, total, Answer, Yard, MAX_NODES};
+use crate::yard::{refuse, total, Answer, Yard, MAX_NODES};
 
 /// Theorem 14: the sum of the sizes of all demands. Asks for a tree with equal totals.
 pub fn shortest_length(yard: &Yard) -> u32 {
@@ -35,9 +36,14 @@ pub fn longest_plan(n: usize) -> Answer<u32> {
     }
 }
 
-/// How many pebbles stand on nodes that are no targets.
+/// Displaced (request 2.4): how many pebbles take part in a move of the plan, which is made and each pebble followed through it.
 pub fn displaced(yard: &Yard) -> Answer<u32> {
-    judge_matched(yard)?;
-    let off_target = |&node: &usize| yard.pebbles[node] == 1 && yard.targets[node] == 0;
-    Ok((0..yard.nodes()).filter(off_target).count() as u32)
+    let plan = planner::plan(yard, usize::MAX)?;
+    let pebbles = follow(yard, &plan).unwrap_or_else(|what| panic!("{yard:?}: {what}"));
+    Ok(pebbles.iter().filter(|pebble| pebble.moved).count() as u32)
+}
+
+/// How many pebbles start on nodes that are no targets. The displaced are never fewer (request 2.4).
+pub fn off_target(yard: &Yard) -> u32 {
+    yard.pebbles.iter().zip(&yard.targets).filter(|marks| *marks == (&1, &0)).count() as u32
 }

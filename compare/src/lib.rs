@@ -9,6 +9,7 @@ pub mod damage;
 pub mod demands;
 pub mod fast;
 pub mod figures;
+pub mod follow;
 // A list on a line, as in the header.
 #[cfg(feature = "library")]
 #[rustfmt::skip]

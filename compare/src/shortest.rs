@@ -1,7 +1,7 @@
 //! The least number of moves by two methods that know nothing of demands: a search through all pebble sets of a small tree, and the cheapest
 //! matching of pebbles to targets by their distances (the older optimal method that the source reviews).
 
-use crate::yard::Yard;
+use crate::yard::{marked, Yard};
 use std::collections::VecDeque;
 
 /// For each set of nodes (bit v for node v) the least number of moves from the yard's pebbles to it; none where no moves lead there.
@@ -32,7 +32,6 @@ pub fn set(marks: &[u8]) -> usize {
 
 /// The least sum of distances when each pebble gets a target of its own. Asks for a tree with equal totals.
 pub fn by_matching(yard: &Yard) -> u32 {
-    let marked = |marks: &[u8]| -> Vec<usize> { (0..marks.len()).filter(|&node| marks[node] == 1).collect() };
     let targets = marked(&yard.targets);
     let costs: Vec<Vec<i64>> =
         marked(&yard.pebbles).into_iter().map(|pebble| targets.iter().map(|&target| distance(yard, pebble, target)).collect()).collect();

@@ -55,6 +55,11 @@ pub fn total(marks: &[u8]) -> usize {
     marks.iter().filter(|&&mark| mark == 1).count()
 }
 
+/// The nodes whose marks are set, in rising number.
+pub fn marked(marks: &[u8]) -> Vec<usize> {
+    (0..marks.len()).filter(|&node| marks[node] == 1).collect()
+}
+
 /// Refusals 1 to 6: whether the lists are a tree with its marks.
 pub fn judge(yard: &Yard) -> Answer<()> {
     let n = yard.nodes();

@@ -100,25 +100,21 @@ fn trials(yard: &Yard, plan: &[u8]) -> Option<Times> {
     Some(measure(|| call(library::trial, &mut marks), || call(fast::trial, &mut plain_marks)))
 }
 
-fn tests(yard: &Yard) -> Option<Times> {
+type Figure<T> = fn(&[u8], &[u8], &[u8]) -> Answer<T>;
+
+/// The times of two calls that take the yard alone, or nothing if they differ or refuse it.
+fn figures<T: PartialEq>(yard: &Yard, library: Figure<T>, plain: Figure<T>) -> Option<Times> {
     let Yard { parents, pebbles, targets } = yard;
-    type Test = fn(&[u8], &[u8], &[u8]) -> Answer<()>;
-    let call = |test: Test| test(black_box(parents), black_box(pebbles), black_box(targets));
-    if call(library::test_yard) != Ok(()) || call(fast::test_yard) != Ok(()) {
+    let call = |figure: Figure<T>| figure(black_box(parents), black_box(pebbles), black_box(targets));
+    let answer = call(library);
+    if answer.is_err() || answer != call(plain) {
         return None;
     }
-    Some(measure(|| call(library::test_yard), || call(fast::test_yard)))
+    Some(measure(|| call(library), || call(plain)))
 }
 
-fn bounds(yard: &Yard) -> Option<Times> {
-    let Yard { parents, pebbles, targets } = yard;
-    type Bound = fn(&[u8], &[u8], &[u8]) -> Answer<Length>;
-    let library: Bound = |parents, pebbles, targets| library::length_bound(parents, pebbles, targets, &mut 0);
-    let call = |bound: Bound| bound(black_box(parents), black_box(pebbles), black_box(targets));
-    if call(library).is_err() || call(library) != call(fast::length_bound) {
-        return None;
-    }
-    Some(measure(|| call(library), || call(fast::length_bound)))
+fn bound(parents: &[u8], pebbles: &[u8], targets: &[u8]) -> Answer<Length> {
+    library::length_bound(parents, pebbles, targets, &mut 0)
 }
 
 /// The yards of the benchmark: root 0, parents before children, pebbles on the first half of the nodes, targets on the other. The line is yard I.
@@ -135,7 +131,14 @@ fn run() -> Option<f64> {
     for shape in Shape::ALL {
         let yard = yard(shape, 256);
         let (plan, planned) = plans(&yard, fast::plan)?;
-        let rows = [("plan", planned), ("check", checks(&yard, &plan)?), ("trial", trials(&yard, &plan)?), ("bound", bounds(&yard)?), ("test_yard", tests(&yard)?)];
+        let rows = [
+            ("plan", planned),
+            ("check", checks(&yard, &plan)?),
+            ("trial", trials(&yard, &plan)?),
+            ("bound", figures(&yard, bound, fast::length_bound)?),
+            ("displaced", figures(&yard, library::displaced, fast::displaced)?),
+            ("test_yard", figures(&yard, library::test_yard, fast::test_yard)?),
+        ];
         for (call, times) in rows {
             let (library, plain, ratio) = (times.library / 1e3, times.plain / 1e3, times.ratio());
             println!("{:<13}{call:<10}{:>7}{library:>12.2}{plain:>12.2}{ratio:>8.2}", shape.name(), plan.len() / 2);

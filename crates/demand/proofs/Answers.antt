@@ -1,50 +1,27 @@
--- What the tests of the account call and of the figures say, case by case; and of a list of all demands of a tree that its entries are small and
+-- What the tests of the account call say, case by case; and of a list of all demands of a tree that its entries are small and
 -- their sizes add up to the shortest length.
 use mathlib.Core.Path.{_≡_, sym, ap, _∙_}
-use mathlib.Core.Logic.{_↔_}
 use mathlib.Core.List.{List, _++_}
 use mathlib.Core.Option.{Option, none, some}
 use Prim.Native.Nat.{ℕ, _≤_, _<_}
 use native.Mathlib.Omega.{arith}
 use lib.ListN.{length, getD, take, replicate, length-replicate, List·getD-append}
 use lib.Seq.{take-at}
-use lib.IntN.{ℤ, pos, negsuc, natAbs}
+use lib.IntN.{ℤ, pos, natAbs}
 use borrow.Author.Tests.{eq-eqb, ne-eqb}
-use Rattle.model.specs.Yard.{Yard, size, maxSize, pebble, target, root, sum, demand, imbalance, shortest, Matched}
-use Rattle.model.specs.Judge.{Fault, fault, firstOf, listTests, shapeTests, judge, Tree}
-use Rattle.model.specs.Calls.Answers.{answer, lent}
-use Rattle.model.specs.Calls.Demands.{demandsFault, demandsOf, lengthOf, boundAnswer}
+use Rattle.model.specs.Yard.{Yard, size, maxSize, sum, demand, imbalance, shortest}
+use Rattle.model.specs.Judge.{Fault, fault, judge, Tree}
+use Rattle.model.specs.Calls.Answers.{lent}
+use Rattle.model.specs.Calls.Demands.{demandsFault, demandsOf}
 use Rattle.model.proofs.Sums.{sum-cong}
 use Rattle.model.proofs.Ranges.{length-range}
 use Rattle.model.proofs.Equation2.{demands-entry}
-use Rattle.model.proofs.Judged.{facts, wood}
-use Rattle.model.proofs.Tests.{judge-shape}
-use Rattle.model.proofs.Demands.{root-subtotal, root-even}
-use Rattle.model.proofs.Calls.{matched-refused}
+use Rattle.model.proofs.Judged.{facts}
 use Rattle.model.proofs.Signed.{demand-size, demand-range}
 use Rattle.demand.proofs.Lists.{all-listed}
 
 pub array-room : (n : ℕ) → n ≤ maxSize → n ≤ length (replicate 256 (pos 0))
 array-room n h = omega (arith, length-replicate {A = ℤ} 256 (pos 0))
-
--- the root's demand tells whether the totals differ
-zero-size : (z : ℤ) → natAbs z ≡ 0 → z ≡ pos 0
-zero-size (pos n) e = ap pos e
-zero-size (negsuc n) e = absurd (omega arith)
-
-pub root-demand : (y : Yard) → Tree y → Matched y ↔ (demand y (root y) ≡ pos 0)
-root-demand y t = (
-  (λ m. zero-size (demand y (root y)) (demand-size y (root y) ∙ root-even y t m)),
-  λ e. omega (arith, ap natAbs e, demand-size y (root y), root-subtotal (wood y t) (target y), root-subtotal (wood y t) (pebble y)),
-)
-
--- a yard that is no tree's has the refusal of its shape, past those of its lists
-pub bound-shape : (y : Yard) → none ≡ firstOf (listTests y) → (Tree y → ⊥) → answer (firstOf (shapeTests y)) (lengthOf 0) ≡ boundAnswer y
-bound-shape y p other = go (firstOf (shapeTests y)) (judge-shape y p)
-  where
-    go : (f : Option Fault) → f ≡ judge y → answer f (lengthOf 0) ≡ boundAnswer y
-    go none e = absurd (other (sym e))
-    go (some f) e = rw (matched-refused y (sym e))
 
 -- what a refused call answers and leaves, and an accepted one
 pub refuses : {f : Option Fault} {r : Fault} (old new : List ℤ) → f ≡ some r → (some r ≡ f) × (old ≡ lent f new old)

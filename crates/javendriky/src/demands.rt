@@ -7,9 +7,9 @@ use crate::answers::counted;
 use crate::answers::done;
 use crate::answers::refused;
 use demand::call::demands;
-use demand::call::displaced;
-use demand::call::length_bound;
-use demand::call::longest_plan;
+use figures::bound::length_bound;
+use figures::bound::longest_plan;
+use figures::displaced::displaced;
 use model::Measured;
 
 // The demands of all nodes into a list of exactly one entry a node. Refusals 1 to 6, then 2 for a list of another length, or 0.

@@ -7,14 +7,14 @@ use mathlib.Core.Logic.{_≢_, _↔_, _⊎_, inl, inr}
 use mathlib.Core.Bool.{Bool, true, false, not, _&&_, _||_, or-true, and-eq-true-iff}
 use mathlib.Core.List.{List, []}
 use mathlib.Core.Option.{none}
-use Prim.Native.Nat.{ℕ, zero, suc, _+_, _-_, _*_, _%_, _≤_, _<_}
+use Prim.Native.Nat.{ℕ, _+_, _-_, _*_, _%_, _≤_, _<_}
 use native.Mathlib.Nat.{sub-self, mul-mod-right}
 use native.Mathlib.Omega.{arith}
 use lib.ListN.{length, drop, getD, set}
 use lib.Seq.{ext-getD}
 use lib.Dec.{leb, ltb, eqb}
 use borrow.Author.Tests.{ltb-false, eqb-true, lt-ltb, le-ltb, le-leb, eq-eqb, ne-eqb}
-use Rattle.model.specs.Yard.{Yard, size, parent, pebble, target, held, holding, one, sum, below, shortest, Matched}
+use Rattle.model.specs.Yard.{Yard, size, parent, pebble, target, holding, below, shortest, Matched}
 use Rattle.model.specs.Judge.{row, atLowest, Tree, matchedFault}
 use Rattle.model.specs.Push.{Move, push, adjacent, moveTests, moveFault, shifted, run, accepted, Solved}
 use Rattle.model.specs.Plan.{plan}
@@ -24,7 +24,7 @@ use Rattle.model.specs.Calls.Plans.{bytes, movesOf, planAnswer}
 use Rattle.model.specs.Calls.Checks.{maxPlanBytes, bytesFault, endFault, Verdict, checkTests, checkFault, checkAnswer}
 use Rattle.model.specs.Demand2.{Carries, Demand2}
 use Rattle.model.proofs.Basics.{below-none, none-below, none-all, all-none, atLowest-none}
-use Rattle.model.proofs.Sums.{sum-cong, sum-tight, length-below}
+use Rattle.model.proofs.Sums.{sum-tight}
 use Rattle.model.proofs.Judged.{facts}
 use Rattle.model.proofs.Bounds.{shortest-fits}
 use Rattle.model.proofs.Step.{Step, step, ends, moved-tree}
@@ -158,16 +158,3 @@ seven-same y t list bs = (
   seven y t _ [] tt,
   seven y t _ [] tt,
 )
-
--- the displaced pebbles, counted
-pub displaced-marks : (y : Yard) → Tree y → sum (size y) (λ v. pebble y v - target y v) ≡ length (below (size y) (λ v. (held y v) && (not (ltb 0 (target y v)))))
-displaced-marks y t =
-    sum-cong (size y) _ _ (λ v l. each (pebble y v) (target y v) (facts y t .pebble-le v l) (facts y t .target-le v l))
-    ∙ sym (length-below (size y) (λ v. (held y v) && (not (ltb 0 (target y v)))))
-  where
-    each : (p q : ℕ) → p ≤ 1 → q ≤ 1 → p - q ≡ one ((ltb 0 p) && (not (ltb 0 q)))
-    each zero q h k = omega arith
-    each (suc zero) zero h k = refl
-    each (suc zero) (suc zero) h k = refl
-    each (suc zero) (suc (suc q)) h k = absurd (omega arith)
-    each (suc (suc p)) q h k = absurd (omega arith)

@@ -40,7 +40,7 @@ subtotal-weight ps f u h = sum-mono (length ps) _ _ (λ v l. mul-le-mul-left (on
 
 module _ {ps : List ℕ} {r : ℕ} (f : Wood ps r) where
   -- picking one child
-  pick : (u w : ℕ) → w < length ps → overChildren ps (λ c. one (eqb w c)) u ≡ one (isChild ps u w)
+  pub pick : (u w : ℕ) → w < length ps → overChildren ps (λ c. one (eqb w c)) u ≡ one (isChild ps u w)
   pick u w l = sum-cong (length ps) _ _ (λ c _. rw (eqb-sym w c) (mul-comm (one (isChild ps u c)) (one (eqb c w)))) ∙ sum-pick (length ps) w (λ c. one (isChild ps u c)) l
 
   inside-children : (u w : ℕ) → w < length ps → one (inside ps u w) ≡ one (eqb w u) + overChildren ps (λ c. one (inside ps c w)) u

@@ -23,6 +23,8 @@ pub mod Balance
 pub mod Calls
 pub mod Yards
 pub mod Demand3
+pub mod Outgoing
+pub mod Displaced
 pub mod Longest
 pub mod Moves
 pub mod Demand2

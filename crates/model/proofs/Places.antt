@@ -12,7 +12,7 @@ use lib.ListN.{length, drop, length-take}
 use lib.IntN.{ℤ}
 use lib.Dec.{leb, ltb, eqb}
 use borrow.Author.Tests.{leb-true, lt-ltb, le-ltb}
-use Rattle.model.specs.Yard.{Yard, size, maxSize, parent, pebble, target, full, held, below, roots, pebbleCount, targetCount, Matched}
+use Rattle.model.specs.Yard.{Yard, size, maxSize, parent, pebble, full, held, below, roots, pebbleCount, targetCount, Matched}
 use Rattle.model.specs.Judge.{Fault, row, fault, firstOf, unless, atLowest, sizeFault, rootFault, tests, judge, Tree, totalsFault, matchedTests, matchedFault}
 use Rattle.model.specs.Push.{Move, adjacent, moveTests, moveFault, pushFault, pushed}
 use Rattle.model.specs.Plan.{plan}
@@ -27,6 +27,7 @@ use Rattle.model.proofs.Judged.{facts}
 use Rattle.model.proofs.Signed.{shortest-small}
 use Rattle.model.proofs.Calls.{movesOf-half, totals-none, plan-none, matched-tree}
 use Rattle.model.proofs.Demand3.{plan-length}
+use Rattle.model.proofs.Displaced.{displaced-le}
 use Rattle.model.proofs.Sheets.{Bytes, yardSheet-short, read-sizes, read-places}
 
 -- a refusal, if there is one, is of the table and has a small place
@@ -200,7 +201,7 @@ module _ (y : Yard) where
   pebbles-few t = omega (arith, facts y t .few, sum-mono (size y) (pebble y) (λ _. 1) (facts y t .pebble-le), sum-le (size y) (λ _. 1) (λ _. omega arith))
 
   pub displaced-small : Small (displacedAnswer y)
-  displaced-small = small _ figure-low (λ e. omega (arith, pebbles-few (matched-tree y e .0), sum-mono (size y) (λ v. pebble y v - target y v) (pebble y) (λ v _. omega arith)))
+  displaced-small = small _ figure-low (λ e. omega (arith, displaced-le y, pebbles-few (matched-tree y e .0)))
 
 -- the figure for n alone
 pub longest-small : (n : ℕ) → Small (longestAnswer n)

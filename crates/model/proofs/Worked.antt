@@ -13,9 +13,9 @@ use Rattle.model.specs.Yard.{Yard, yardOf, sum, below, roots, climbs, in
 use Rattle.model.specs.Judge.{Fault, row, fault, judge, matchedFault}
 use Rattle.model.specs.Push.{Move, push, moveFault, pushFault, legal, shifted, after, accepted, count}
 use Rattle.model.specs.Plan.{needy, choice, inject, extract, turn, settle, each, balance, planWithin, plan}
-use Rattle.model.specs.Follow.{placed, starts, At, Follows, route}
+use Rattle.model.specs.Follow.{placed, starts, occurs, At, Follows, route, firstAt, lastIn, lifo, displaced}
 use Rattle.model.specs.Calls.Answers.{Answer, answered, refused, range}
-use Rattle.model.specs.Calls.Demands.{demandsFault, demandsList, Length, boundAnswer, longestAnswer}
+use Rattle.model.specs.Calls.Demands.{demandsFault, demandsList, Length, boundAnswer, displacedAnswer, longestAnswer}
 use Rattle.model.specs.Calls.Plans.{bytes, movesOf, planFault, planAnswer, planList}
 use Rattle.model.specs.Calls.Checks.{movesFault, Verdict, checkFault, checkAnswer, Trial, trialFault, trialAnswer, trialPebbles}
 use Rattle.model.specs.Sheets.{text, digits, decimal, stopBefore, line, lines, header, cut, same, value, field, readLine, readNodes, readYard, moveLines, edges, report, moveSheet, refusalSheet, program}
@@ -37,8 +37,10 @@ data Input : Type 0 where
   printOf : String → Input
   boundOf : Yard → Input
   longestOf : ℕ → Input
-  -- where the pebbles start
+  displacedOf : Yard → Input
+  -- where the pebbles start, and the one that each of some moves takes
   startsOf : Yard → Input
+  takenOf : List Move → Yard → Input
 
 data Outcome : Type 0 where
   demands : List ℤ → Outcome
@@ -66,7 +68,9 @@ outcome (pushesOf ms y) = left (after y ms)
 outcome (printOf sheet) = printed (program (text sheet))
 outcome (boundOf y) = measured (boundAnswer y)
 outcome (longestOf n) = counted (longestAnswer n)
+outcome (displacedOf y) = counted (displacedAnswer y)
 outcome (startsOf y) = left (starts y)
+outcome (takenOf ms y) = left (lifo y ms)
 
 record Case : Type 0 where
   input : Input
@@ -157,6 +161,13 @@ cases =
     ∷ (longestOf 5 gives counted (answered 6))
     ∷ (longestOf 256 gives counted (answered 16_384))
     ∷ (longestOf 257 gives counted (refused (row 1 0)))
+    -- request 2.4: both pebbles of A and of B take part, in B one that starts on a target; one that is not pushed does not
+    ∷ (displacedOf yardA gives counted (answered 2))
+    ∷ (displacedOf yardB gives counted (answered 2))
+    ∷ (displacedOf (yard (0 ∷ 0 ∷ 0 ∷ []) (1 ∷ 2 ∷ []) (0 ∷ 2 ∷ [])) gives counted (answered 1))
+    ∷ (displacedOf (yard (0 ∷ 0 ∷ []) (0 ∷ 1 ∷ []) (0 ∷ 1 ∷ [])) gives counted (answered 0))
+    ∷ (displacedOf (yard (0 ∷ 0 ∷ []) (0 ∷ 1 ∷ []) (0 ∷ [])) gives counted (refused (row 7 0)))
+    ∷ (takenOf (push 1 2 ∷ push 0 1 ∷ push 1 0 ∷ push 2 1 ∷ []) yardB gives left (1 ∷ 0 ∷ 0 ∷ 1 ∷ []))
     -- children are balanced in rising number
     ∷ (planOf (yard (0 ∷ 0 ∷ 0 ∷ 1 ∷ 1 ∷ 2 ∷ 2 ∷ []) (3 ∷ 5 ∷ []) (4 ∷ 6 ∷ [])) gives moves (push 3 1 ∷ push 1 4 ∷ push 5 2 ∷ push 2 6 ∷ []))
     -- clearing fills the lowest child that lacks a pebble
@@ -174,7 +185,7 @@ cases =
     ∷ []
 
 worked : map (λ (c : Case). outcome (c .input)) cases ≡ map (λ (c : Case). c .expected) cases
-unfolding demandsA siding placed cases _gives_ outcome yard marks yardA yardB planB sum below roots climbs inside subtotal shortest judge moveFault pushFault legal shifted after accepted count needy choice inject extract turn settle each balance planWithin plan range demandsFault bytes movesOf planFault movesFault checkFault trialFault matchedFault text digits decimal stopBefore line lines header cut same value field readLine readNodes readYard moveLines edges report moveSheet refusalSheet program
+unfolding demandsA siding placed occurs firstAt lastIn displaced cases _gives_ outcome yard marks yardA yardB planB sum below roots climbs inside subtotal shortest judge moveFault pushFault legal shifted after accepted count needy choice inject extract turn settle each balance planWithin plan range demandsFault bytes movesOf planFault movesFault checkFault trialFault matchedFault text digits decimal stopBefore line lines header cut same value field readLine readNodes readYard moveLines edges report moveSheet refusalSheet program
 worked = refl
 
 -- two pebbles start at node 1, and one at node 2: whichever is taken, pebble 1 may go the second time, and each has its own route

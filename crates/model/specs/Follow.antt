@@ -1,13 +1,14 @@
--- Pebbles followed from their starts ('The words of demand 3'): an accepted push takes one pebble that stands at its
+-- Pebbles followed from their starts ('The words of demand 3', request 2.4): an accepted push takes one pebble that stands at its
 -- first node to the second, and every other stays.
 use mathlib.Core.Path.{_≡_}
 use mathlib.Core.Bool.{true, cond}
 use mathlib.Core.List.{List, [], _∷_, _++_}
 use Prim.Native.Nat.{ℕ, zero, suc, _+_, _<_}
 use lib.ListN.{length, getD, set, replicate}
-use lib.Dec.{eqb}
-use Rattle.model.specs.Yard.{Yard, size, pebble, one, below}
+use lib.Dec.{ltb, eqb}
+use Rattle.model.specs.Yard.{Yard, size, pebble, one, sum, below}
 use Rattle.model.specs.Push.{Move, isUp, isDown, count}
+use Rattle.model.specs.Plan.{plan}
 
 -- where each pebble stands: at the start the nodes in rising number, each as often as it holds pebbles
 unfoldable pub placed : ℕ → (ℕ → ℕ) → List ℕ
@@ -53,3 +54,11 @@ lastIn order ps (m ∷ ms) = let i = firstAt ps (m .from) order in i ∷ lastIn 
 
 abbrev pub lifo : Yard → List Move → List ℕ
 lifo y ms = lastIn (below (length (starts y)) (λ _. true)) (starts y) ms
+
+-- how many pebbles take part in at least one move, given the pebble that each move takes
+abbrev pub movers : Yard → List ℕ → ℕ
+movers y is = sum (length (starts y)) (λ i. one (ltb 0 (occurs i is)))
+
+-- request 2.4: displaced (disturbed) are the pebbles, each followed from its starting node, that take part in a move of the plan
+unfoldable pub displaced : Yard → ℕ
+displaced y = movers y (lifo y (plan y))

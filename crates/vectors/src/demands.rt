@@ -9,9 +9,9 @@ use cases::print::done;
 use cases::print::measured;
 use cases::print::text;
 use demand::call::demands;
-use demand::call::displaced;
-use demand::call::length_bound;
-use demand::call::longest_plan;
+use figures::bound::length_bound;
+use figures::bound::longest_plan;
+use figures::displaced::displaced;
 
 // The answer, and the list, which is full of 9 before the call.
 fn account(line: &[u8], parents: &[u8], pebbles: &[u8], targets: &[u8]) {

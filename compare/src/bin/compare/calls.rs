@@ -185,7 +185,13 @@ impl Caller {
         let inputs = Inputs { call: "displaced", yard, bytes: &[], numbers: &[] };
         let lent = self.lend(yard);
         let got = during(&inputs, || library::displaced(lent.parents.list(), lent.pebbles.list(), lent.targets.list()));
-        self.same(&inputs, got, figures::displaced(yard), lent.wrong(yard))
+        let off_target = figures::off_target(yard);
+        if got.is_ok_and(|displaced| displaced < off_target) {
+            return Err(format!("{inputs}the library answers {got:?}, but {off_target} pebbles start on nodes that are no targets"));
+        }
+        let expected = figures::displaced(yard);
+        quick(&inputs, fast::displaced(&yard.parents, &yard.pebbles, &yard.targets), &expected)?;
+        self.same(&inputs, got, expected, lent.wrong(yard))
     }
 
     /// The planner with a list of `room` bytes.

@@ -7,7 +7,7 @@ use std::ops::RangeInclusive;
 use unrelated::random::Random;
 use unrelated::shapes::{self, Shape};
 use unrelated::yard::{Refusal, Yard};
-use unrelated::{checker, damage, demands, figures, library, planner, report, sheet, shortest, yard};
+use unrelated::{checker, damage, demands, figures, follow, library, planner, report, sheet, shortest, yard};
 
 /// A family tries its cases and tells how many there were.
 pub type Family = fn(&Caller, Thin) -> Same<u64>;
@@ -97,17 +97,10 @@ fn planned(caller: &Caller, yard: &Yard, plan: &[u8], random: &mut Random) -> Sa
     printed(yard, plan)
 }
 
-/// The plan as the move program prints it, with the crossing report that demand 3 asks for; its pebbles end on the targets.
+/// The plan as the move program prints it, with the crossing report that demand 3 asks for; its pebbles, followed, end on the targets.
 fn printed(yard: &Yard, plan: &[u8]) -> Same {
-    report::judge(yard, &sheet::move_sheet(yard, plan)).map_err(|what| format!("{yard:?}: {what}"))?;
-    let mut pebbles = yard.pebbles.clone();
-    for ends in plan.chunks(2) {
-        pebbles.swap(usize::from(ends[0]), usize::from(ends[1]));
-    }
-    if pebbles != yard.targets {
-        return Err(format!("{yard:?}: the plan {plan:?} does not end on the targets"));
-    }
-    Ok(())
+    let judged = report::judge(yard, &sheet::move_sheet(yard, plan)).and_then(|()| follow::judge(yard, plan));
+    judged.map_err(|what| format!("{yard:?}: {what}"))
 }
 
 fn every_tree(caller: &Caller, thin: Thin) -> Same<u64> {

@@ -9,7 +9,7 @@ use unrelated::random::Random;
 use unrelated::shapes::{far, Shape};
 use unrelated::sheet::{self, program};
 use unrelated::yard::{judge, refuse, Answer, Yard};
-use unrelated::{demands, report};
+use unrelated::{demands, figures, follow, report};
 
 const ANY: usize = usize::MAX;
 
@@ -65,6 +65,11 @@ impl Worked<'_> {
     }
 }
 
+/// A list with each entry left out, and with each doubled.
+fn altered<T: Clone>(list: &[T]) -> Vec<Vec<T>> {
+    (0..list.len()).flat_map(|at| [[&list[..at], &list[at + 1..]], [&list[..=at], &list[at..]]]).map(|parts| parts.concat()).collect()
+}
+
 pub fn worked(caller: &Caller) -> Same<u64> {
     caller.version()?;
     let mut w = Worked { caller, cases: 0 };
@@ -76,18 +81,22 @@ pub fn worked(caller: &Caller) -> Same<u64> {
     // Request 2.1 gives what follows the moves.
     let a_lines = ["from to", "1 0", "0 2", "3 1", "1 4", "track up down", "1 1 0", "2 0 1", "3 1 0", "4 0 1", "total", "4"];
     w.printed("A, printed", &a, &a_lines)?;
-    // The judge of reports sees each line that is left out or doubled.
-    for at in 0..a_lines.len() {
-        let (front, rest) = a_lines.split_at(at);
-        for altered in [[front, &rest[1..]], [&a_lines[..=at], rest]] {
-            let altered = altered.concat().join("\n") + "\n";
-            w.is(&format!("A, line {at} altered"), report::judge(&a, altered.as_bytes()).is_err(), true)?;
-        }
+    // The judge of reports sees each line that is left out or doubled, that of followed pebbles each move.
+    for lines in altered(&a_lines) {
+        let sheet = lines.join("\n") + "\n";
+        w.is(&format!("A, {sheet:?} is refused"), report::judge(&a, sheet.as_bytes()).is_err(), true)?;
     }
+    for moves in altered(&Vec::from_iter(a_plan.chunks(2))) {
+        w.is(&format!("A, {moves:?} are refused"), follow::judge(&a, &moves.concat()).is_err(), true)?;
+    }
+    // Request 2.4 gives the displaced of A and B.
+    w.is("A, displaced", figures::displaced(&a), Ok(2))?;
 
     let b = yard(&[0, 0, 1], &[1, 1, 0], &[0, 1, 1]);
     let b_plan = [1, 2, 0, 1];
     w.plan("B", &b, ANY, Ok(&b_plan))?;
+    w.is("B, displaced", figures::displaced(&b), Ok(2))?;
+    w.is("B, a pebble is moved onto another", follow::judge(&b, &[0, 1, 1, 2]).is_err(), true)?;
     w.printed("B, printed", &b, &["from to", "1 2", "0 1", "track up down", "1 0 1", "2 0 1", "total", "2"])?;
 
     w.plan("C, pebble and target", &yard(&[0], &[1], &[1]), ANY, Ok(&[]))?;

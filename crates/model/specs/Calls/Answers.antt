@@ -70,4 +70,4 @@ Small (refused f) = Row f
 
 -- the version of the calls for C: raised whenever one gets further arguments or another meaning under its name
 abbrev pub version : ℕ
-version = 2
+version = 3

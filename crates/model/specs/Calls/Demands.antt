@@ -1,16 +1,17 @@
--- The account call ('Accounts'), the figures bound and disturbed ('Checker, trial and three figures', request 2.2), and the figure for n alone (request 2.2).
+-- The account call ('Accounts'), the figures bound and disturbed ('Checker, trial and three figures', requests 2.2 and 2.4), and the figure for n alone (request 2.2).
 use mathlib.Core.Path.{_≡_}
 use mathlib.Core.Logic.{_↔_}
 use mathlib.Core.Bool.{_&&_}
 use mathlib.Core.List.{List, [], _∷_, map}
 use mathlib.Core.Option.{Option}
-use Prim.Native.Nat.{ℕ, _-_, _*_, _/_, _<_}
+use Prim.Native.Nat.{ℕ, _*_, _/_, _<_}
 use lib.ListN.{length}
 use lib.Dec.{leb, ltb, eqb}
 use lib.IntN.{ℤ}
-use Rattle.model.specs.Yard.{Yard, size, maxSize, pebble, target, sum, demand, Equation2}
+use Rattle.model.specs.Yard.{Yard, size, maxSize, demand, Equation2}
 use Rattle.model.specs.Judge.{Fault, fault, firstOf, unless, judge, Tree, matchedFault}
 use Rattle.model.specs.Plan.{plan}
+use Rattle.model.specs.Follow.{displaced}
 use Rattle.model.specs.Calls.Answers.{Answer, answer, lent, range}
 
 -- The account call ('Accounts'): refusals 1 to 6, then 2 for a list of another length than n; it writes the demands of all nodes.
@@ -42,9 +43,9 @@ lengthOf moves = record { moves = moves; listBytes = 2 * moves }
 abbrev pub boundAnswer : Yard → Answer Length
 boundAnswer y = answer (matchedFault y) (lengthOf (length (plan y)))
 
--- displaced (disturbed) are the pebbles above the targets, summed: with marks of 0 and 1 the number of starting nodes that are not targets
+-- displaced (disturbed, request 2.4) are the pebbles that take part in a move of the plan
 abbrev pub displacedAnswer : Yard → Answer ℕ
-displacedAnswer y = answer (matchedFault y) (sum (size y) (λ v. pebble y v - target y v))
+displacedAnswer y = answer (matchedFault y) (displaced y)
 
 -- The figure for n alone (request 2.2): the most moves that a yard of n nodes can need, a quarter of n × n, rounded down; 1, n is 0 or above 256
 abbrev pub longest : ℕ → ℕ

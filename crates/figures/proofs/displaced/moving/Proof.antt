@@ -1,4 +1,4 @@
--- `excess_marks` is the sum: after i turns the count is that of the first i nodes. Each adds at most 255, and there are at most 256, so it
+-- `moving` is the sum: after i turns the count is that of the first i nodes. Each adds at most 255, and there are at most 256, so it
 -- fits.
 use borrow.Author.Needs.{needs}
 use native.Mathlib.Omega.{arith}
@@ -8,18 +8,18 @@ use mathlib.Core.Path.{_≡_, ap, _∙_}
 use mathlib.Core.List.{List}
 use lib.ListN.{length, getD}
 use Rattle.model.specs.Yard.{sum}
-use Rattle.demand.proofs.call.excess_marks.Statement.{statement}
-use Rattle.demand.proofs.call.excess_marks.Tie as tie
+use Rattle.figures.proofs.displaced.moving.Statement.{statement}
+use Rattle.figures.proofs.displaced.moving.Tie as tie
 
 -- what node v adds
 abbrev over : List ℕ → List ℕ → ℕ → ℕ
-over pebbles targets v = getD pebbles v 0 - getD targets v 0
+over pebbles stays v = getD pebbles v 0 - getD stays v 0
 
 abbrev Inv-loop : tie.InvT-loop
-Inv-loop pebbles targets count₀ i₀ count i = (i ≤ length pebbles) × (count ≡ sum i (over pebbles targets)) × (count ≤ 255 * i)
+Inv-loop pebbles stays count₀ i₀ count i = (i ≤ length pebbles) × (count ≡ sum i (over pebbles stays)) × (count ≤ 255 * i)
 
 abbrev μ-loop : tie.MeasureT-loop
-μ-loop pebbles targets count₀ i₀ count i = length pebbles - i
+μ-loop pebbles stays count₀ i₀ count i = length pebbles - i
 
 -- what node i adds is no more than its pebbles, a byte
 byte : (c : tie.After-above Inv-loop μ-loop) → c .above .result < 256
@@ -55,10 +55,10 @@ returns : tie.Need-returns Inv-loop μ-loop
 returns c =
     let a = c .before .before .before .before .args in
     let all : c .before .loop .i ≡ length (a .pebbles .now) = omega arith in
-    c .before .loop .inv .1 ∙ ap (λ (n : ℕ). sum n (over (a .pebbles .now) (a .targets .now))) all
+    c .before .loop .inv .1 ∙ ap (λ (n : ℕ). sum n (over (a .pebbles .now) (a .stays .now))) all
 
-pub excess-marks-spec : {M : Type 1} → statement M
-excess-marks-spec =
+pub moving-spec : {M : Type 1} → statement M
+moving-spec =
     tie.close
     (tie.spec
     Inv-loop

@@ -1,10 +1,10 @@
--- `length_bound` is refused as the lists are, then as the parents' shape is where gathering leaves more than the root, then by the root's demand; or
--- else gives the shortest length, which is the plan's, and twice as many bytes.
+-- `matched_demands` is refused as the lists are, then as the parents' shape is where gathering leaves more than the root, then by the root's demand; or
+-- else what is gathered are the demands.
 use borrow.Author.Needs.{needs}
 use native.Mathlib.Omega.{arith}
-use Prim.Native.Nat.{ℕ, _<_}
+use Prim.Native.Nat.{ℕ, _≤_, _<_}
 use mathlib.Core.Path.{_≡_, sym, ap, _∙_}
-use mathlib.Core.Option.{none}
+use mathlib.Core.Option.{none, some}
 use mathlib.Core.List.{List, _++_}
 use lib.ListN.{getD, length-append}
 use lib.IntN.{ℤ, pos}
@@ -12,21 +12,21 @@ use mir.Syntax.{w16}
 use mir.Val.{toZ, ofZ}
 use mir.ValLaws.{toZ-ofZ}
 use lib.Seq.{length-take-le}
-use Rattle.model.specs.Yard.{Yard, yardOf, size, root, demand, shortest, Matched}
-use Rattle.model.specs.Judge.{firstOf, listTests, Tree}
-use Rattle.model.specs.Calls.Answers.{answered}
-use Rattle.model.specs.Calls.Demands.{demandsOf, lengthOf}
+use Rattle.model.specs.Yard.{Yard, yardOf, size, root, demand, Matched}
+use Rattle.model.specs.Judge.{Fault, firstOf, listTests, Tree, matchedFault}
+use Rattle.model.specs.Calls.Demands.{demandsOf}
 use Rattle.model.proofs.Tests.{judge-lists, judge-shape}
 use Rattle.model.proofs.Judged.{Flat, flat, wood}
-use Rattle.model.proofs.Calls.{sees, matched-refused, matched-totals, matched-none}
-use Rattle.model.proofs.Signed.{demand-range, shortest-small}
+use Rattle.model.proofs.Calls.{sees, matched-refused, matched-totals, matched-none, matched-tree}
+use Rattle.model.proofs.Signed.{demand-range}
 use Rattle.model.proofs.Equation2.{only-demands}
-use Rattle.model.proofs.Longest.{bound-answer}
 use Rattle.lists.proofs.Root.{root-found}
 use Rattle.demand.proofs.Numbers.{small-fits}
-use Rattle.demand.proofs.Answers.{array-room, root-demand, bound-shape, demands-long, demands-front, demands-at, demands-small, demands-sum}
-use Rattle.demand.proofs.call.length_bound.Statement.{statement}
-use Rattle.demand.proofs.call.length_bound.Tie as tie
+use Rattle.demand.proofs.Answers.{demands-front, demands-at}
+use Rattle.figures.specs.Leaving.{Told}
+use Rattle.figures.proofs.Refused.{shape-refused, root-demand}
+use Rattle.figures.proofs.matched.matched_demands.Statement.{statement}
+use Rattle.figures.proofs.matched.matched_demands.Tie as tie
 
 abbrev start : tie.After-enum-told → tie.Start
 start e = e .before .before .before .before .before .before
@@ -65,7 +65,7 @@ entry : (c : tie.After-first-own) (rest : List ℤ) → let g = c .before .befor
     getD (g .gather .last .1 .1 .1 .0 ++ rest) (c .first-own .result) (pos 0) ≡ demand y (root y)
 entry c rest = let y = yard (c .before .before .before .before .before) in rw (found c) (demands-at y rest (root y) (gathered (c .before)) (wood y (tree (c .before)) .root-lt))
 
--- the shortest length, where the totals agree
+-- where the totals agree
 matched : (c : tie.Else2) → Matched (yard (c .before .before .before .before .before .before .before))
 matched c =
     let o = c .before .before in
@@ -74,11 +74,9 @@ matched c =
     root-demand y (tree (o .before)) .1
     (sym z ∙ sym (toZ-ofZ w16 _ (small-fits _ (rw z (demand-range y (tree (o .before)) (root y))))) ∙ ap (toZ w16) (c .if2 .left))
 
-measured : (c : tie.After-sizes) → c .sizes .result ≡ shortest (yard (c .before .before .before .before .before .before .before .before .before))
-measured c =
-    let x = c .before .before .before .before .before in
-    let y = yard (x .before .before .before .before) in
-    c .sizes .ensures ∙ demands-sum y (demands-front y _ (gathered x))
+-- a refusal, of which nothing is told of the list
+told : (y : Yard) {f : Fault} (list : List ℤ) → matchedFault y ≡ some f → (some f ≡ matchedFault y) × Told y list
+told y list e = (sym e, λ m. let no : _≡_ {A = ℕ} 0 1 = cc (sym e ∙ m) in absurd (omega arith))
 
 test-lists-requires : tie.Need-test-lists-requires
 test-lists-requires c κs = search needs
@@ -91,28 +89,34 @@ returns c =
     let t = c .before .before .before in
     let a = t .before .before .before .before .args in
     let y = yardOf (a .parents .now) (a .pebbles .now) (a .targets .now) in
-    rw (matched-refused y (sym (judge-lists y _ (sym (sees (t .test-lists .ensures) (c .before .lists .given .1))))))
+    let e = matched-refused y (sym (judge-lists y _ (sym (sees (t .test-lists .ensures) (c .before .lists .given .1))))) in
+    told y _ e
 
 enum-told : tie.Need-enum-told
 enum-told c = search needs
 
-array-borrow-prefix-demands : tie.Need-array-borrow-prefix-demands
-array-borrow-prefix-demands c = array-room _ (lists c .few .1)
+slice-relend-prefix-gather : tie.Need-slice-relend-prefix-gather
+slice-relend-prefix-gather c = omega (arith, lists c .few, start c .pre)
 
 slice-aggregate-gather : tie.Need-slice-aggregate-gather
-slice-aggregate-gather c = sym (length-take-le _ _ (array-borrow-prefix-demands (c .before)))
+slice-aggregate-gather c = sym (length-take-le _ _ (slice-relend-prefix-gather (c .before)))
 
 gather-requires : tie.Need-gather-requires
-gather-requires c κs = (passed (c .before), length-take-le _ _ (array-borrow-prefix-demands (c .before)))
+gather-requires c κs = (passed (c .before), length-take-le _ _ (slice-relend-prefix-gather (c .before)))
 
-refused-shape-requires : tie.Need-refused-shape-requires
-refused-shape-requires c κs = let f = lists (c .before .before .before .before) in record { few = f .few .1; node = f .parent-lt }
+test-shape-requires : tie.Need-test-shape-requires
+test-shape-requires c κs = let f = lists (c .before .before .before .before) in record { few = f .few .1; node = f .parent-lt }
+
+same-length : tie.Need-same-length
+same-length c = search needs
 
 returns-2 : tie.Need-returns-2
 returns-2 c =
     let g = c .before .before .before in
     let e = g .before .before in
-    c .refused-shape .ensures ∙ bound-shape (yard e) (sym (passed e)) (λ t. c .before .if1 .taken (g .gather .ensures .tree t))
+    let y = yard e in
+    let other : Tree y → ⊥ = λ t. c .before .if1 .taken (g .gather .ensures .tree t) in
+    (c .test-shape .ensures ∙ shape-refused y (sym (passed e)) other, λ m. absurd (other (matched-tree y m .0)))
 
 first-own-requires : tie.Need-first-own-requires
 first-own-requires c κs = search needs
@@ -120,56 +124,48 @@ first-own-requires c κs = search needs
 mul-if2 : tie.Need-mul-if2
 mul-if2 c = omega (arith, within c)
 
-array-copy-out-if2 : tie.Need-array-copy-out-if2
-array-copy-out-if2 c = within c
+slice-copy-out-if2 : tie.Need-slice-copy-out-if2
+slice-copy-out-if2 c =
+    let g = c .before .before .before in
+    let e = g .before .before in
+    simp length-append (omega (arith, g .gather .ensures .long, found c, wood (yard e) (tree (c .before)) .root-lt))
+
+same-length-2 : tie.Need-same-length-2
+same-length-2 c = search needs
 
 returns-3 : tie.Need-returns-3
 returns-3 c =
     let o = c .before .before in
-    let e = o .before .before .before .before .before in
-    rw (matched-totals (yard e) (tree (o .before)) (λ m. c .if2 .taken (ap (ofZ w16) (entry o _ ∙ root-demand (yard e) (tree (o .before)) .0 m))))
+    let y = yard (o .before .before .before .before .before) in
+    told y _ (matched-totals y (tree (o .before)) (λ m. c .if2 .taken (ap (ofZ w16) (entry o _ ∙ root-demand y (tree (o .before)) .0 m))))
 
-array-share-prefix-demands : tie.Need-array-share-prefix-demands
-array-share-prefix-demands c = let g = c .before .before .before .before .before in simp length-append (omega (arith, demands-long (yard (g .before .before)) (gathered (c .before .before .before))))
-
-slice-aggregate-sizes : tie.Need-slice-aggregate-sizes
-slice-aggregate-sizes c = sym (length-take-le _ _ (array-share-prefix-demands (c .before)))
-
-sizes-requires : tie.Need-sizes-requires
-sizes-requires c κs =
-    let x = c .before .before .before .before in
-    let g = x .before .before in
-    let y = yard (g .before .before) in
-    demands-small y (tree x) (demands-front y _ (gathered x))
-
-mul-t14 : tie.Need-mul-t14
-mul-t14 c = let x = c .before .before .before .before .before in omega (arith, measured c, shortest-small (yard (x .before .before .before .before)) (tree x))
+same-length-3 : tie.Need-same-length-3
+same-length-3 c = search needs
 
 returns-4 : tie.Need-returns-4
 returns-4 c =
-    let x = c .before .before .before .before .before in
-    let y = yard (x .before .before .before .before) in
-    rw (bound-answer y, matched-none y (tree x) (matched (c .before .before))) (ap (λ (n : ℕ). answered (lengthOf n)) (measured c))
+    let o = c .before .before in
+    let y = yard (o .before .before .before .before .before) in
+    (sym (matched-none y (tree (o .before)) (matched c)), λ _. demands-front y _ (gathered (o .before)))
 
-pub length-bound-spec : {M : Type 1} → statement M
-length-bound-spec =
+pub matched-demands-spec : {M : Type 1} → statement M
+matched-demands-spec =
     tie.close
     (tie.spec
     test-lists-requires
     enum-known-lists
     returns
     enum-told
-    array-borrow-prefix-demands
+    slice-relend-prefix-gather
     slice-aggregate-gather
     gather-requires
-    refused-shape-requires
+    test-shape-requires
+    same-length
     returns-2
     first-own-requires
     mul-if2
-    array-copy-out-if2
+    slice-copy-out-if2
+    same-length-2
     returns-3
-    array-share-prefix-demands
-    slice-aggregate-sizes
-    sizes-requires
-    mul-t14
+    same-length-3
     returns-4)

@@ -3,8 +3,8 @@ use Prim.Native.Nat.{ℕ, _≤_, _<_}
 use native.Mathlib.Nat.{mul-le-mul}
 use native.Mathlib.Omega.{arith}
 use borrow.Author.Tests.{lt-ltb, le-leb, lt-leb}
-use Rattle.demand.proofs.call.longest_plan.Statement.{statement}
-use Rattle.demand.proofs.call.longest_plan.Tie as tie
+use Rattle.figures.proofs.bound.longest_plan.Statement.{statement}
+use Rattle.figures.proofs.bound.longest_plan.Tie as tie
 
 returns : tie.Need-returns
 returns c = rw (c .if1 .taken)

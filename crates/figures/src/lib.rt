@@ -1,0 +1,4 @@
+// The figures bound and displaced (disturbed), and the longest plan of n nodes.
+pub mod bound;
+pub mod displaced;
+mod matched;

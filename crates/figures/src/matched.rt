@@ -1,0 +1,36 @@
+// The demands of a yard that the figures are told by.
+ghost use mathlib.Core.Path.{_≡_};
+ghost use lib.ListN.{length};
+ghost use Rattle.model.specs.Given.{given, became};
+ghost use Rattle.model.specs.Judge.{matchedFault};
+ghost use Rattle.model.specs.Paper.{paperDone};
+ghost use Rattle.figures.specs.Leaving.{Told};
+use demand::fill::gather;
+use judge::test::test_lists;
+use judge::test::test_shape;
+use lists::find::first_own;
+use model::Done;
+use model::Refusal;
+
+// Refusals 1 to 7; and the demands of a yard that meets none of them, into the front of a list of 256. Linear work: that the parents are a tree's is
+// seen while the demands are gathered, and the root's demand tells whether the totals differ.
+pub fn matched_demands(parents: &[u8], pebbles: &[u8], targets: &[u8], list: &mut [i16]) -> Done
+    requires { ⌜ length (now list) ≡ 256 ⌝ }
+    ensures { λ r. ⌜ paperDone r ≡ matchedFault (given parents pebbles targets) ⌝ }
+    ensures { λ _. ⌜ Told (given parents pebbles targets) (became list) ⌝ }
+{
+    let lists = test_lists(parents, pebbles, targets);
+    if let Done::Refused(r) = lists {
+        return Done::Refused(r);
+    }
+    let n = parents.len();
+    let left = gather(parents, pebbles, targets, &mut list[..n]);
+    if left != 1 {
+        return test_shape(parents);
+    }
+    let root = first_own(parents, 0);
+    if list[root] != 0 {
+        return Done::Refused(Refusal::Totals);
+    }
+    Done::Accepted
+}
