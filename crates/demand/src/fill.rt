@@ -1,8 +1,8 @@
 // The demands of all nodes by equation 2 of the source, leaves first, in linear time; and on the way whether the parents are a tree's.
 ghost use mathlib.Core.Path.{_≡_};
 ghost use mathlib.Core.Option.{none};
-ghost use Prim.Native.Nat.{_≤_};
-ghost use lib.ListN.{length};
+ghost use Prim.Native.Nat.{ℕ, _+_, _*_, _%_, _≤_, _<_};
+ghost use lib.ListN.{length, getD};
 ghost use Rattle.model.specs.Given.{given, handed, was, became};
 ghost use Rattle.model.specs.Judge.{firstOf, listTests, Tree};
 ghost use Rattle.model.specs.Calls.Demands.{demandsOf};
@@ -59,17 +59,39 @@ fn own(pebbles: &[u8], targets: &[u8], list: &mut [i16])
     }
 }
 
-// For each node 1, and 1 more for each node whose parent it is.
+// For each node 1, and 1 more for each node whose parent it is. Even and odd nodes are counted apart: of many nodes with one parent, each
+// count would else wait for the store of the one before.
 fn count_children(parents: &[u8]) -> [u16; 256]
     requires { ⌜ length (now parents) ≤ 256 ⌝ }
     ensures { λ r. ⌜ Pending (was parents) r ⌝ }
 {
-    let mut pending = [1u16; 256];
+    let mut counts = [0u16; 512];
     let mut v = 0;
     while v < parents.len() {
-        let p = parents[v] as usize;
-        pending[p] += 1;
+        let i = place(parents[v], v);
+        counts[i] += 1;
         v += 1;
+    }
+    add_halves(&counts)
+}
+
+// Where node v is counted: at its parent, in the half of even or of odd nodes.
+fn place(parent: u8, v: usize) -> usize
+    ensures { λ r. ⌜ (r ≡ parent + 256 * (v % 2)) × (r < 512) ⌝ }
+{
+    parent as usize + 256 * (v % 2)
+}
+
+// For each node 1 and its counts in both halves.
+fn add_halves(counts: &[u16; 512]) -> [u16; 256]
+    requires { ⌜ ((u : ℕ) → u < 256 → getD (now counts) u 0 + getD (now counts) (256 + u) 0 ≤ 256) ⌝ }
+    ensures { λ r. ⌜ (length r ≡ 256) × ((u : ℕ) → u < 256 → getD r u 0 ≡ 1 + getD (was counts) u 0 + getD (was counts) (256 + u) 0) ⌝ }
+{
+    let mut pending = [0u16; 256];
+    let mut u = 0;
+    while u < 256 {
+        pending[u] = 1 + counts[u] + counts[256 + u];
+        u += 1;
     }
     pending
 }
