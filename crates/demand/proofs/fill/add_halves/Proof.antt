@@ -56,7 +56,7 @@ loop-again c =
     let loop = c .before .before .before .loop in (
       omega arith,
       simp length-set (loop .inv .1),
-      below-more _ _ (λ i l. getD-set-other (loop .pending) (loop .u) i _ _ (omega arith) ∙ loop .inv .2 i l) (getD-set-same (loop .pending) (loop .u) _ _ (omega arith)),
+      below-more _ _ (λ i l. getD-set-other (loop .pending) (loop .u) i _ _ (omega arith) ∙ loop .inv .2 i l) (getD-set-same (loop .pending) (loop .u) _ _ (omega arith) ∙ omega arith),
     )
 
 returns : tie.Need-returns Inv-loop μ-loop
