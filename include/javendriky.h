@@ -25,7 +25,7 @@
  *
  * Answers. Each call answers one number a:
  *   a < 1,000,000     accepted: a is the value, or 0 where the call has none
- *   a >= 1,000,000    refused: JAVENDRIKY_REFUSAL(a) is the refusal's number, 1 to 18, and JAVENDRIKY_PLACE(a) its place
+ *   a >= 1,000,000    refused: JAVENDRIKY_REFUSAL(a) is the refusal's number, 1 to 21, and JAVENDRIKY_PLACE(a) its place
  * A refused call alters nothing that was lent to it. Every content of the lists is allowed: what is wrong with them is refused. Where several
  * refusals are due, the first in the order that the call gives is answered. */
 #ifndef JAVENDRIKY_H
@@ -38,9 +38,9 @@
 extern "C" {
 #endif
 
-/* The version of these calls, which the library answers too. It is raised whenever a call gets further arguments or another meaning under the same
- * name, which requests to come will do: a program built with another header would still link. So compare the two once, before any other call. */
-#define JAVENDRIKY_VERSION 3
+/* The version of these calls, which the library answers too. It is raised whenever a call is added, or gets further arguments or another
+ * meaning under the same name, which requests to come will do: a program built with another header would still link. So compare the two once, before any other call. */
+#define JAVENDRIKY_VERSION 4
 
 /* The most nodes that a yard can have. */
 #define JAVENDRIKY_MAX_NODES 256
@@ -82,6 +82,9 @@ extern "C" {
 #define JAVENDRIKY_LINE_SHAPE 16     /* a line of a sheet is not four numbers up to 255; the line */
 #define JAVENDRIKY_NODE_NUMBER 17    /* a line of a sheet is not that of the next node; the line */
 #define JAVENDRIKY_READER_LIST 18    /* a list lent for reading a sheet has fewer than 256 entries; place 0 */
+#define JAVENDRIKY_NODE_OUTSIDE 19   /* the node asked for is no node of the yard; place 0 */
+#define JAVENDRIKY_ALREADY_SO 20     /* an event finds its mark already so: a pebble where one arrives, none where one leaves, targets likewise; place 0 */
+#define JAVENDRIKY_DEMAND_RANGE 21   /* an entry of the demand list is outside -256 to 256, or would be after the event; the lowest such node */
 
 /* Refusal text: a refusal as a sentence, without its full stop, that says what is wrong and what to mend. It is in the words of those who mend it
  * (berth for node, car for pebble). 'The named berth' (line, move) is the one whose number is the place, so print the place beside it; moves count from 0.
@@ -115,6 +118,9 @@ static inline const char *javendriky_refusal_text(uint32_t answer)
     case 16: return "the named line is not four numbers from 0 to 255, without leading zeros, with one space between and a line feed behind: write it so";
     case 17: return "the named line is not that of the next berth: the berths stand in rising number from 0, one line each";
     case 18: return "a list lent for reading a sheet has fewer than 256 entries: lend three of at least 256";
+    case 19: return "the berth asked for is no berth of this yard: name one of those that are, which count from 0";
+    case 20: return "the berth already is as the event would make it: tell an arrival or a set target only where there is none, and the others only where there is one";
+    case 21: return "the account of the named berth is not from -256 to 256, or would leave that range, so the account list is not this yard's: work it out anew";
     default: return "this refusal has no sentence in the header that the program was built with: build it with the library's own header";
     }
 }
@@ -165,6 +171,32 @@ uint32_t javendriky_longest_plan(size_t n);
 uint32_t javendriky_displaced(const uint8_t *parents, size_t parents_len,
                               const uint8_t *pebbles, size_t pebbles_len,
                               const uint8_t *targets, size_t targets_len);
+
+/* Events, while cars come and go and targets are redrawn: a pebble arrives at `node` or leaves it, a target is set there or cleared. Four calls alike.
+ * Answers 0, and writes: the one mark in `pebbles` or in `targets`, and in `demands` each entry on the way from `node` to the root, by one. So `demands` must
+ * be the yard's before the call, as javendriky_demands or the last of these calls left it; then it is the altered yard's after it. The totals may differ.
+ * Refused with 1 to 6, then with 2 if `demands` has not exactly n entries, then with 19, 20 and 21, of which a list that is the yard's never meets 21; then
+ * all three lists are as before. */
+uint32_t javendriky_pebble_arrives(const uint8_t *parents, size_t parents_len,
+                                   uint8_t *pebbles, size_t pebbles_len,
+                                   uint8_t *targets, size_t targets_len,
+                                   int16_t *demands, size_t demands_len,
+                                   size_t node);
+uint32_t javendriky_pebble_leaves(const uint8_t *parents, size_t parents_len,
+                                  uint8_t *pebbles, size_t pebbles_len,
+                                  uint8_t *targets, size_t targets_len,
+                                  int16_t *demands, size_t demands_len,
+                                  size_t node);
+uint32_t javendriky_target_set(const uint8_t *parents, size_t parents_len,
+                               uint8_t *pebbles, size_t pebbles_len,
+                               uint8_t *targets, size_t targets_len,
+                               int16_t *demands, size_t demands_len,
+                               size_t node);
+uint32_t javendriky_target_cleared(const uint8_t *parents, size_t parents_len,
+                                   uint8_t *pebbles, size_t pebbles_len,
+                                   uint8_t *targets, size_t targets_len,
+                                   int16_t *demands, size_t demands_len,
+                                   size_t node);
 
 /* Push: one move, of the pebble at node `from` to the adjacent empty node `to`.
  * Answers 0, and writes into `pebbles`: entry `from` becomes 0 and entry `to` 1; the others stay.

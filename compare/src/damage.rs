@@ -1,6 +1,8 @@
-//! Lists, plans and sheets spoilt in one place or several: what a hand, a bad wire or an attacker makes of legal ones.
+//! Lists, plans, demands and sheets spoilt in one place or several: what a hand, a bad wire or an attacker makes of legal ones.
 
 use crate::checker::MAX_PLAN_BYTES;
+use crate::demands::MAX_DEMAND;
+use crate::event::{way, Kept};
 use crate::random::Random;
 use crate::yard::{Yard, MAX_NODES};
 
@@ -109,6 +111,46 @@ pub fn any_move(yard: &Yard, random: &mut Random) -> [u8; 2] {
         [child, parent]
     } else {
         [parent, child]
+    }
+}
+
+/// Where a node is asked for: that node, or a number that may be none.
+pub fn number(node: u8, yard: &Yard, random: &mut Random) -> usize {
+    match random.below(12) {
+        0 => yard.nodes(),
+        1 => random.below(yard.nodes() + 3),
+        // A node once the high bytes are lost.
+        2 => usize::from(node) + (1 << random.pick(&[8, 16, 31, 32, 33, 63])),
+        3 => usize::MAX - random.below(3),
+        _ => usize::from(node),
+    }
+}
+
+/// Any entry of a demand list: at an end of what a demand can be, just beyond, far outside, or within.
+pub fn entry(random: &mut Random) -> i16 {
+    let size = match random.below(6) {
+        0 => MAX_DEMAND,
+        1 => MAX_DEMAND + 1,
+        2 => MAX_DEMAND - 1,
+        3 => random.pick(&[i16::MAX, i16::MIN, 2 * MAX_DEMAND]),
+        4 => random.draw() as i16,
+        _ => random.below(256) as i16,
+    };
+    size.wrapping_mul(random.pick(&[1, -1]))
+}
+
+/// A list beside a tree that need not be its own: its own, any within the range or all at one end; then up to three of any kind, half of them on the way
+/// from the node to the root.
+pub fn demands(kept: &mut Kept, node: usize, random: &mut Random) {
+    match random.below(4) {
+        0 => kept.demands.fill(random.pick(&[-MAX_DEMAND, MAX_DEMAND])),
+        1 => kept.demands.fill_with(|| random.within(0, 510) as i16 - 255),
+        _ => {}
+    }
+    let way = Vec::from_iter(way(&kept.yard, node));
+    for _ in 0..random.below(4) {
+        let at = if random.once_in(2) { random.pick(&way) } else { random.below(kept.demands.len()) };
+        kept.demands[at] = entry(random);
     }
 }
 

@@ -2,6 +2,9 @@
 
 use crate::yard::{judge, refuse, Answer, Yard};
 
+/// No demand is farther from 0 (document 01).
+pub const MAX_DEMAND: i16 = 256;
+
 /// The demand of each node of a tree: every node is counted at itself and at each node above it.
 pub fn of_tree(yard: &Yard) -> Vec<i16> {
     let mut demands = vec![0; yard.nodes()];

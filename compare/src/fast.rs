@@ -1,7 +1,9 @@
-//! Test, bound, displaced, planner, checker and trial once more, written for speed: no list is asked for from the heap, children stand side by side in
-//! rising number, each demand is kept and changed by one when its edge is crossed. The benchmark sets the library beside these.
+//! Test, bound, displaced, events, planner, checker and trial once more, written for speed: no list is asked for from the heap, children stand side by
+//! side in rising number, each demand is kept and changed by one when its edge is crossed. The benchmark sets the library beside these.
 
 use crate::checker::{Tried, MAX_PLAN_BYTES};
+use crate::demands::MAX_DEMAND;
+use crate::event::Event;
 use crate::figures::Length;
 use crate::yard::{refuse, Answer, Refusal, MAX_NODES};
 
@@ -30,6 +32,31 @@ pub fn displaced(parents: &[u8], pebbles: &[u8], targets: &[u8]) -> Answer<u32> 
         }
     })?;
     Ok(pebbles.iter().zip(&left).map(|(pebble, left)| u32::from(pebble & left)).sum())
+}
+
+/// Refusals 1 to 6, 2 for the list of demands, 19 to 21; alters the mark, and the demands on the way to the root in one climb.
+pub fn event(parents: &[u8], pebbles: &mut [u8], targets: &mut [u8], demands: &mut [i16], event: Event, node: usize) -> Answer<()> {
+    test_yard(parents, pebbles, targets)?;
+    if demands.len() != parents.len() {
+        return refuse(2, 0);
+    }
+    let Some(mark) = event.of(pebbles, targets).get_mut(node) else {
+        return refuse(19, 0);
+    };
+    if *mark == event.mark() {
+        return refuse(20, 0);
+    }
+    let change = event.change();
+    // The least and the greatest, which many entries at a time can tell, show of most lists that no entry is or goes outside, wherever the way is.
+    let (least, greatest) = demands.iter().fold((0, 0), |(least, greatest): (i16, i16), &entry| (least.min(entry), greatest.max(entry)));
+    if least.saturating_add(change.min(0)) < -MAX_DEMAND || greatest.saturating_add(change.max(0)) > MAX_DEMAND {
+        if let Some(lowest) = lowest_outside(parents, demands, node, change) {
+            return refuse(21, lowest);
+        }
+    }
+    *mark = event.mark();
+    climb(parents, node, |at| demands[at] += change);
+    Ok(())
 }
 
 /// Refusals 1 to 8; writes the plan at the front of the list and answers its moves.
@@ -134,6 +161,28 @@ fn first_above(list: &[u8], limit: u8) -> Option<usize> {
 fn lowest_lost(parents: &[u8], root: usize) -> usize {
     let climb = |node| (0..parents.len()).fold(node, |at, _| usize::from(parents[at]));
     (0..parents.len()).find(|&node| climb(node) != root).unwrap_or(0)
+}
+
+/// Calls `pass` with each node from a node of a tree to the root.
+fn climb(parents: &[u8], node: usize, mut pass: impl FnMut(usize)) {
+    let mut at = node;
+    loop {
+        pass(at);
+        let parent = usize::from(parents[at]);
+        if parent == at {
+            return;
+        }
+        at = parent;
+    }
+}
+
+/// The lowest node whose demand is outside the range, or would be after a change on the way from a node to the root.
+#[cold]
+fn lowest_outside(parents: &[u8], demands: &[i16], node: usize, change: i16) -> Option<usize> {
+    let mut changes = [0; MAX_NODES];
+    climb(parents, node, |at| changes[at] = change);
+    let outside = |entry: i16| !(-MAX_DEMAND..=MAX_DEMAND).contains(&entry);
+    demands.iter().zip(changes).position(|(&entry, change)| outside(entry) || outside(entry + change))
 }
 
 /// Refusals 1 to 7; the demands of all nodes, and the root.

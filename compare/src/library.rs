@@ -1,11 +1,12 @@
 //! The proved library's calls, as include/javendriky.h tells them, with Rust's lists and answers.
 
 use crate::checker::Tried;
+use crate::event::Event;
 use crate::figures::Length;
 use crate::yard::{Answer, Refusal};
 
 /// The version of the calls that are declared here: JAVENDRIKY_VERSION of the header. A library of another version must not be called.
-pub const VERSION: u32 = 3;
+pub const VERSION: u32 = 4;
 
 /// What an accepted trial adds to the moves taken where the budget ended it.
 const BUDGET_ENDED: u32 = 500_000;
@@ -32,6 +33,22 @@ pub mod raw {
         pub fn javendriky_longest_plan(n: usize) -> u32;
         pub fn javendriky_displaced(
             parents: *const u8, parents_len: usize, pebbles: *const u8, pebbles_len: usize, targets: *const u8, targets_len: usize,
+        ) -> u32;
+        pub fn javendriky_pebble_arrives(
+            parents: *const u8, parents_len: usize, pebbles: *mut u8, pebbles_len: usize, targets: *mut u8, targets_len: usize,
+            demands: *mut i16, demands_len: usize, node: usize,
+        ) -> u32;
+        pub fn javendriky_pebble_leaves(
+            parents: *const u8, parents_len: usize, pebbles: *mut u8, pebbles_len: usize, targets: *mut u8, targets_len: usize,
+            demands: *mut i16, demands_len: usize, node: usize,
+        ) -> u32;
+        pub fn javendriky_target_set(
+            parents: *const u8, parents_len: usize, pebbles: *mut u8, pebbles_len: usize, targets: *mut u8, targets_len: usize,
+            demands: *mut i16, demands_len: usize, node: usize,
+        ) -> u32;
+        pub fn javendriky_target_cleared(
+            parents: *const u8, parents_len: usize, pebbles: *mut u8, pebbles_len: usize, targets: *mut u8, targets_len: usize,
+            demands: *mut i16, demands_len: usize, node: usize,
         ) -> u32;
         pub fn javendriky_push(
             parents: *const u8, parents_len: usize, pebbles: *mut u8, pebbles_len: usize, targets: *const u8, targets_len: usize,
@@ -124,6 +141,22 @@ pub fn longest_plan(n: usize) -> Answer<u32> {
 pub fn displaced(parents: &[u8], pebbles: &[u8], targets: &[u8]) -> Answer<u32> {
     answer(unsafe {
         raw::javendriky_displaced(parents.as_ptr(), parents.len(), pebbles.as_ptr(), pebbles.len(), targets.as_ptr(), targets.len())
+    })
+}
+
+/// Each event is a call of its own.
+pub fn event(parents: &[u8], pebbles: &mut [u8], targets: &mut [u8], demands: &mut [i16], event: Event, node: usize) -> Answer<()> {
+    let call = match event {
+        Event::PebbleArrives => raw::javendriky_pebble_arrives,
+        Event::PebbleLeaves => raw::javendriky_pebble_leaves,
+        Event::TargetSet => raw::javendriky_target_set,
+        Event::TargetCleared => raw::javendriky_target_cleared,
+    };
+    done(unsafe {
+        call(
+            parents.as_ptr(), parents.len(), pebbles.as_mut_ptr(), pebbles.len(), targets.as_mut_ptr(), targets.len(),
+            demands.as_mut_ptr(), demands.len(), node,
+        )
     })
 }
 

@@ -4,6 +4,7 @@ use std::hint::black_box;
 use std::process::ExitCode;
 use std::time::Instant;
 use unrelated::checker::Tried;
+use unrelated::event::{way, Event, Kept};
 use unrelated::figures::Length;
 use unrelated::random::Random;
 use unrelated::shapes::{far, Shape};
@@ -100,6 +101,32 @@ fn trials(yard: &Yard, plan: &[u8]) -> Option<Times> {
     Some(measure(|| call(library::trial, &mut marks), || call(fast::trial, &mut plain_marks)))
 }
 
+/// A pebble arrives at the deepest empty node and leaves it, which brings back what was; the time of one of the two.
+fn events(yard: &Yard) -> Option<Times> {
+    type Call = fn(&[u8], &mut [u8], &mut [u8], &mut [i16], Event, usize) -> Answer<()>;
+    let deepest = (0..yard.nodes()).filter(|&node| yard.pebbles[node] == 0).max_by_key(|&node| way(yard, node).len())?;
+    let call = |call: Call, kept: &mut Kept, event: Event| {
+        let Yard { parents, pebbles, targets } = &mut kept.yard;
+        call(black_box(parents), black_box(pebbles), black_box(targets), black_box(&mut kept.demands), black_box(event), black_box(deepest))
+    };
+    let begun = Kept::right(yard.clone());
+    let (mut kept, mut plain_kept) = (begun.clone(), begun.clone());
+    let there_and_back = [Event::PebbleArrives, Event::PebbleLeaves];
+    for event in there_and_back {
+        if call(library::event, &mut kept, event) != Ok(()) || call(fast::event, &mut plain_kept, event) != Ok(()) || kept != plain_kept {
+            return None;
+        }
+    }
+    if kept != begun {
+        return None;
+    }
+    let both = measure(
+        || there_and_back.map(|event| call(library::event, &mut kept, event)),
+        || there_and_back.map(|event| call(fast::event, &mut plain_kept, event)),
+    );
+    Some(Times { library: both.library / 2.0, plain: both.plain / 2.0 })
+}
+
 type Figure<T> = fn(&[u8], &[u8], &[u8]) -> Answer<T>;
 
 /// The times of two calls that take the yard alone, or nothing if they differ or refuse it.
@@ -125,7 +152,8 @@ fn yard(shape: Shape, n: usize) -> Yard {
 /// The highest ratio of the table, or nothing if answers differ.
 fn run() -> Option<f64> {
     println!("Medians of {SAMPLES} samples in turn. Plan lists are not cleared before a call. A trial's pebbles are set anew before each one,");
-    println!("on both sides and within the time (256 bytes copied). 'Plain' is the same algorithm in safe Rust, with the same tests first.\n");
+    println!("on both sides and within the time (256 bytes copied). An event is a pebble's arrival at the deepest empty node, or its leaving it.");
+    println!("'Plain' is the same algorithm in safe Rust, with the same tests first.\n");
     println!("256 nodes    call        moves  library µs    plain µs   ratio");
     let mut highest = 0.0;
     for shape in Shape::ALL {
@@ -137,6 +165,7 @@ fn run() -> Option<f64> {
             ("trial", trials(&yard, &plan)?),
             ("bound", figures(&yard, bound, fast::length_bound)?),
             ("displaced", figures(&yard, library::displaced, fast::displaced)?),
+            ("event", events(&yard)?),
             ("test_yard", figures(&yard, library::test_yard, fast::test_yard)?),
         ];
         for (call, times) in rows {

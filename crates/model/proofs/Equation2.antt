@@ -4,7 +4,6 @@ use mathlib.Core.Path.{_≡_, refl, sym, ap, _∙_}
 use mathlib.Core.Bool.{true}
 use mathlib.Core.List.{List, map}
 use Prim.Native.Nat.{ℕ, zero, suc, _≤_, _<_}
-use native.Mathlib.Nat.{zero-add}
 use native.Mathlib.Omega.{arith}
 use lib.ListN.{length}
 use lib.Seq.{ext-getD}
@@ -13,7 +12,7 @@ use Rattle.model.specs.Yard.{Yard, size, pebble, target, isChild, childr
 use Rattle.model.specs.Judge.{Tree}
 use Rattle.model.specs.Calls.Demands.{demandsOf, OnlyDemands}
 use Rattle.model.proofs.Basics.{all-below}
-use Rattle.model.proofs.Ranges.{length-range, getD-range, map-all}
+use Rattle.model.proofs.Ranges.{length-range, getD-listed, map-all}
 use Rattle.model.proofs.Trees.{is-child}
 use Rattle.model.proofs.Judged.{wood}
 use Rattle.model.proofs.Demands.{weight, weight-le, weight-child, weight-pos}
@@ -24,7 +23,7 @@ module _ (y : Yard) where
   sum-agree f g u h = ap sumℤ (map-all f g (children y u) (all-below (λ c. f c ≡ g c) (isChild (y .parents) u) (size y) h))
 
   pub demands-entry : (v : ℕ) → v < size y → entry (demandsOf y) v ≡ demand y v
-  demands-entry v l = getD-range (demand y) (pos 0) 0 (size y) v l ∙ ap (demand y) (zero-add v)
+  demands-entry v l = getD-listed (demand y) (pos 0) (size y) v l
 
   pub only-demands : OnlyDemands y
   only-demands t ks n = (

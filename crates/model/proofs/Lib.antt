@@ -22,6 +22,9 @@ pub mod Serve
 pub mod Balance
 pub mod Calls
 pub mod Yards
+pub mod Way
+pub mod Events
+pub mod EventRuns
 pub mod Demand3
 pub mod Outgoing
 pub mod Displaced

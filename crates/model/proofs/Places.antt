@@ -18,6 +18,8 @@ use Rattle.model.specs.Push.{Move, adjacent, moveTests, moveFault, pushF
 use Rattle.model.specs.Plan.{plan}
 use Rattle.model.specs.Calls.Answers.{Answer, answered, refused, rowUnit, inC, told, InTable, Row, Small, answer, mapAnswer}
 use Rattle.model.specs.Calls.Demands.{demandsTests, demandsFault, boundAnswer, displacedAnswer, longest, longestAnswer}
+use Rattle.model.specs.declared.Event.{Event}
+use Rattle.model.specs.Calls.Events.{possible, eventTests, eventFault}
 use Rattle.model.specs.Calls.Plans.{planTests, planFault, movesOf}
 use Rattle.model.specs.Calls.Checks.{maxPlanBytes, bytesFault, movesFault, Verdict, checkTests, checkFault, checkAnswer, within, trialTests, trialFault, trialAnswer, trialInC}
 use Rattle.model.specs.Sheets.{maxSheetBytes, yardSheet, readYard, reader, readAnswer, writeTests, writeFault, writeAnswer}
@@ -131,6 +133,19 @@ module _ (y : Yard) where
   pub demands-low : (list : List ℤ) → Low (demandsFault y list)
   unfolding demandsFault
   demands-low list = all (demandsTests y list) (judge-low y, (once (eqb (length list) (size y)) 2 0 (omega arith) (omega arith), tt))
+
+  -- an event answers 0, or its refusal
+  pub event-small : (list : List ℤ) (e : Event) (v : ℕ) → Small (answer (eventFault y list e v) 0)
+  unfolding eventFault
+  event-small list e v = small 0 low (λ _. omega arith)
+    where
+      low : Low (firstOf (eventTests y list e v))
+      low =
+          first (drop 1 (eventTests y list e v)) (judge-low y) (λ t.
+          all (drop 1 (eventTests y list e v)) (
+            once (eqb (length list) (size y)) 2 0 (omega arith) (omega arith),
+            (once (ltb v (size y)) 19 0 (omega arith) (omega arith), (once (possible y e v) 20 0 (omega arith) (omega arith), (lowest 21 (size y) (omega arith) (facts y t .few .1) _, tt))),
+          ))
 
   figure-low : Low (matchedFault y)
   unfolding matchedFault

@@ -78,13 +78,13 @@ shortest-small y t = omega (
 )
 
 -- one more to take away, or to take from
-sub-suc : (a b : ℕ) → subℕ a (suc b) ≡ predℤ (subℕ a b)
+pub sub-suc : (a b : ℕ) → subℕ a (suc b) ≡ predℤ (subℕ a b)
 sub-suc a zero =
     let e : a + 0 ≡ a - 0 = omega arith in
     rw (le-ltb a 0 (omega arith)) (+ℤ-predℤ (pos a) (pos zero) ∙ ap (λ (n : ℕ). predℤ (pos n)) e)
 sub-suc a (suc b) = +ℤ-predℤ (pos a) (negsuc b)
 
-suc-sub : (a b : ℕ) → subℕ (suc a) b ≡ sucℤ (subℕ a b)
+pub suc-sub : (a b : ℕ) → subℕ (suc a) b ≡ sucℤ (subℕ a b)
 suc-sub a zero = rw (le-ltb a 0 (omega arith), le-ltb (suc a) 0 (omega arith)) (ap pos (omega arith))
 suc-sub a (suc b) = sucℤ-+ℤ (pos a) (negsuc b)
 

@@ -3,12 +3,14 @@
 use mathlib.Core.Path.{_≡_, refl}
 use mathlib.Core.Bool.{true, false}
 use mathlib.Core.List.{List, [], _∷_, map}
-use mathlib.Core.Option.{Option}
+use mathlib.Core.Option.{Option, none}
 use Prim.Native.Nat.{ℕ}
 use Prim.Native.String.{String}
 use native.Mathlib.Omega.{arith}
 use lib.ListN.{take, replicate}
-use lib.IntN.{ℤ, pos}
+use lib.IntN.{ℤ, pos, negsuc}
+use Rattle.model.specs.declared.Event.{Event}
+use Rattle.model.specs.declared.Event.the-variants.{PebbleArrives, PebbleLeaves, TargetSet, TargetCleared}
 use Rattle.model.specs.Yard.{Yard, yardOf, sum, below, roots, climbs, inside, subtotal, sumℤ, Equation2, shortest}
 use Rattle.model.specs.Judge.{Fault, row, fault, judge, matchedFault}
 use Rattle.model.specs.Push.{Move, push, moveFault, pushFault, legal, shifted, after, accepted, count}
@@ -16,6 +18,7 @@ use Rattle.model.specs.Plan.{needy, choice, inject, extract, turn, settl
 use Rattle.model.specs.Follow.{placed, starts, occurs, At, Follows, route, firstAt, lastIn, lifo, displaced}
 use Rattle.model.specs.Calls.Answers.{Answer, answered, refused, range}
 use Rattle.model.specs.Calls.Demands.{demandsFault, demandsList, Length, boundAnswer, displacedAnswer, longestAnswer}
+use Rattle.model.specs.Calls.Events.{demandsAfter, eventFault, eventPebbles, eventTargets, eventDemands, console, Happening, happens, leaves, runLeaves}
 use Rattle.model.specs.Calls.Plans.{bytes, movesOf, planFault, planAnswer, planList}
 use Rattle.model.specs.Calls.Checks.{movesFault, Verdict, checkFault, checkAnswer, Trial, trialFault, trialAnswer, trialPebbles}
 use Rattle.model.specs.Sheets.{text, digits, decimal, stopBefore, line, lines, header, cut, same, value, field, readLine, readNodes, readYard, moveLines, edges, report, moveSheet, refusalSheet, program}
@@ -41,6 +44,9 @@ data Input : Type 0 where
   -- where the pebbles start, and the one that each of some moves takes
   startsOf : Yard → Input
   takenOf : List Move → Yard → Input
+  -- an event at a node, with a demand list; and events one after another
+  eventOf : Event → ℕ → List ℤ → Yard → Input
+  eventsOf : List Happening → List ℤ → Yard → Input
 
 data Outcome : Type 0 where
   demands : List ℤ → Outcome
@@ -54,6 +60,9 @@ data Outcome : Type 0 where
   measured : Answer Length → Outcome
   counted : Answer ℕ → Outcome
   printed : List ℕ → Outcome
+  -- the answer, and the pebbles, the targets and the demands then
+  happened : Option Fault → List ℕ → List ℕ → List ℤ → Outcome
+  console-left : List ℕ → List ℕ → List ℤ → Outcome
 
 outcome : Input → Outcome
 outcome (demandsOf y) = demands (demandsList y (map (λ (_ : ℕ). pos 0) (y .parents)))
@@ -71,6 +80,8 @@ outcome (longestOf n) = counted (longestAnswer n)
 outcome (displacedOf y) = counted (displacedAnswer y)
 outcome (startsOf y) = left (starts y)
 outcome (takenOf ms y) = left (lifo y ms)
+outcome (eventOf e v list y) = happened (eventFault y list e v) (eventPebbles y list e v) (eventTargets y list e v) (eventDemands y list e v)
+outcome (eventsOf hs list y) = let c = runLeaves (console y list) hs in console-left (c .yard .pebbles) (c .yard .targets) (c .demands)
 
 record Case : Type 0 where
   input : Input
@@ -83,6 +94,10 @@ i gives o = record { input = i; expected = o }
 -- two pebbles at node 1 and one at node 2
 siding : Yard
 siding = yardOf (0 ∷ 0 ∷ 0 ∷ []) (0 ∷ 2 ∷ 1 ∷ []) (1 ∷ 1 ∷ 1 ∷ [])
+
+-- an event in yard A that is refused: the yard and the list stay
+keeps : Event → ℕ → List ℤ → ℕ → ℕ → Case
+keeps e v list n p = eventOf e v list yardA gives happened (fault n p) (yardA .pebbles) (yardA .targets) list
 
 cases : List Case
 cases =
@@ -168,6 +183,28 @@ cases =
     ∷ (displacedOf (yard (0 ∷ 0 ∷ []) (0 ∷ 1 ∷ []) (0 ∷ 1 ∷ [])) gives counted (answered 0))
     ∷ (displacedOf (yard (0 ∷ 0 ∷ []) (0 ∷ 1 ∷ []) (0 ∷ [])) gives counted (refused (row 7 0)))
     ∷ (takenOf (push 1 2 ∷ push 0 1 ∷ push 1 0 ∷ push 2 1 ∷ []) yardB gives left (1 ∷ 0 ∷ 0 ∷ 1 ∷ []))
+    -- request 2.5, in yard A: each event
+    ∷ (eventOf PebbleArrives 4 demandsA yardA gives happened none (0 ∷ 1 ∷ 0 ∷ 1 ∷ 1 ∷ []) (0 ∷ 0 ∷ 1 ∷ 0 ∷ 1 ∷ []) (negsuc 0 ∷ negsuc 1 ∷ pos 1 ∷ negsuc 0 ∷ pos 0 ∷ []))
+    ∷ (eventOf PebbleLeaves 3 demandsA yardA gives happened none (0 ∷ 1 ∷ 0 ∷ 0 ∷ 0 ∷ []) (0 ∷ 0 ∷ 1 ∷ 0 ∷ 1 ∷ []) (pos 1 ∷ pos 0 ∷ pos 1 ∷ pos 0 ∷ pos 1 ∷ []))
+    ∷ (eventOf TargetSet 0 demandsA yardA gives happened none (0 ∷ 1 ∷ 0 ∷ 1 ∷ 0 ∷ []) (1 ∷ 0 ∷ 1 ∷ 0 ∷ 1 ∷ []) (pos 1 ∷ negsuc 0 ∷ pos 1 ∷ negsuc 0 ∷ pos 1 ∷ []))
+    ∷ (eventOf TargetCleared 2 demandsA yardA gives happened none (0 ∷ 1 ∷ 0 ∷ 1 ∷ 0 ∷ []) (0 ∷ 0 ∷ 0 ∷ 0 ∷ 1 ∷ []) (negsuc 0 ∷ negsuc 0 ∷ pos 0 ∷ negsuc 0 ∷ pos 1 ∷ []))
+    -- two roots; a list that is too short, before 19; 19, before 20; each event with its mark already so, before 21
+    ∷ (eventOf PebbleArrives 7 [] (yard (0 ∷ 1 ∷ []) [] []) gives happened (fault 5 1) (0 ∷ 0 ∷ []) (0 ∷ 0 ∷ []) [])
+    ∷ keeps PebbleArrives 5 (pos 0 ∷ []) 2 0
+    ∷ keeps PebbleLeaves 5 demandsA 19 0
+    ∷ keeps PebbleArrives 1 (pos 999 ∷ negsuc 0 ∷ pos 1 ∷ negsuc 0 ∷ pos 1 ∷ []) 20 0
+    ∷ keeps PebbleLeaves 0 demandsA 20 0
+    ∷ keeps TargetSet 4 demandsA 20 0
+    ∷ keeps TargetCleared 1 demandsA 20 0
+    -- 21: entries off the way, on the way, at both ends, and back into the range; those that stay at its ends are none
+    ∷ keeps PebbleArrives 0 (pos 0 ∷ pos 0 ∷ pos 257 ∷ pos 0 ∷ negsuc 256 ∷ []) 21 2
+    ∷ keeps PebbleLeaves 3 (pos 0 ∷ pos 256 ∷ pos 0 ∷ pos 257 ∷ pos 0 ∷ []) 21 1
+    ∷ keeps PebbleArrives 4 (negsuc 255 ∷ pos 0 ∷ pos 0 ∷ pos 0 ∷ pos 0 ∷ []) 21 0
+    ∷ keeps PebbleArrives 0 (pos 257 ∷ pos 0 ∷ pos 0 ∷ pos 0 ∷ pos 0 ∷ []) 21 0
+    ∷ (eventOf PebbleLeaves 3 (pos 0 ∷ pos 0 ∷ pos 256 ∷ pos 0 ∷ negsuc 255 ∷ []) yardA gives happened none (0 ∷ 1 ∷ 0 ∷ 0 ∷ 0 ∷ []) (0 ∷ 0 ∷ 1 ∷ 0 ∷ 1 ∷ []) (pos 1 ∷ pos 1 ∷ pos 256 ∷ pos 1 ∷ negsuc 255 ∷ []))
+    -- a run in which some are refused (20, 19, and 20 for the pebble that has left)
+    ∷ (eventsOf (happens PebbleArrives 1 ∷ happens PebbleArrives 0 ∷ happens PebbleLeaves 3 ∷ happens TargetSet 9 ∷ happens TargetCleared 4 ∷ happens PebbleLeaves 3 ∷ []) demandsA yardA
+    gives console-left (1 ∷ 1 ∷ 0 ∷ 0 ∷ 0 ∷ []) (0 ∷ 0 ∷ 1 ∷ 0 ∷ 0 ∷ []) (negsuc 0 ∷ negsuc 0 ∷ pos 1 ∷ pos 0 ∷ pos 0 ∷ []))
     -- children are balanced in rising number
     ∷ (planOf (yard (0 ∷ 0 ∷ 0 ∷ 1 ∷ 1 ∷ 2 ∷ 2 ∷ []) (3 ∷ 5 ∷ []) (4 ∷ 6 ∷ [])) gives moves (push 3 1 ∷ push 1 4 ∷ push 5 2 ∷ push 2 6 ∷ []))
     -- clearing fills the lowest child that lacks a pebble
@@ -185,7 +222,7 @@ cases =
     ∷ []
 
 worked : map (λ (c : Case). outcome (c .input)) cases ≡ map (λ (c : Case). c .expected) cases
-unfolding demandsA siding placed occurs firstAt lastIn displaced cases _gives_ outcome yard marks yardA yardB planB sum below roots climbs inside subtotal shortest judge moveFault pushFault legal shifted after accepted count needy choice inject extract turn settle each balance planWithin plan range demandsFault bytes movesOf planFault movesFault checkFault trialFault matchedFault text digits decimal stopBefore line lines header cut same value field readLine readNodes readYard moveLines edges report moveSheet refusalSheet program
+unfolding demandsA siding placed occurs firstAt lastIn displaced demandsAfter eventFault leaves runLeaves keeps cases _gives_ outcome yard marks yardA yardB planB sum below roots climbs inside subtotal shortest judge moveFault pushFault legal shifted after accepted count needy choice inject extract turn settle each balance planWithin plan range demandsFault bytes movesOf planFault movesFault checkFault trialFault matchedFault text digits decimal stopBefore line lines header cut same value field readLine readNodes readYard moveLines edges report moveSheet refusalSheet program
 worked = refl
 
 -- two pebbles start at node 1, and one at node 2: whichever is taken, pebble 1 may go the second time, and each has its own route

@@ -15,7 +15,7 @@ pub record Fault : Type 0 where
 
 -- the rows of the table
 abbrev pub rowCount : ℕ
-rowCount = 18
+rowCount = 21
 
 abbrev pub row : ℕ → ℕ → Fault
 row n p = record { number = n; place = p }

@@ -1,4 +1,4 @@
-// A refusal's number and place in document 01's table. Other crates use these and match on no case, so that a new row changes this file alone.
+// A refusal's number and place in the table of document 01 and of the requests. Other crates use these and match on no case, so that a new row changes this file alone.
 ghost use mathlib.Core.Path.{_≡_};
 ghost use Rattle.model.specs.Paper.{paper};
 use model::Refusal;
@@ -25,6 +25,9 @@ pub fn number(r: Refusal) -> u32
         Refusal::LineShape(_) => 16,
         Refusal::NodeNumber(_) => 17,
         Refusal::ReaderList => 18,
+        Refusal::NodeOutside => 19,
+        Refusal::EventImpossible => 20,
+        Refusal::DemandRange(_) => 21,
     }
 }
 
@@ -50,5 +53,8 @@ pub fn place(r: Refusal) -> usize
         Refusal::LineShape(l) => l,
         Refusal::NodeNumber(l) => l,
         Refusal::ReaderList => 0,
+        Refusal::NodeOutside => 0,
+        Refusal::EventImpossible => 0,
+        Refusal::DemandRange(v) => v,
     }
 }

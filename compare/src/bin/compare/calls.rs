@@ -5,6 +5,7 @@ use std::cell::Cell;
 use std::fmt;
 use std::ptr;
 use std::sync::atomic::{AtomicPtr, Ordering};
+use unrelated::event::{happen, Event, Kept};
 use unrelated::yard::{Answer, Yard};
 use unrelated::{checker, demands, fast, figures, library, planner, sheet, yard};
 
@@ -17,8 +18,17 @@ pub struct Inputs<'a> {
     pub yard: &'a Yard,
     /// The plan or the sheet, where the call has one.
     pub bytes: &'a [u8],
-    /// Lengths of lists to be written, budget, or nodes of a push.
+    /// The list that an event brings up to date.
+    pub demands: &'a [i16],
+    /// Lengths of lists to be written, budget, or nodes of a push or an event.
     pub numbers: &'a [usize],
+}
+
+impl<'a> Inputs<'a> {
+    /// The yard alone.
+    fn of(call: &'static str, yard: &'a Yard) -> Inputs<'a> {
+        Inputs { call, yard, bytes: &[], demands: &[], numbers: &[] }
+    }
 }
 
 impl fmt::Display for Inputs<'_> {
@@ -29,7 +39,7 @@ impl fmt::Display for Inputs<'_> {
         if self.call.ends_with("sheet") {
             writeln!(f, "sheet \"{}\"", self.bytes.escape_ascii())
         } else {
-            writeln!(f, "plan {:?}", self.bytes)
+            writeln!(f, "plan {:?}\ndemands {:?}", self.bytes, self.demands)
         }
     }
 }
@@ -68,11 +78,14 @@ pub fn watch_pages() {
     }
 }
 
+/// The number of the last refusal in the papers' tables.
+pub const LAST_REFUSAL: usize = 21;
+
 /// Calls both sides; counts the calls, and how often each refusal was met.
 pub struct Caller {
     pub lender: Lender,
     pub calls: Cell<u64>,
-    pub refusals: [Cell<u64>; 19],
+    pub refusals: [Cell<u64>; LAST_REFUSAL + 1],
 }
 
 /// A yard's three lists on loan.
@@ -84,11 +97,7 @@ struct LentYard<'a> {
 
 impl LentYard<'_> {
     fn wrong(&self, expected: &Yard) -> Option<String> {
-        self.wrong_but_for_pebbles(expected, &expected.pebbles)
-    }
-
-    fn wrong_but_for_pebbles(&self, expected: &Yard, pebbles: &[u8]) -> Option<String> {
-        let Yard { parents, targets, .. } = expected;
+        let Yard { parents, pebbles, targets } = expected;
         let wrong = self.parents.wrong("parents", parents).or_else(|| self.pebbles.wrong("pebbles", pebbles));
         wrong.or_else(|| self.targets.wrong("targets", targets))
     }
@@ -138,7 +147,7 @@ impl Caller {
     }
 
     pub fn test_yard(&self, yard: &Yard) -> Same {
-        let inputs = Inputs { call: "test_yard", yard, bytes: &[], numbers: &[] };
+        let inputs = Inputs::of("test_yard", yard);
         let lent = self.lend(yard);
         let got = during(&inputs, || library::test_yard(lent.parents.list(), lent.pebbles.list(), lent.targets.list()));
         let expected = yard::judge(yard);
@@ -147,7 +156,7 @@ impl Caller {
     }
 
     pub fn demands(&self, yard: &Yard, length: usize) -> Same {
-        let inputs = Inputs { call: "demands", yard, bytes: &[], numbers: &[length] };
+        let inputs = Inputs { numbers: &[length], ..Inputs::of("demands", yard) };
         // No demand that a list of bytes can have.
         let before: Vec<i16> = (0..length).map(|at| 20_000 + at as i16).collect();
         let lent = self.lend(yard);
@@ -162,7 +171,7 @@ impl Caller {
     }
 
     pub fn length_bound(&self, yard: &Yard) -> Same {
-        let inputs = Inputs { call: "length_bound", yard, bytes: &[], numbers: &[] };
+        let inputs = Inputs::of("length_bound", yard);
         // No number of bytes that a plan can have.
         let before = [1_234_567];
         let lent = self.lend(yard);
@@ -176,13 +185,13 @@ impl Caller {
 
     pub fn longest_plan(&self, n: usize) -> Same {
         let nothing = Yard::default();
-        let inputs = Inputs { call: "longest_plan", yard: &nothing, bytes: &[], numbers: &[n] };
+        let inputs = Inputs { numbers: &[n], ..Inputs::of("longest_plan", &nothing) };
         let got = during(&inputs, || library::longest_plan(n));
         self.same(&inputs, got, figures::longest_plan(n), None)
     }
 
     pub fn displaced(&self, yard: &Yard) -> Same {
-        let inputs = Inputs { call: "displaced", yard, bytes: &[], numbers: &[] };
+        let inputs = Inputs::of("displaced", yard);
         let lent = self.lend(yard);
         let got = during(&inputs, || library::displaced(lent.parents.list(), lent.pebbles.list(), lent.targets.list()));
         let off_target = figures::off_target(yard);
@@ -196,7 +205,7 @@ impl Caller {
 
     /// The planner with a list of `room` bytes.
     pub fn plan(&self, yard: &Yard, room: usize) -> Same {
-        let inputs = Inputs { call: "plan", yard, bytes: &[], numbers: &[room] };
+        let inputs = Inputs { numbers: &[room], ..Inputs::of("plan", yard) };
         let before = unwritten(room);
         let lent = self.lend(yard);
         let mut list = self.lender.lend(&before);
@@ -212,18 +221,37 @@ impl Caller {
         self.same(&inputs, got, moves, lent.wrong(yard).or_else(|| list.wrong("plan", &after)))
     }
 
+    /// An event on a yard and a list of demands, its own or not. Gives back what they are afterwards.
+    pub fn event(&self, kept: &Kept, event: Event, node: usize) -> Same<Kept> {
+        let Kept { yard, demands } = kept;
+        let inputs = Inputs { demands, numbers: &[node], ..Inputs::of(event.name(), yard) };
+        let mut lent = self.lend(yard);
+        let LentYard { parents, pebbles, targets } = &mut lent;
+        let mut list = self.lender.lend(demands);
+        let got = during(&inputs, || library::event(parents.list(), pebbles.list_mut(), targets.list_mut(), list.list_mut(), event, node));
+        let expected = happen(kept, event, node);
+        let accepted = expected.as_ref().map(|_| ()).map_err(|refusal| *refusal);
+        let after = expected.unwrap_or_else(|_| kept.clone());
+        let mut quick_kept = kept.clone();
+        let Yard { parents, pebbles, targets } = &mut quick_kept.yard;
+        quick(&inputs, fast::event(parents, pebbles, targets, &mut quick_kept.demands, event, node), &accepted)?;
+        quick(&inputs, Ok(&quick_kept), &Ok(&after))?;
+        self.same(&inputs, got, accepted, lent.wrong(&after.yard).or_else(|| list.wrong("demands", &after.demands)))?;
+        Ok(after)
+    }
+
     pub fn push(&self, yard: &Yard, from: usize, to: usize) -> Same {
-        let inputs = Inputs { call: "push", yard, bytes: &[], numbers: &[from, to] };
+        let inputs = Inputs { numbers: &[from, to], ..Inputs::of("push", yard) };
         let mut lent = self.lend(yard);
         let got = during(&inputs, || library::push(lent.parents.list(), lent.pebbles.list_mut(), lent.targets.list(), from, to));
         let expected = checker::push(yard, from, to);
-        let after = written(&yard.pebbles, &expected);
-        self.same(&inputs, got, expected.map(|_| ()), lent.wrong_but_for_pebbles(yard, &after))
+        let after = Yard { pebbles: written(&yard.pebbles, &expected), ..yard.clone() };
+        self.same(&inputs, got, expected.map(|_| ()), lent.wrong(&after))
     }
 
     /// The checker, and the excess, which refuses as it does.
     pub fn check(&self, yard: &Yard, plan: &[u8]) -> Same {
-        let inputs = Inputs { call: "check", yard, bytes: plan, numbers: &[] };
+        let inputs = Inputs { bytes: plan, ..Inputs::of("check", yard) };
         let lent = self.lend(yard);
         let list = self.lender.lend(plan);
         let expected = checker::check(yard, plan);
@@ -238,23 +266,23 @@ impl Caller {
     }
 
     pub fn trial(&self, yard: &Yard, plan: &[u8], budget: u16) -> Same {
-        let inputs = Inputs { call: "trial", yard, bytes: plan, numbers: &[usize::from(budget)] };
+        let inputs = Inputs { bytes: plan, numbers: &[usize::from(budget)], ..Inputs::of("trial", yard) };
         let mut lent = self.lend(yard);
         let list = self.lender.lend(plan);
         let got = during(&inputs, || library::trial(lent.parents.list(), lent.pebbles.list_mut(), lent.targets.list(), list.list(), budget));
         let expected = checker::trial(yard, plan, budget);
         let tried = expected.as_ref().map(|(tried, _)| *tried).map_err(|refusal| *refusal);
-        let after = written(&yard.pebbles, &expected.map(|(_, pebbles)| pebbles));
+        let after = Yard { pebbles: written(&yard.pebbles, &expected.map(|(_, pebbles)| pebbles)), ..yard.clone() };
         let mut quick_pebbles = yard.pebbles.clone();
         quick(&inputs, fast::trial(&yard.parents, &mut quick_pebbles, &yard.targets, plan, budget), &tried)?;
-        quick(&inputs, Ok(quick_pebbles), &Ok(after.clone()))?;
-        self.same(&inputs, got, tried, lent.wrong_but_for_pebbles(yard, &after).or_else(|| list.wrong("plan", plan)))
+        quick(&inputs, Ok(&quick_pebbles), &Ok(&after.pebbles))?;
+        self.same(&inputs, got, tried, lent.wrong(&after).or_else(|| list.wrong("plan", plan)))
     }
 
     /// The reader with lists of these lengths. A sheet that both accept must be what the writer makes of its lists.
     pub fn read_sheet(&self, bytes: &[u8], lengths: [usize; 3]) -> Same {
         let nothing = Yard::default();
-        let inputs = Inputs { call: "read_sheet", yard: &nothing, bytes, numbers: &lengths };
+        let inputs = Inputs { bytes, numbers: &lengths, ..Inputs::of("read_sheet", &nothing) };
         let before = lengths.map(unwritten);
         let lent = self.lender.lend(bytes);
         let [mut parents, mut pebbles, mut targets] = [0, 1, 2].map(|list| self.lender.lend(&before[list]));
@@ -276,7 +304,7 @@ impl Caller {
 
     /// The writer with a list of `room` bytes.
     pub fn write_sheet(&self, yard: &Yard, room: usize) -> Same {
-        let inputs = Inputs { call: "write_sheet", yard, bytes: &[], numbers: &[room] };
+        let inputs = Inputs { numbers: &[room], ..Inputs::of("write_sheet", yard) };
         let before = unwritten(room);
         let lent = self.lend(yard);
         let mut list = self.lender.lend(&before);
@@ -295,7 +323,7 @@ impl Caller {
     }
 }
 
-/// The plan written for speed is compared too, as a benchmark against a wrong one would mean nothing.
+/// What is written for speed is compared too, as a benchmark against a wrong one would mean nothing.
 fn quick<T: PartialEq + fmt::Debug>(inputs: &Inputs, got: Answer<T>, expected: &Answer<T>) -> Same {
     if got == *expected {
         Ok(())

@@ -1,8 +1,8 @@
 //! The cases, in families. Every family takes its random numbers from a seed of its own, so leaving cases out of one does not change another.
 
-use crate::calls::{Caller, Same};
-use crate::sheets;
+use crate::calls::{Caller, Same, LAST_REFUSAL};
 use crate::worked::worked;
+use crate::{events, sheets};
 use std::ops::RangeInclusive;
 use unrelated::random::Random;
 use unrelated::shapes::{self, Shape};
@@ -12,7 +12,7 @@ use unrelated::{checker, damage, demands, figures, follow, library, planner, rep
 /// A family tries its cases and tells how many there were.
 pub type Family = fn(&Caller, Thin) -> Same<u64>;
 
-pub const FAMILIES: [(&str, Family); 20] = [
+pub const FAMILIES: [(&str, Family); 24] = [
     ("yards and examples of documents 01 and 02", |caller, _| worked(caller)),
     ("every tree up to 5 nodes with all marks, against the search", every_tree),
     ("6 and 7 nodes, against the search", against_search),
@@ -27,6 +27,10 @@ pub const FAMILIES: [(&str, Family); 20] = [
     ("plans altered in one to three places, budgets", altered_plans),
     ("plans about as long as a plan can be", long_plans),
     ("pushes of any two numbers", pushes),
+    ("every event on every tree up to 4 nodes, lists right or not", events::every_event),
+    ("runs of events on a list that stays right", events::runs),
+    ("events at every node of 256, to both ends of the range", events::to_both_ends),
+    ("events on lists that belong to no yard", events::any_demands),
     ("sheets written and read, any room", sheets::written),
     ("sheets altered in one to three places", sheets::damaged),
     ("a small sheet with every byte changed, left out, put in", sheets::every_byte),
@@ -36,7 +40,7 @@ pub const FAMILIES: [(&str, Family); 20] = [
 ];
 
 /// The refusals that a full run must have met.
-pub const REFUSALS_MET: RangeInclusive<usize> = 1..=18;
+pub const REFUSALS_MET: RangeInclusive<usize> = 1..=LAST_REFUSAL;
 
 /// How much of each family is tried.
 #[derive(Clone, Copy)]
@@ -165,7 +169,8 @@ fn equation_2(caller: &Caller, thin: Thin) -> Same<u64> {
             }
             cases += 1;
             caller.demands(&yard, n)?;
-            let lists = (0..NUMBERS.pow(n as u32)).map(|code| (0..n).map(|node| (code / NUMBERS.pow(node as u32) % NUMBERS) as i16 - 4).collect::<Vec<i16>>());
+            let lists = (0..NUMBERS.pow(n as u32))
+                .map(|code| (0..n).map(|node| (code / NUMBERS.pow(node as u32) % NUMBERS) as i16 - 4).collect::<Vec<i16>>());
             let meet: Vec<Vec<i16>> = lists.filter(|list| demands::meets_equation_2(&yard, list)).collect();
             if meet != [demands::of_tree(&yard)] {
                 return Err(format!("{yard:?}: equation 2 is met by {meet:?}"));
@@ -248,7 +253,8 @@ fn any_lists(caller: &Caller, yard: &Yard, random: &mut Random) -> Same {
     caller.check(yard, &plan)?;
     caller.trial(yard, &plan, random.below(4) as u16)?;
     let [from, to] = damage::any_move(yard, random);
-    caller.push(yard, usize::from(from), usize::from(to))
+    caller.push(yard, usize::from(from), usize::from(to))?;
+    events::any_lists(caller, yard, random)
 }
 
 fn every_list(caller: &Caller, thin: Thin) -> Same<u64> {
@@ -371,16 +377,7 @@ fn pushes(caller: &Caller, thin: Thin) -> Same<u64> {
         if random.once_in(10) {
             damage::lists(&mut yard, &mut random);
         }
-        let [a, b] = damage::any_move(&yard, &mut random);
-        let mut number = |near: u8| match random.below(12) {
-            0 => yard.nodes(),
-            1 => random.below(yard.nodes() + 3),
-            // A node once the high bytes are lost.
-            2 => usize::from(near) + (1 << random.pick(&[8, 16, 31, 32, 33, 63])),
-            3 => usize::MAX - random.below(3),
-            _ => usize::from(near),
-        };
-        let (from, to) = (number(a), number(b));
+        let [from, to] = damage::any_move(&yard, &mut random).map(|node| damage::number(node, &yard, &mut random));
         caller.push(&yard, from, to)?;
     }
     Ok(cases)
@@ -390,7 +387,7 @@ fn pushes(caller: &Caller, thin: Thin) -> Same<u64> {
 fn no_address(_: &Caller, _: Thin) -> Same<u64> {
     use std::ptr::{null, null_mut};
     let (parents, one, zero) = ([0u8], [1u8], [0u8]);
-    let mut bytes = 0;
+    let (mut pebbles, mut targets, mut bytes) = (one, zero, 0);
     // SAFETY: lengths are 0 where there is no address, else those of the arrays.
     let answers = unsafe {
         use library::raw::*;
@@ -400,6 +397,10 @@ fn no_address(_: &Caller, _: Thin) -> Same<u64> {
             ("demands", javendriky_demands(null(), 0, null(), 0, null(), 0, null_mut(), 0), 1_000_000),
             ("length_bound", javendriky_length_bound(null(), 0, null(), 0, null(), 0, &mut bytes), 1_000_000),
             ("displaced", javendriky_displaced(null(), 0, null(), 0, null(), 0), 1_000_000),
+            ("pebble_arrives", javendriky_pebble_arrives(null(), 0, null_mut(), 0, null_mut(), 0, null_mut(), 0, 0), 1_000_000),
+            ("pebble_leaves", javendriky_pebble_leaves(null(), 0, null_mut(), 0, null_mut(), 0, null_mut(), 0, 0), 1_000_000),
+            ("target_set", javendriky_target_set(null(), 0, null_mut(), 0, null_mut(), 0, null_mut(), 0, 0), 1_000_000),
+            ("target_cleared", javendriky_target_cleared(null(), 0, null_mut(), 0, null_mut(), 0, null_mut(), 0, 0), 1_000_000),
             ("push", javendriky_push(null(), 0, null_mut(), 0, null(), 0, 0, 0), 1_000_000),
             ("check", javendriky_check(null(), 0, null(), 0, null(), 0, null(), 0), 1_000_000),
             ("excess", javendriky_excess(null(), 0, null(), 0, null(), 0, null(), 0), 1_000_000),
@@ -407,6 +408,7 @@ fn no_address(_: &Caller, _: Thin) -> Same<u64> {
             ("test_yard", javendriky_test_yard(parents.as_ptr(), 1, null(), 0, zero.as_ptr(), 1), 2_000_000),
             ("plan", javendriky_plan(parents.as_ptr(), 1, one.as_ptr(), 1, one.as_ptr(), 1, null_mut(), 0), 0),
             ("demands", javendriky_demands(parents.as_ptr(), 1, one.as_ptr(), 1, one.as_ptr(), 1, null_mut(), 0), 2_000_000),
+            ("target_set", javendriky_target_set(parents.as_ptr(), 1, pebbles.as_mut_ptr(), 1, targets.as_mut_ptr(), 1, null_mut(), 0, 0), 2_000_000),
             ("check", javendriky_check(parents.as_ptr(), 1, one.as_ptr(), 1, one.as_ptr(), 1, null(), 0), 0),
             ("excess", javendriky_excess(parents.as_ptr(), 1, one.as_ptr(), 1, one.as_ptr(), 1, null(), 0), 0),
             ("read_sheet", javendriky_read_sheet(null(), 0, null_mut(), 0, null_mut(), 0, null_mut(), 0), 18_000_000),

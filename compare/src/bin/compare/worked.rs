@@ -4,6 +4,7 @@
 use crate::calls::{Caller, Same};
 use std::fmt::Debug;
 use unrelated::checker::{check, push, trial, Checked, Tried};
+use unrelated::event::{happen, Event, Kept};
 use unrelated::planner::plan;
 use unrelated::random::Random;
 use unrelated::shapes::{far, Shape};
@@ -63,6 +64,11 @@ impl Worked<'_> {
         self.is(name, push(yard, from, to), expected)?;
         self.caller.push(yard, from, to)
     }
+
+    fn event(&mut self, name: &str, kept: &Kept, event: Event, node: usize, expected: Answer<Kept>) -> Same {
+        self.is(name, happen(kept, event, node), expected)?;
+        self.caller.event(kept, event, node).map(drop)
+    }
 }
 
 /// A list with each entry left out, and with each doubled.
@@ -121,6 +127,9 @@ pub fn worked(caller: &Caller) -> Same<u64> {
     w.plan("I, 32,767 bytes", &i, 32_767, refuse(8, 16_384))?;
     caller.plan(&i, 32_768)?;
 
+    events_on_a(&mut w, &a)?;
+    longest_way(&mut w)?;
+
     // The table of refusals, with H among them.
     let two = |pebbles: &[u8], targets: &[u8]| yard(&[0, 0], pebbles, targets);
     for (lists, number, place) in [
@@ -158,4 +167,60 @@ pub fn worked(caller: &Caller) -> Same<u64> {
     w.read("refusal 17", format!("{header}1 0 1 1\n").as_bytes(), [256; 3], refuse(17, 2))?;
     w.read("refusal 18", b"", [256, 255, 256], refuse(18, 0))?;
     Ok(w.cases)
+}
+
+/// Request 2.5 on yard A, of which node 1 has the children 3 and 4.
+fn events_on_a(w: &mut Worked, a: &Yard) -> Same {
+    use Event::{PebbleArrives, PebbleLeaves, TargetCleared, TargetSet};
+    let kept = |yard: &Yard, demands: &[i16]| Kept { yard: yard.clone(), demands: demands.to_vec() };
+    let pebbles = |marks: &[u8]| yard(&a.parents, marks, &a.targets);
+    let targets = |marks: &[u8]| yard(&a.parents, &a.pebbles, marks);
+    let right = kept(a, &[0, -1, 1, -1, 1]);
+    w.event("A, a pebble arrives at 4", &right, PebbleArrives, 4, Ok(kept(&pebbles(&[0, 1, 0, 1, 1]), &[-1, -2, 1, -1, 0])))?;
+    w.event("A, a pebble arrives at the root", &right, PebbleArrives, 0, Ok(kept(&pebbles(&[1, 1, 0, 1, 0]), &[-1, -1, 1, -1, 1])))?;
+    w.event("A, a pebble leaves 3", &right, PebbleLeaves, 3, Ok(kept(&pebbles(&[0, 1, 0, 0, 0]), &[1, 0, 1, 0, 1])))?;
+    w.event("A, a target is set at 3", &right, TargetSet, 3, Ok(kept(&targets(&[0, 0, 1, 1, 1]), &[1, 0, 1, 0, 1])))?;
+    w.event("A, a target is cleared at 2", &right, TargetCleared, 2, Ok(kept(&targets(&[0, 0, 0, 0, 1]), &[-1, -1, 0, -1, 1])))?;
+
+    // Each mark already so.
+    for (event, node) in [(PebbleArrives, 1), (PebbleLeaves, 4), (TargetSet, 2), (TargetCleared, 0)] {
+        w.event("A, refusal 20", &right, event, node, refuse(20, 0))?;
+    }
+    // Each refusal before the next: a circle, a list too long, a node outside, a mark already so, an entry outside.
+    let circle = yard(&[0, 0, 0, 4, 3], &a.pebbles, &a.targets);
+    w.event("A, 6 before 2", &kept(&circle, &[0, -1, 1, -1, 1, 999]), PebbleArrives, 5, refuse(6, 3))?;
+    w.event("A, 2 before 19", &kept(a, &[0, -1, 1, -1, 1, 999]), PebbleArrives, 5, refuse(2, 0))?;
+    // As many entries as nodes once the high bytes are lost.
+    w.event("A, 2 of a long list", &kept(a, &[0; 65_541]), PebbleArrives, 4, refuse(2, 0))?;
+    w.event("A, 19 before 21", &kept(a, &[0, -1, 1, -1, 999]), PebbleArrives, 5, refuse(19, 0))?;
+    w.event("A, 20 before 21", &kept(a, &[0, -1, 1, -1, 999]), PebbleArrives, 3, refuse(20, 0))?;
+    // A pebble arriving at 4 lowers entries 4, 1 and 0. The others only have to be inside.
+    for (list, place) in [
+        ([0, -1, 1, -1, 999], 4),
+        ([0, -1, -257, -1, 1], 2),
+        ([0, -256, 1, -1, 1], 1),
+        ([0, 257, 1, -1, 1], 1),
+        ([0, -1, 257, -1, -256], 2),
+        ([-256, 300, 257, -1, 1], 0),
+    ] {
+        w.event("A, refusal 21", &kept(a, &list), PebbleArrives, 4, refuse(21, place))?;
+    }
+    // From a list that is not the yard's the call goes on too.
+    let ends = kept(&pebbles(&[0, 1, 0, 1, 1]), &[255, -256, -256, 256, -256]);
+    w.event("A, at the ends", &kept(a, &[256, -255, -256, 256, -255]), PebbleArrives, 4, Ok(ends))
+}
+
+/// An empty line of 256 nodes, its root the first or the last of them: an event at the other end alters every entry.
+fn longest_way(w: &mut Worked) -> Same {
+    let first = Vec::from_iter((0..=255u8).map(|node| node.saturating_sub(1)));
+    let last = Vec::from_iter((0..=255u8).map(|node| node.saturating_add(1)));
+    for (parents, root, end) in [(first, 0, 255), (last, 255, 0)] {
+        let mut kept = Kept { yard: yard(&parents, &[0; 256], &[0; 256]), demands: vec![0; 256] };
+        let mut after = Kept { demands: vec![1; 256], ..kept.clone() };
+        after.yard.targets[end] = 1;
+        w.event("the longest way", &kept, Event::TargetSet, end, Ok(after))?;
+        kept.demands[root] = 256;
+        w.event("the longest way, to an end of the range", &kept, Event::TargetSet, end, refuse(21, root))?;
+    }
+    Ok(())
 }

@@ -68,6 +68,6 @@ abbrev pub Small : Answer ℕ → Type 0
 Small (answered n) = n < rowUnit
 Small (refused f) = Row f
 
--- the version of the calls for C: raised whenever one gets further arguments or another meaning under its name
+-- the version of the calls for C: raised whenever one is added, or gets further arguments or another meaning under its name
 abbrev pub version : ℕ
-version = 3
+version = 4

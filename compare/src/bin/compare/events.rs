@@ -1,0 +1,141 @@
+//! Families of events at nodes.
+
+use crate::calls::{Caller, Same};
+use crate::families::Thin;
+use unrelated::damage;
+use unrelated::demands::{of_tree, MAX_DEMAND};
+use unrelated::event::{Event, Kept};
+use unrelated::random::Random;
+use unrelated::shapes::{self, Shape};
+use unrelated::yard::{Yard, MAX_NODES};
+
+/// An event on a tree with its own demands: refused only for its node or mark, so never with 21, and the list stays the tree's own, as worked out afresh.
+fn followed(caller: &Caller, kept: &Kept, event: Event, node: usize) -> Same<Kept> {
+    let after = caller.event(kept, event, node)?;
+    let due = node < kept.yard.nodes() && event.alters(&kept.yard, node);
+    if after.demands == of_tree(&after.yard) && (after != *kept) == due {
+        Ok(after)
+    } else {
+        Err(format!("{kept:?}: the list was the yard's, but {} at {node} leaves {after:?}", event.name()))
+    }
+}
+
+/// Mostly an event that alters a mark of the node.
+fn drawn(yard: &Yard, node: usize, random: &mut Random) -> Event {
+    let events: Vec<Event> = Event::ALL.into_iter().filter(|event| random.once_in(8) || event.alters(yard, node)).collect();
+    random.pick(&events)
+}
+
+/// The list with each entry changed by each of a few numbers, then in other lengths.
+fn altered(list: &[i16]) -> Vec<Vec<i16>> {
+    let n = list.len();
+    let resized = [0, n - 1, n + 1, n + 256].map(|length| (0..length).map(|at| list.get(at).copied().unwrap_or(0)).collect());
+    let changes = [1, -1, 256, -256, 257, -257, i16::MAX, -i16::MAX, i16::MIN];
+    let changed = |place: usize, change: i16| {
+        let mut list = list.to_vec();
+        list[place] = list[place].wrapping_add(change);
+        list
+    };
+    (0..n).flat_map(|place| changes.map(|change| changed(place, change))).chain(resized).collect()
+}
+
+/// At every node, and at two numbers that are none: the tree's own list, then all altered ones, or with 4 nodes one of them.
+pub fn every_event(caller: &Caller, thin: Thin) -> Same<u64> {
+    let mut random = Random::new(14);
+    let (mut number, mut cases) = (0, 0);
+    for n in 1..=4 {
+        for kept in shapes::every_yard(n).map(Kept::right) {
+            let lists = altered(&kept.demands);
+            let mut other = kept.clone();
+            for (event, node) in Event::ALL.into_iter().flat_map(|event| (0..n + 2).map(move |node| (event, node))) {
+                number += 1;
+                if !thin.keeps(number) {
+                    continue;
+                }
+                followed(caller, &kept, event, node)?;
+                let one = random.below(lists.len());
+                let tried = if n < 4 { &lists[..] } else { &lists[one..=one] };
+                for list in tried {
+                    other.demands.clone_from(list);
+                    caller.event(&other, event, node)?;
+                }
+                cases += 1 + tried.len() as u64;
+            }
+        }
+    }
+    Ok(cases)
+}
+
+/// Event after event, some at numbers that are no nodes, some that find their mark already so.
+pub fn runs(caller: &Caller, thin: Thin) -> Same<u64> {
+    let mut random = Random::new(15);
+    let mut cases = 0;
+    for run in 0..thin.of(240) {
+        let n = if random.once_in(20) { MAX_NODES } else { shapes::size(1, MAX_NODES, &mut random) };
+        let mut kept = Kept::right(shapes::yard(Shape::ALL[run as usize % Shape::ALL.len()], n, &mut random));
+        // One event more often than the others, so that totals part.
+        let frequent = random.pick(&Event::ALL);
+        for _ in 0..random.within(50, 600) {
+            let node = random.below(n);
+            let event = if random.once_in(4) { frequent } else { drawn(&kept.yard, node, &mut random) };
+            let node = if random.once_in(4) { damage::number(node as u8, &kept.yard, &mut random) } else { node };
+            kept = followed(caller, &kept, event, node)?;
+            cases += 1;
+        }
+        caller.demands(&kept.yard, n)?;
+    }
+    Ok(cases)
+}
+
+/// In an empty yard of 256 nodes, root 0, each event in turn at every node, in any order: the root's demand goes to both ends of the range.
+pub fn to_both_ends(caller: &Caller, thin: Thin) -> Same<u64> {
+    let mut random = Random::new(16);
+    let mut cases = 0;
+    let mut nodes: Vec<usize> = (0..MAX_NODES).collect();
+    let stages = [(Event::PebbleArrives, -MAX_DEMAND), (Event::TargetSet, 0), (Event::PebbleLeaves, MAX_DEMAND), (Event::TargetCleared, 0)];
+    for (number, shape) in (0..).zip(Shape::ALL) {
+        if !thin.keeps(number) {
+            continue;
+        }
+        let mut kept = Kept::right(Yard { pebbles: vec![0; MAX_NODES], targets: vec![0; MAX_NODES], ..shapes::far(shape, MAX_NODES, &mut random) });
+        for (event, end) in stages {
+            random.shuffle(&mut nodes);
+            for &node in &nodes {
+                kept = followed(caller, &kept, event, node)?;
+            }
+            // What may follow, and what may not, at the end of the range.
+            for event in Event::ALL {
+                followed(caller, &kept, event, nodes[0])?;
+            }
+            cases += (nodes.len() + Event::ALL.len()) as u64;
+            if kept.demands[0] != end {
+                return Err(format!("{kept:?}: the root's demand is not {end}"));
+            }
+        }
+    }
+    Ok(cases)
+}
+
+/// Entries at the ends of the range, beyond them and far outside, on the way to the root and off it.
+pub fn any_demands(caller: &Caller, thin: Thin) -> Same<u64> {
+    let mut random = Random::new(17);
+    let cases = thin.of(120_000);
+    for _ in 0..cases {
+        let n = if random.once_in(60) { random.within(200, MAX_NODES) } else { shapes::size(1, 30, &mut random) };
+        let mut kept = Kept::right(shapes::yard(random.pick(&Shape::ALL), n, &mut random));
+        let node = random.below(n);
+        damage::demands(&mut kept, node, &mut random);
+        let event = drawn(&kept.yard, node, &mut random);
+        caller.event(&kept, event, node)?;
+    }
+    Ok(cases)
+}
+
+/// One event on a yard and a list of which nothing is known.
+pub fn any_lists(caller: &Caller, yard: &Yard, random: &mut Random) -> Same {
+    let n = yard.nodes();
+    let length = if random.once_in(6) { (n + 2).saturating_sub(random.below(4)) } else { n };
+    let demands = (0..length).map(|_| if random.once_in(6) { damage::entry(random) } else { 0 }).collect();
+    let node = damage::number(random.below(n.max(1)) as u8, yard, random);
+    caller.event(&Kept { yard: yard.clone(), demands }, random.pick(&Event::ALL), node).map(drop)
+}

@@ -1,0 +1,112 @@
+//! Events at a node (request 2.5): a pebble arrives or leaves, a target is set or cleared, and a list of demands is brought up to date.
+
+use crate::demands::{of_tree, MAX_DEMAND};
+use crate::yard::{judge, refuse, Answer, Yard};
+use std::collections::BTreeSet;
+
+#[derive(Clone, Copy, Debug, PartialEq, Eq)]
+pub enum Event {
+    PebbleArrives,
+    PebbleLeaves,
+    TargetSet,
+    TargetCleared,
+}
+
+impl Event {
+    pub const ALL: [Event; 4] = [Event::PebbleArrives, Event::PebbleLeaves, Event::TargetSet, Event::TargetCleared];
+
+    pub fn name(self) -> &'static str {
+        match self {
+            Event::PebbleArrives => "pebble_arrives",
+            Event::PebbleLeaves => "pebble_leaves",
+            Event::TargetSet => "target_set",
+            Event::TargetCleared => "target_cleared",
+        }
+    }
+
+    /// Of the two lists of marks the one that the event alters.
+    pub fn of<T>(self, pebbles: T, targets: T) -> T {
+        match self {
+            Event::PebbleArrives | Event::PebbleLeaves => pebbles,
+            Event::TargetSet | Event::TargetCleared => targets,
+        }
+    }
+
+    /// The mark that it makes.
+    pub fn mark(self) -> u8 {
+        match self {
+            Event::PebbleArrives | Event::TargetSet => 1,
+            Event::PebbleLeaves | Event::TargetCleared => 0,
+        }
+    }
+
+    /// Whether a node of the yard has another mark.
+    pub fn alters(self, yard: &Yard, node: usize) -> bool {
+        self.of(&yard.pebbles, &yard.targets)[node] != self.mark()
+    }
+
+    /// What it adds to the demand of each subtree that has its node: a demand is targets minus pebbles.
+    pub fn change(self) -> i16 {
+        match self {
+            Event::PebbleLeaves | Event::TargetSet => 1,
+            Event::PebbleArrives | Event::TargetCleared => -1,
+        }
+    }
+}
+
+/// A yard and the list of demands that is kept beside it, right or not.
+#[derive(Clone, Debug, PartialEq, Eq)]
+pub struct Kept {
+    pub yard: Yard,
+    pub demands: Vec<i16>,
+}
+
+impl Kept {
+    /// A tree with its own demands.
+    pub fn right(yard: Yard) -> Kept {
+        Kept { demands: of_tree(&yard), yard }
+    }
+}
+
+/// The nodes from a node of a tree to the root, both included.
+pub fn way(yard: &Yard, node: usize) -> BTreeSet<usize> {
+    let mut way = BTreeSet::from([node]);
+    let mut at = node;
+    while !yard.is_root(at) {
+        at = yard.parent(at);
+        way.insert(at);
+    }
+    way
+}
+
+/// The call: what is kept after the event. Totals may differ.
+pub fn happen(kept: &Kept, event: Event, node: usize) -> Answer<Kept> {
+    judge(&kept.yard)?;
+    let n = kept.yard.nodes();
+    if kept.demands.len() != n {
+        return refuse(2, 0);
+    }
+    if node >= n {
+        return refuse(19, 0);
+    }
+    if !event.alters(&kept.yard, node) {
+        return refuse(20, 0);
+    }
+    let mut after = kept.clone();
+    event.of(&mut after.yard.pebbles, &mut after.yard.targets)[node] = event.mark();
+    let way = way(&kept.yard, node);
+    let inside = |demand: i16| (-MAX_DEMAND..=MAX_DEMAND).contains(&demand);
+    // In rising number, so the first that is outside, before or after, is the lowest.
+    for at in 0..n {
+        if !inside(kept.demands[at]) {
+            return refuse(21, at);
+        }
+        if way.contains(&at) {
+            after.demands[at] += event.change();
+        }
+        if !inside(after.demands[at]) {
+            return refuse(21, at);
+        }
+    }
+    Ok(after)
+}
