@@ -1,57 +1,170 @@
--- The child that the planner serves: where some child of u needs something, the choice is a child that does. The proofs of the
--- planner use no more of the choice.
-use mathlib.Core.Path.{_≡_, refl, sym, subst}
-use mathlib.Core.Bool.{Bool, true, false, _&&_, and-eq-true-iff}
-use mathlib.Core.List.{List, [], _∷_}
-use Prim.Native.Nat.{ℕ, _*_, _<_}
+-- The child that the planner serves. A rule of choice is sound if it gives a child that needs something wherever there is one; the proofs of the
+-- planner use no more of it. Both rules are sound. Of `neediestChild` moreover: no child needs more, and one that needs as much has no lower number,
+-- which determines it.
+use mathlib.Core.Path.{_≡_, refl, sym, _∙_, subst}
+use mathlib.Core.Logic.{_⊎_, inl, inr}
+use mathlib.Core.Bool.{Bool, true, false, cond, _&&_, and-eq-true-iff, false≢true}
+use mathlib.Core.List.{List, [], _∷_, _++_, append-nil, nil≢cons}
+use Prim.Native.Nat.{ℕ, zero, suc, _*_, _≤_, _<_}
 use native.Mathlib.Omega.{arith}
+use native.Mathlib.Decide.{ℕ-discrete, decLt}
 use lib.Dec.{ltb}
-use borrow.Author.Tests.{ltb-true, lt-ltb}
-use Rattle.model.specs.Yard.{Yard, size, one, headOr, isChild}
-use Rattle.model.specs.Plan.{needy, choice}
-use Rattle.model.proofs.Basics.{All, all-below, below-all}
+use borrow.Author.Tests.{ltb-true, ltb-false, lt-ltb}
+use Rattle.model.specs.Yard.{Yard, size, one, below, headOr, isChild}
+use Rattle.model.specs.Plan.{needy, Rule, lowestChild, greatest, neediestChild, choice}
+use Rattle.model.proofs.Basics.{All, all-below, below-all, below-none, none-below}
 use Rattle.model.proofs.Sums.{sum-some}
 use Rattle.model.proofs.Trees.{Child, is-child, child-is}
 use Rattle.model.proofs.Demands.{overChildren}
 
+-- a child of u that needs something
+abbrev pub Needy : (ℕ → ℕ) → Yard → ℕ → ℕ → Type 0
+Needy need y u c = Child (y .parents) u c × (0 < need c)
+
+abbrev pub Sound : Rule → Type 0
+Sound rule = (need : ℕ → ℕ) (y : Yard) (u c : ℕ) → Needy need y u c → Needy need y u (rule need y u)
+
 module _ (need : ℕ → ℕ) (y : Yard) (u : ℕ) where
-  abbrev Needy : ℕ → Type 0
-  Needy c = Child (y .parents) u c × (0 < need c)
+  -- the test for them
+  abbrev pub wanted : ℕ → Bool
+  wanted v = (isChild (y .parents) u v) && (ltb 0 (need v))
 
-  test : ℕ → Bool
-  test v = (isChild (y .parents) u v) && (ltb 0 (need v))
-
-  pub all-needy : All Needy (needy need y u)
-  unfolding needy test
-  all-needy = all-below Needy test (size y) (λ v l e.
+  wanted-needy : (v : ℕ) → v < size y → wanted v ≡ true → Needy need y u v
+  wanted-needy v l e =
       let b = and-eq-true-iff (isChild (y .parents) u v) (ltb 0 (need v)) .0 e in
-      (is-child (y .parents) u v l (b .0), ltb-true 0 (need v) (b .1)))
+      (is-child (y .parents) u v l (b .0), ltb-true 0 (need v) (b .1))
 
-  needy-all : (Q : ℕ → Type 0) → All Q (needy need y u) → (c : ℕ) → Needy c → Q c
-  unfolding needy test
-  needy-all Q a c k = below-all Q test (size y) a c (k .0 .lt) (rw (child-is (y .parents) u c (k .0)) (lt-ltb 0 (need c) (k .1)))
+  needy-wanted : (c : ℕ) → Needy need y u c → wanted c ≡ true
+  needy-wanted c k = rw (child-is (y .parents) u c (k .0)) (lt-ltb 0 (need c) (k .1))
+
+  pub all-needy : All (Needy need y u) (needy need y u)
+  unfolding needy
+  all-needy = all-below (Needy need y u) wanted (size y) wanted-needy
+
+  needy-all : (Q : ℕ → Type 0) → All Q (needy need y u) → (c : ℕ) → Needy need y u c → Q c
+  unfolding needy
+  needy-all Q a c k = below-all Q wanted (size y) a c (k .0 .lt) (needy-wanted c k)
+
+  nil-needy : needy need y u ≡ [] → (c : ℕ) → Needy need y u c → ⊥
+  nil-needy e = needy-all (λ _. ⊥) (subst (All (λ _. ⊥)) (sym e) tt)
 
   pub none-needy : needy need y u ≡ [] → (c : ℕ) → Child (y .parents) u c → need c ≡ 0
-  none-needy e c k = zero-if (λ h. needy-all (λ _. ⊥) (subst (All (λ _. ⊥)) (sym e) tt) c (k, h))
+  none-needy e c k = zero-if (λ h. nil-needy e c (k, h))
     where
       zero-if : (0 < need c → ⊥) → need c ≡ 0
       zero-if h = omega arith
 
-  pub chosen : (c : ℕ) → Child (y .parents) u c → 0 < need c → Needy (choice need y u)
-  unfolding choice
-  chosen c k h = go (needy need y u) refl all-needy
+  -- where the children's needs are not all 0, some child needs something
+  pub some-needy : 0 < overChildren (y .parents) need u → (c : ℕ) × Needy need y u c
+  some-needy h = go (sum-some (size y) (λ v. one (isChild (y .parents) u v) * need v) h)
     where
-      go : (l : List ℕ) → needy need y u ≡ l → All Needy l → Needy (headOr u l)
-      go [] e a = absurd (needy-all (λ _. ⊥) (subst (All (λ _. ⊥)) (sym e) tt) c (k, h))
-      go (v ∷ l) e a = a .0
-
-  -- the same where the children's needs are not all 0
-  pub chosen-some : 0 < overChildren (y .parents) need u → Needy (choice need y u)
-  chosen-some h = go (sum-some (size y) (λ v. one (isChild (y .parents) u v) * need v) h)
-    where
-      go : (c : ℕ) × (c < size y) × (0 < one (isChild (y .parents) u c) * need c) → Needy (choice need y u)
+      go : (c : ℕ) × (c < size y) × (0 < one (isChild (y .parents) u c) * need c) → (c : ℕ) × Needy need y u c
       go k = at (isChild (y .parents) u (k .0)) refl (k .2)
         where
-          at : (b : Bool) → isChild (y .parents) u (k .0) ≡ b → 0 < one b * need (k .0) → Needy (choice need y u)
-          at true e n = chosen (k .0) (is-child (y .parents) u (k .0) (k .1) e) (omega arith)
+          at : (b : Bool) → isChild (y .parents) u (k .0) ≡ b → 0 < one b * need (k .0) → (c : ℕ) × Needy need y u c
+          at true e n = (k .0, (is-child (y .parents) u (k .0) (k .1) e, omega arith))
           at false e n = absurd (omega arith)
+
+-- greatest
+greatest-append : (need : ℕ → ℕ) (v : ℕ) (ws : List ℕ) (n : ℕ) → greatest need v (ws ++ (n ∷ [])) ≡ cond (ltb (need (greatest need v ws)) (need n)) n (greatest need v ws)
+unfolding greatest
+greatest-append need v [] n = refl
+greatest-append need v (w ∷ ws) n = greatest-append need (cond (ltb (need v) (need w)) w v) ws n
+
+-- lowestChild
+pub lowest-sound : Sound lowestChild
+unfolding lowestChild
+lowest-sound need y u c k = go (needy need y u) refl (all-needy need y u)
+  where
+    go : (l : List ℕ) → needy need y u ≡ l → All (Needy need y u) l → Needy need y u (headOr u l)
+    go [] e a = absurd (nil-needy need y u e c k)
+    go (v ∷ l) e a = a .0
+
+-- of the numbers below n that pass a test, r is the one with the greatest need, and the lowestChild of those
+pub record Best (need : ℕ → ℕ) (p : ℕ → Bool) (n r : ℕ) : Type 0 where
+  pub lt : r < n
+  pub passes : p r ≡ true
+  pub most : (v : ℕ) → v < n → p v ≡ true → need v ≤ need r
+  pub first : (v : ℕ) → v < r → p v ≡ true → need v < need r
+
+module _ {need : ℕ → ℕ} {p : ℕ → Bool} {n : ℕ} where
+  pub best-same : {r s : ℕ} → Best need p n r → Best need p n s → r ≡ s
+  best-same {r} {s} a b = go (decLt r s) (decLt s r)
+    where
+      go : Dec (r < s) → Dec (s < r) → r ≡ s
+      go (yes l) _ = absurd (omega (arith, b .first r l (a .passes), a .most s (b .lt) (b .passes)))
+      go (no _) (yes l) = absurd (omega (arith, a .first s l (b .passes), b .most r (a .lt) (a .passes)))
+      go (no k) (no l) = omega arith
+
+  -- a scan in rising number: the first that passes; a later one takes the place of the best so far only if it needs more
+  pub best-first : ((v : ℕ) → v < n → p v ≡ false) → p n ≡ true → Best need p (suc n) n
+  best-first h e = record {
+    lt = omega arith;
+    passes = e;
+    most = λ v l q. go (ℕ-discrete v n) (λ m. false≢true (sym (h v m) ∙ q)) l;
+    first = λ v l q. absurd (false≢true (sym (h v l) ∙ q));
+  }
+    where
+      go : {v : ℕ} → Dec (v ≡ n) → (v < n → ⊥) → v < suc n → need v ≤ need n
+      go (yes q) d l = rw q (omega arith)
+      go (no q) d l = absurd (d (omega arith))
+
+  pub best-over : {r : ℕ} → Best need p n r → p n ≡ true → need r < need n → Best need p (suc n) n
+  best-over {r} b e m = record { lt = omega arith; passes = e; most = λ v l q. go v (ℕ-discrete v n) l q; first = λ v l q. omega (arith, b .most v l q) }
+    where
+      go : (v : ℕ) → Dec (v ≡ n) → v < suc n → p v ≡ true → need v ≤ need n
+      go v (yes x) l q = rw x (omega arith)
+      go v (no x) l q = omega (arith, b .most v (omega arith) q)
+
+  pub best-stays : {r : ℕ} → Best need p n r → (p n ≡ true → need n ≤ need r) → Best need p (suc n) r
+  best-stays {r} b h = record { lt = omega (arith, b .lt); passes = b .passes; most = λ v l q. go v (ℕ-discrete v n) l q; first = b .first }
+    where
+      go : (v : ℕ) → Dec (v ≡ n) → v < suc n → p v ≡ true → need v ≤ need r
+      go v (yes x) l q = rw x (h (rw x at q))
+      go v (no x) l q = b .most v (omega arith) q
+
+-- what `neediestChild` chooses of the numbers below n
+module _ (need : ℕ → ℕ) (u : ℕ) (p : ℕ → Bool) where
+  abbrev chosen : List ℕ → ℕ
+  chosen l = elim l [ [] ↦ u | (v ∷ vs) ↦ greatest need v vs ]
+
+  best-below : (n : ℕ) → (below n p ≡ []) ⊎ Best need p n (chosen (below n p))
+  unfolding below greatest
+  best-below zero = inl refl
+  best-below (suc n) = go (below n p) refl (p n) refl (best-below n)
+    where
+      go : (l : List ℕ) → below n p ≡ l → (b : Bool) → p n ≡ b → (below n p ≡ []) ⊎ Best need p n (chosen (below n p))
+          → (l ++ cond b (n ∷ []) [] ≡ []) ⊎ Best need p (suc n) (chosen (l ++ cond b (n ∷ []) []))
+      go [] q false e h = inl refl
+      go [] q true e h = inr (best-first (below-none n p q) e)
+      go (v ∷ vs) q b e (inl h) = absurd (nil≢cons (sym h ∙ q))
+      go (v ∷ vs) q false e (inr h) = inr (rw (append-nil vs) (best-stays (rw q at h) (λ g. absurd (false≢true (sym e ∙ g)))))
+      go (v ∷ vs) q true e (inr h) = inr (rw (greatest-append need v vs n) (at (ltb (need (greatest need v vs)) (need n)) refl (rw q at h)))
+        where
+          at : (x : Bool) → ltb (need (greatest need v vs)) (need n) ≡ x → Best need p n (greatest need v vs) → Best need p (suc n) (cond x n (greatest need v vs))
+          at true l b = best-over b e (ltb-true _ _ l)
+          at false l b = best-stays b (λ _. ltb-false _ _ l)
+
+module _ (need : ℕ → ℕ) (y : Yard) (u : ℕ) where
+  pub neediest-none : ((v : ℕ) → v < size y → wanted need y u v ≡ false) → neediestChild need y u ≡ u
+  unfolding neediestChild needy
+  neediest-none h = rw (none-below (size y) (wanted need y u) h, neediestChild)
+
+  -- no child needs more, and those with a lower number need less; whatever is so is the choice
+  pub neediest-best : (c : ℕ) → Needy need y u c → Best need (wanted need y u) (size y) (neediestChild need y u)
+  unfolding neediestChild needy
+  neediest-best c k = go (best-below need u (wanted need y u) (size y))
+    where
+      go : (below (size y) (wanted need y u) ≡ []) ⊎ Best need (wanted need y u) (size y) (chosen need u (wanted need y u) (below (size y) (wanted need y u))) → Best need (wanted need y u) (size y) (chosen need u (wanted need y u) (below (size y) (wanted need y u)))
+      go (inl e) = absurd (false≢true (sym (below-none (size y) (wanted need y u) e c (k .0 .lt)) ∙ needy-wanted need y u c k))
+      go (inr b) = b
+
+  pub neediest-is : (r : ℕ) → Best need (wanted need y u) (size y) r → r ≡ neediestChild need y u
+  neediest-is r b = best-same b (neediest-best r (wanted-needy need y u r (b .lt) (b .passes)))
+
+pub neediest-sound : Sound neediestChild
+neediest-sound need y u c k = let b = neediest-best need y u c k in wanted-needy need y u (neediestChild need y u) (b .lt) (b .passes)
+
+pub choice-sound : Sound choice
+unfolding choice
+choice-sound = lowest-sound

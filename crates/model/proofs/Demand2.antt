@@ -30,9 +30,8 @@ use Rattle.model.proofs.Bounds.{shortest-fits}
 use Rattle.model.proofs.Step.{Step, step, ends, moved-tree}
 use Rattle.model.proofs.Runs.{Obeys, obeys, run-tree, pebbleCount-run}
 use Rattle.model.proofs.Shortest.{shortest-least}
-use Rattle.model.proofs.Balance.{plan-good}
 use Rattle.model.proofs.Calls.{answer-answered, movesOf-bytes, length-bytes, take-overwrite, totals-none, plan-none, other-unless, other-lowest, other-moves, seven}
-use Rattle.model.proofs.Demand3.{plan-solves, plan-length, plan-seven}
+use Rattle.model.proofs.Demand3.{plan-optimal, plan-length, plan-seven}
 use Rattle.model.proofs.Moves.{moveFault-legal, obeys-accepted, accepted-obeys, movesFault-accepted}
 
 -- one push, where a node holds one pebble or none
@@ -125,7 +124,7 @@ module _ (y : Yard) (t : Tree y) (m : Matched y) where
       rw (checkFault-none (bytes ms) .1 (b, rw e o, rw e h), e, l, sub-self)
 
   pub check-plan : checkAnswer y (bytes (plan y)) ≡ answered (record { moves = length (plan y); excess = 0 })
-  check-plan = check-shortest (plan y) (plan-good y t m .obeyed) (plan-solves y t m) (plan-length y t m)
+  check-plan = check-shortest (plan y) (plan-optimal y t m .obeyed) (plan-optimal y t m .solves) (plan-length y t m)
 
   pub demand-2 : Demand2 y
   demand-2 = record {

@@ -10,7 +10,7 @@ use lib.Dec.{leb}
 use Rattle.model.specs.Yard.{Yard, size, pebble, target, shortest, pebbleCount, Matched}
 use Rattle.model.specs.Judge.{row, Tree}
 use Rattle.model.specs.Push.{Move, run, accepted, Solved}
-use Rattle.model.specs.Plan.{plan}
+use Rattle.model.specs.Plan.{Rule, lowestChild, neediestChild, choice, planBy, plan}
 use Rattle.model.specs.Follow.{lifo}
 use Rattle.model.specs.Calls.Answers.{answered, refused}
 use Rattle.model.specs.Calls.Plans.{bytes, movesOf, planTests, planFault, planAnswer, planList}
@@ -20,10 +20,11 @@ use Rattle.model.proofs.Sums.{sum-cong}
 use Rattle.model.proofs.Demands.{even-solved, solved-iff}
 use Rattle.model.proofs.Bounds.{shortest-bound, shortest-max, shortest-fits}
 use Rattle.model.proofs.Runs.{pebbleCount-run}
-use Rattle.model.proofs.Shortest.{shortest-least, thrifty-crosses, good-tree, good-thrifty}
+use Rattle.model.proofs.Shortest.{Good, shortest-least, thrifty-crosses, good-tree, good-thrifty}
 use Rattle.model.proofs.Follow.{follows-simple}
 use Rattle.model.proofs.LastIn.{lifo-follows}
-use Rattle.model.proofs.Balance.{plan-good, plan-even}
+use Rattle.model.proofs.Choice.{Sound, lowest-sound, neediest-sound, choice-sound}
+use Rattle.model.proofs.Balance.{planBy-good, planBy-even}
 use Rattle.model.proofs.Calls.{answer-answered, movesOf-bytes, length-bytes, take-overwrite, plan-none, other-unless, seven}
 
 module _ (y : Yard) (t : Tree y) where
@@ -31,13 +32,40 @@ module _ (y : Yard) (t : Tree y) where
   pub solved-matched : (ms : List Move) → Solved (run y ms) → Matched y
   solved-matched ms h = sym (pebbleCount-run y t ms) ∙ sum-cong (size y) (pebble (run y ms)) (target y) h
 
-  module _ (m : Matched y) where
-    pub plan-solves : Solved (run y (plan y))
-    plan-solves = even-solved (run y (plan y)) (good-tree y t (plan y) (plan-good y t m)) (plan-even y t m)
+  -- the plan under any sound rule of choice
+  module _ (m : Matched y) (rule : Rule) (sound : Sound rule) where
+    good : Good y (planBy rule y)
+    good = planBy-good rule sound y t m
 
-    -- Theorem 14: the plan has as many moves as the shortest length says
+    solves : Solved (run y (planBy rule y))
+    solves = even-solved (run y (planBy rule y)) (good-tree y t (planBy rule y) good) (planBy-even rule sound y t m)
+
+    -- Theorem 14: it has as many moves as the shortest length says
+    pub planBy-length : length (planBy rule y) ≡ shortest y
+    planBy-length = omega (arith, good .spends, solved-iff (run y (planBy rule y)) (good-tree y t (planBy rule y) good) .0 solves)
+
+    pub planBy-optimal : Optimal y (planBy rule y)
+    planBy-optimal = record {
+      obeyed = good .obeyed;
+      solves = solves;
+      crossed = λ v l. omega (arith, thrifty-crosses y t (planBy rule y) (good-thrifty y t (planBy rule y) good) v l, planBy-even rule sound y t m v l);
+      least = λ ps h. omega (arith, planBy-length, shortest-least y t ps h);
+      followed = λ ps. let r = lifo-follows y t ps in (lifo y (accepted y ps), r .0, r .1);
+      simple = λ ps h e f. follows-simple y t ps f h (e ∙ planBy-length);
+    }
+
+  module _ (m : Matched y) where
+    pub plan-optimal : Optimal y (plan y)
+    unfolding plan
+    plan-optimal = planBy-optimal m choice choice-sound
+
     pub plan-length : length (plan y) ≡ shortest y
-    plan-length = omega (arith, plan-good y t m .spends, solved-iff (run y (plan y)) (good-tree y t (plan y) (plan-good y t m)) .0 plan-solves)
+    unfolding plan
+    plan-length = planBy-length m choice choice-sound
+
+    -- request 2.6: the lowest child first and the neediest first give plans of one length
+    pub rules-length : length (planBy neediestChild y) ≡ length (planBy lowestChild y)
+    rules-length = planBy-length m neediestChild neediest-sound ∙ sym (planBy-length m lowestChild lowest-sound)
 
     -- Corollary 15, and the same against the number of nodes: so the program's plan list is always long enough
     pub plan-bound : length (plan y) ≤ pebbleCount y * (size y - 1)
@@ -48,16 +76,6 @@ module _ (y : Yard) (t : Tree y) where
 
     pub plan-fits : planFault y programPlanBytes ≡ none
     plan-fits = plan-none y programPlanBytes .1 (t, m, rw plan-length (shortest-fits y t m))
-
-    pub plan-optimal : Optimal y (plan y)
-    plan-optimal = record {
-      obeyed = plan-good y t m .obeyed;
-      solves = plan-solves;
-      crossed = λ v l. omega (arith, thrifty-crosses y t (plan y) (good-thrifty y t (plan y) (plan-good y t m)) v l, plan-even y t m v l);
-      least = λ ps h. omega (arith, plan-length, shortest-least y t ps h);
-      followed = λ ps. let r = lifo-follows y t ps in (lifo y (accepted y ps), r .0, r .1);
-      simple = λ ps h e f. follows-simple y t ps f h (e ∙ plan-length);
-    }
 
 module _ (y : Yard) (list : List ℕ) where
   -- the moves read back are those of the plan
@@ -78,7 +96,7 @@ module _ (y : Yard) (list : List ℕ) where
         let ms = ap movesOf (w .1) ∙ movesOf-bytes (plan y) in
         let a = n .0 (answer-answered (planFault y (length list)) (length (plan y)) m e .0) in
         (rw ms (w .0), rw ms (plan-optimal y (a .0) (a .1)));
-    no-plan = λ t. ((λ e ps h. plan-seven t .0 e (solved-matched y t ps h)), λ h. plan-seven t .1 (λ m. h (plan y) (plan-solves y t m)));
+    no-plan = λ t. ((λ e ps h. plan-seven t .0 e (solved-matched y t ps h)), λ h. plan-seven t .1 (λ m. h (plan y) (plan-optimal y t m .solves)));
   }
     where
       n : (planFault y (length list) ≡ none) ↔ (Tree y × Matched y × (2 * length (plan y) ≤ length list))

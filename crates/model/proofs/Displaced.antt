@@ -23,8 +23,7 @@ use Rattle.model.proofs.Judged.{facts}
 use Rattle.model.proofs.Runs.{obeys}
 use Rattle.model.proofs.Follow.{starts-counts, start-lt, follows-only, follows-solved, follows-onto, follows-apart}
 use Rattle.model.proofs.LastIn.{lifo-follows}
-use Rattle.model.proofs.Balance.{plan-good}
-use Rattle.model.proofs.Demand3.{plan-solves, plan-length}
+use Rattle.model.proofs.Demand3.{plan-optimal, plan-length}
 use Rattle.model.proofs.Outgoing.{outgoing, outgoing-some, part-outgoing}
 
 -- occurs, as a sum
@@ -75,7 +74,7 @@ displaced-le y = movers-le y (lifo y (plan y))
 
 module _ (y : Yard) (t : Tree y) (m : Matched y) where
   obeyed : accepted y (plan y) ≡ plan y
-  obeyed = plan-good y t m .obeyed
+  obeyed = plan-optimal y t m .obeyed
 
   room : (v : ℕ) → v < size y → capacity y v ≤ 1
   room v l = omega arith
@@ -96,10 +95,10 @@ module _ (y : Yard) (t : Tree y) (m : Matched y) where
     displaced-apart = follows-apart y t (plan y) whole room
 
     pub displaced-onto : (v : ℕ) → v < size y → (0 < target y v) ↔ ((i : ℕ) × At qs i v)
-    displaced-onto = follows-onto y t (plan y) whole (plan-solves y t m)
+    displaced-onto = follows-onto y t (plan y) whole (plan-optimal y t m .solves)
 
   part : (i : ℕ) → i < length (starts y) → (0 < occurs i (lifo y (plan y))) ↔ (0 < outgoing y (getD (starts y) i 0))
-  part = part-outgoing y t (plan y) (plan-solves y t m) (rw obeyed (plan-length y t m)) room (followed .1)
+  part = part-outgoing y t (plan y) (plan-optimal y t m .solves) (rw obeyed (plan-length y t m)) room (followed .1)
 
   -- request 2.4: a pebble takes part in a move exactly if the subtree of its starting node has too many, or that of a child of it lacks some
   pub displaced-part : (i : ℕ) → i < length (starts y)
@@ -137,7 +136,7 @@ module _ (y : Yard) (t : Tree y) (m : Matched y) where
   unfolding displaced
   displaced-strays =
       rw (length-below (size y) _, movers-stays y (lifo y (plan y)))
-      (sum-mono (size y) _ _ (λ v l. stray (pebble y v) (target y v) _ (omega (arith, stays-end (followed .1) v, follows-solved y t (plan y) (followed .1) (plan-solves y t m) v l))))
+      (sum-mono (size y) _ _ (λ v l. stray (pebble y v) (target y v) _ (omega (arith, stays-end (followed .1) v, follows-solved y t (plan y) (followed .1) (plan-optimal y t m .solves) v l))))
     where
       stray : (p q s : ℕ) → s ≤ q → one ((ltb 0 p) && (not (ltb 0 q))) ≤ p - s
       stray zero q s h = omega arith

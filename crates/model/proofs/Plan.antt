@@ -5,46 +5,46 @@ use mathlib.Core.List.{List, [], _∷_, _++_}
 use Prim.Native.Nat.{ℕ, suc}
 use Rattle.model.specs.Yard.{Yard, parent, full, held, children, lacking, surplus, imbalance}
 use Rattle.model.specs.Push.{Move, push, run}
-use Rattle.model.specs.Plan.{needy, choice, inject, clear, extract, turn, settle, each, balance}
+use Rattle.model.specs.Plan.{needy, Rule, inject, clear, extract, turn, settle, each, balance}
 
-module _ (k : ℕ) (y : Yard) (v : ℕ) where
-  pub inject-full : full y v ≡ true → inject (suc k) y v ≡ clear k y v ++ (push (parent y v) v ∷ [])
+module _ (rule : Rule) (k : ℕ) (y : Yard) (v : ℕ) where
+  pub inject-full : full y v ≡ true → inject rule (suc k) y v ≡ clear rule k y v ++ (push (parent y v) v ∷ [])
   unfolding inject
   inject-full e = rw (e, inject)
 
-  pub inject-free : full y v ≡ false → inject (suc k) y v ≡ push (parent y v) v ∷ []
+  pub inject-free : full y v ≡ false → inject rule (suc k) y v ≡ push (parent y v) v ∷ []
   unfolding inject
   inject-free e = rw (e, inject)
 
-  pub clear-child : clear (suc k) y v ≡ inject k y (choice (lacking y) y v)
+  pub clear-child : clear rule (suc k) y v ≡ inject rule k y (rule (lacking y) y v)
   unfolding inject
   clear-child = refl
 
-  pub extract-held : held y v ≡ true → extract (suc k) y v ≡ push v (parent y v) ∷ []
+  pub extract-held : held y v ≡ true → extract rule (suc k) y v ≡ push v (parent y v) ∷ []
   unfolding extract
   extract-held e = rw (e, extract)
 
-  pub extract-empty : held y v ≡ false → extract (suc k) y v ≡ extract k y (choice (surplus y) y v) ++ (push v (parent y v) ∷ [])
+  pub extract-empty : held y v ≡ false → extract rule (suc k) y v ≡ extract rule k y (rule (surplus y) y v) ++ (push v (parent y v) ∷ [])
   unfolding extract
   extract-empty e = rw (e, extract)
 
-  pub turn-held : held y v ≡ true → turn k y v ≡ inject k y (choice (lacking y) y v)
+  pub turn-held : held y v ≡ true → turn rule k y v ≡ inject rule k y (rule (lacking y) y v)
   unfolding turn
   turn-held e = rw (e, turn)
 
-  pub turn-empty : held y v ≡ false → turn k y v ≡ extract k y (choice (surplus y) y v)
+  pub turn-empty : held y v ≡ false → turn rule k y v ≡ extract rule k y (rule (surplus y) y v)
   unfolding turn
   turn-empty e = rw (e, turn)
 
-  pub settle-end : (t : ℕ) → needy (imbalance y) y v ≡ [] → settle k (suc t) y v ≡ []
+  pub settle-end : (t : ℕ) → needy (imbalance y) y v ≡ [] → settle rule k (suc t) y v ≡ []
   unfolding settle
   settle-end t e = rw (e, settle)
 
-  pub settle-turn : (t c : ℕ) (cs : List ℕ) → needy (imbalance y) y v ≡ c ∷ cs → settle k (suc t) y v ≡ turn k y v ++ settle k t (run y (turn k y v)) v
+  pub settle-turn : (t c : ℕ) (cs : List ℕ) → needy (imbalance y) y v ≡ c ∷ cs → settle rule k (suc t) y v ≡ turn rule k y v ++ settle rule k t (run y (turn rule k y v)) v
   unfolding settle
   settle-turn t c cs e = rw (e, settle)
 
-  pub balance-children : (d : ℕ) → balance k (suc d) y v ≡ settle k k y v ++ each (balance k d) (run y (settle k k y v)) (children y v)
+  pub balance-children : (d : ℕ) → balance rule k (suc d) y v ≡ settle rule k k y v ++ each (balance rule k d) (run y (settle rule k k y v)) (children y v)
   unfolding balance
   balance-children d = refl
 

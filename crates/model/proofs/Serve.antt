@@ -12,14 +12,14 @@ use borrow.Author.Tests.{ltb-true, ltb-false, leb-true, leb-false, eq-eqb, ne-eq
 use Rattle.model.specs.Yard.{Yard, size, parent, pebble, capacity, full, held, one, root, inside, pebblesIn, lacking, surplus}
 use Rattle.model.specs.Judge.{Tree}
 use Rattle.model.specs.Push.{Move, shifted, moved, after, run}
-use Rattle.model.specs.Plan.{choice, inject, extract}
+use Rattle.model.specs.Plan.{Rule, inject, extract}
 use Rattle.model.proofs.Trees.{Child, parent-outside, child-off-root, outside-child, outside-other}
 use Rattle.model.proofs.Judged.{facts, wood}
 use Rattle.model.proofs.Demands.{overChildren, weight, weight-child, weight-pos, parts-children}
 use Rattle.model.proofs.Step.{crossing, need, Step, legal-step, moved-pebble, pebblesIn-other}
 use Rattle.model.proofs.Runs.{after-append, run-one}
 use Rattle.model.proofs.Shortest.{Good, good-append, good-tree, good-one}
-use Rattle.model.proofs.Choice.{chosen-some}
+use Rattle.model.proofs.Choice.{Sound, some-needy}
 use Rattle.model.proofs.Plan.{inject-full, inject-free, clear-child, extract-held, extract-empty}
 
 -- v can give a pebble, or take one
@@ -34,11 +34,13 @@ pub record Due (y : Yard) (away : Bool) (v : ℕ) : Type 0 where
   pub ready : Able y away (parent y v)
   pub needs : 0 < need y away v
 
-pub chosen-due : (y : Yard) → Tree y → (b : Bool) (u : ℕ) → Able y b u → 0 < overChildren (y .parents) (need y b) u
-    → Child (y .parents) u (choice (need y b) y u) × Due y b (choice (need y b) y u)
-chosen-due y t b u a h =
-    let q = chosen-some (need y b) y u h in
-    (q .0, record { lt = q .0 .lt; off-root = child-off-root (wood y t) u (choice (need y b) y u) (q .0); ready = rw (q .0 .up) a; needs = q .1 })
+-- where some child of u needs something, the one that a sound rule chooses is a child over whose edge a pebble is due
+pub chosen-due : (rule : Rule) → Sound rule → (y : Yard) → Tree y → (b : Bool) (u : ℕ) → Able y b u → 0 < overChildren (y .parents) (need y b) u
+    → Child (y .parents) u (rule (need y b) y u) × Due y b (rule (need y b) y u)
+chosen-due rule sound y t b u a h =
+    let c = some-needy (need y b) y u h in
+    let q = sound (need y b) y u (c .0) (c .1) in
+    (q .0, record { lt = q .0 .lt; off-root = child-off-root (wood y t) u (rule (need y b) y u) (q .0); ready = rw (q .0 .up) a; needs = q .1 })
 
 -- a pebble goes over the edge of v: the parent of v has one less, or one more, and all else outside the subtree of v stays
 pub record Shift (y : Yard) (away : Bool) (v : ℕ) (ms : List Move) : Type 0 where
@@ -129,64 +131,64 @@ abbrev pub blocked : Yard → Bool → ℕ → Bool
 blocked y b v = cond b (full y v) (not (held y v))
 
 -- the moves by which a pebble goes over the edge of v: one push, behind those that make way for it at a child where v is blocked
-pub data Serves (y : Yard) (b : Bool) : ℕ → List Move → Type 0 where
-  direct : {v : ℕ} → blocked y b v ≡ false → Serves y b v (crossing (y .parents) b v ∷ [])
-  behind : {v : ℕ} {ms : List Move} → blocked y b v ≡ true → Serves y b (choice (need y b) y v) ms → Serves y b v (ms ++ (crossing (y .parents) b v ∷ []))
+pub data Serves (rule : Rule) (y : Yard) (b : Bool) : ℕ → List Move → Type 0 where
+  direct : {v : ℕ} → blocked y b v ≡ false → Serves rule y b v (crossing (y .parents) b v ∷ [])
+  behind : {v : ℕ} {ms : List Move} → blocked y b v ≡ true → Serves rule y b (rule (need y b) y v) ms → Serves rule y b v (ms ++ (crossing (y .parents) b v ∷ []))
 
 -- they are determined by the yard
-pub serves-same : {y : Yard} {b : Bool} {v : ℕ} {ms ns : List Move} → Serves y b v ms → Serves y b v ns → ms ≡ ns
+pub serves-same : {rule : Rule} {y : Yard} {b : Bool} {v : ℕ} {ms ns : List Move} → Serves rule y b v ms → Serves rule y b v ns → ms ≡ ns
 serves-same (direct e) (direct f) = refl
 serves-same (direct e) (behind f s) = absurd (false≢true (sym e ∙ f))
 serves-same (behind e s) (direct f) = absurd (false≢true (sym f ∙ e))
 serves-same {y} {b} {v} (behind e s) (behind f r) = ap (λ (ms : List Move). ms ++ (crossing (y .parents) b v ∷ [])) (serves-same s r)
 
-module _ (y : Yard) (t : Tree y) where
-  pub free-able : (b : Bool) (v : ℕ) → blocked y b v ≡ false → Able y (not b) v
-  free-able true v e = leb-false (capacity y v) (pebble y v) e
-  free-able false v e = ltb-true 0 (pebble y v) (not-false (held y v) e)
+pub free-able : (y : Yard) (b : Bool) (v : ℕ) → blocked y b v ≡ false → Able y (not b) v
+free-able y true v e = leb-false (capacity y v) (pebble y v) e
+free-able y false v e = ltb-true 0 (pebble y v) (not-false (held y v) e)
 
+module _ (rule : Rule) (sound : Sound rule) (y : Yard) (t : Tree y) where
   -- a full node whose subtree lacks pebbles has a child that does, as it holds no fewer than its targets; an empty one with too many has a
   -- child with too many
-  pub blocked-child : (b : Bool) (v : ℕ) → Due y b v → blocked y b v ≡ true → Child (y .parents) v (choice (need y b) y v) × Due y b (choice (need y b) y v)
+  pub blocked-child : (b : Bool) (v : ℕ) → Due y b v → blocked y b v ≡ true → Child (y .parents) v (rule (need y b) y v) × Due y b (rule (need y b) y v)
   blocked-child true v u e =
       let h : capacity y v ≤ pebble y v = leb-true (capacity y v) (pebble y v) e in
       let n : 0 < lacking y v = u .needs in
-      chosen-due y t true v (omega (arith, facts y t .capacity-pos v (u .lt))) (omega (arith, parts-children y t v (u .lt), facts y t .target-le v (u .lt)))
+      chosen-due rule sound y t true v (omega (arith, facts y t .capacity-pos v (u .lt))) (omega (arith, parts-children y t v (u .lt), facts y t .target-le v (u .lt)))
   blocked-child false v u e =
       let h : pebble y v ≤ 0 = ltb-false 0 (pebble y v) (not-true (held y v) e) in
       let n : 0 < surplus y v = u .needs in
-      chosen-due y t false v (omega (arith, facts y t .capacity-pos v (u .lt))) (omega (arith, parts-children y t v (u .lt)))
+      chosen-due rule sound y t false v (omega (arith, facts y t .capacity-pos v (u .lt))) (omega (arith, parts-children y t v (u .lt)))
 
-  pub serves-shift : {b : Bool} {v : ℕ} {ms : List Move} → Serves y b v ms → Due y b v → Shift y b v ms
-  serves-shift {b} {v} (direct e) u = shift-one y t b v u (free-able b v e)
+  pub serves-shift : {b : Bool} {v : ℕ} {ms : List Move} → Serves rule y b v ms → Due y b v → Shift y b v ms
+  serves-shift {b} {v} (direct e) u = shift-one y t b v u (free-able y b v e)
   serves-shift {b} {v} (behind {ms = ms} e s) u =
       let q = blocked-child b v u e in
-      shift-two y t b v (choice (need y b) y v) ms u (q .0) (serves-shift s (q .1))
+      shift-two y t b v (rule (need y b) y v) ms u (q .0) (serves-shift s (q .1))
 
   -- so many calls are enough: filling takes two for every node on the way down, drawing one, and there are no more of these than nodes inside v
-  pub inject-serves : (k v : ℕ) → Due y true v → 2 * weight (y .parents) v ≤ k + 1 → Serves y true v (inject k y v)
+  pub inject-serves : (k v : ℕ) → Due y true v → 2 * weight (y .parents) v ≤ k + 1 → Serves rule y true v (inject rule k y v)
   inject-serves zero v u f = absurd (omega (arith, weight-pos (wood y t) v (u .lt)))
   inject-serves (suc zero) v u f = go (full y v) refl
     where
-      go : (x : Bool) → full y v ≡ x → Serves y true v (inject 1 y v)
+      go : (x : Bool) → full y v ≡ x → Serves rule y true v (inject rule 1 y v)
       go true e =
           let q = blocked-child true v u e in
-          absurd (omega (arith, weight-child (wood y t) v (choice (lacking y) y v) (u .lt) (q .0), weight-pos (wood y t) (choice (lacking y) y v) (q .0 .lt)))
-      go false e = rw (inject-free 0 y v e) (direct e)
+          absurd (omega (arith, weight-child (wood y t) v (rule (lacking y) y v) (u .lt) (q .0), weight-pos (wood y t) (rule (lacking y) y v) (q .0 .lt)))
+      go false e = rw (inject-free rule 0 y v e) (direct e)
   inject-serves (suc (suc k)) v u f = go (full y v) refl (inject-serves k)
     where
-      go : (x : Bool) → full y v ≡ x → ((c : ℕ) → Due y true c → 2 * weight (y .parents) c ≤ k + 1 → Serves y true c (inject k y c)) → Serves y true v (inject (suc (suc k)) y v)
+      go : (x : Bool) → full y v ≡ x → ((c : ℕ) → Due y true c → 2 * weight (y .parents) c ≤ k + 1 → Serves rule y true c (inject rule k y c)) → Serves rule y true v (inject rule (suc (suc k)) y v)
       go true e ih =
           let q = blocked-child true v u e in
-          rw (inject-full (suc k) y v e, clear-child k y v) (behind e (ih (choice (lacking y) y v) (q .1) (omega (arith, weight-child (wood y t) v (choice (lacking y) y v) (u .lt) (q .0)))))
-      go false e ih = rw (inject-free (suc k) y v e) (direct e)
+          rw (inject-full rule (suc k) y v e, clear-child rule k y v) (behind e (ih (rule (lacking y) y v) (q .1) (omega (arith, weight-child (wood y t) v (rule (lacking y) y v) (u .lt) (q .0)))))
+      go false e ih = rw (inject-free rule (suc k) y v e) (direct e)
 
-  pub extract-serves : (k v : ℕ) → Due y false v → weight (y .parents) v ≤ k → Serves y false v (extract k y v)
+  pub extract-serves : (k v : ℕ) → Due y false v → weight (y .parents) v ≤ k → Serves rule y false v (extract rule k y v)
   extract-serves zero v u f = absurd (omega (arith, weight-pos (wood y t) v (u .lt)))
   extract-serves (suc k) v u f = go (held y v) refl (extract-serves k)
     where
-      go : (x : Bool) → held y v ≡ x → ((c : ℕ) → Due y false c → weight (y .parents) c ≤ k → Serves y false c (extract k y c)) → Serves y false v (extract (suc k) y v)
-      go true e ih = rw (extract-held k y v e) (direct (ap not e))
+      go : (x : Bool) → held y v ≡ x → ((c : ℕ) → Due y false c → weight (y .parents) c ≤ k → Serves rule y false c (extract rule k y c)) → Serves rule y false v (extract rule (suc k) y v)
+      go true e ih = rw (extract-held rule k y v e) (direct (ap not e))
       go false e ih =
           let q = blocked-child false v u (ap not e) in
-          rw (extract-empty k y v e) (behind (ap not e) (ih (choice (surplus y) y v) (q .1) (omega (arith, weight-child (wood y t) v (choice (surplus y) y v) (u .lt) (q .0)))))
+          rw (extract-empty rule k y v e) (behind (ap not e) (ih (rule (surplus y) y v) (q .1) (omega (arith, weight-child (wood y t) v (rule (surplus y) y v) (u .lt) (q .0)))))

@@ -14,7 +14,7 @@ use Rattle.model.specs.declared.Event.the-variants.{PebbleArrives, Pebbl
 use Rattle.model.specs.Yard.{Yard, yardOf, sum, below, roots, climbs, inside, subtotal, sumℤ, Equation2, shortest}
 use Rattle.model.specs.Judge.{Fault, row, fault, judge, matchedFault}
 use Rattle.model.specs.Push.{Move, push, moveFault, pushFault, legal, shifted, after, accepted, count}
-use Rattle.model.specs.Plan.{needy, choice, inject, extract, turn, settle, each, balance, planWithin, plan}
+use Rattle.model.specs.Plan.{needy, lowestChild, greatest, neediestChild, choice, inject, extract, turn, settle, each, balance, planWithin, planBy, plan}
 use Rattle.model.specs.Follow.{placed, starts, occurs, At, Follows, route, firstAt, lastIn, lifo, displaced}
 use Rattle.model.specs.Calls.Answers.{Answer, answered, refused, range}
 use Rattle.model.specs.Calls.Demands.{demandsFault, demandsList, Length, boundAnswer, displacedAnswer, longestAnswer}
@@ -31,6 +31,8 @@ data Input : Type 0 where
   -- the plan, and its first move alone
   planOf : Yard → Input
   openingOf : Yard → Input
+  -- the same with the neediest child first
+  neediestOpeningOf : Yard → Input
   -- the planner with a list of so many bytes, all 9
   planInto : ℕ → Yard → Input
   checkOf : List ℕ → Yard → Input
@@ -70,6 +72,7 @@ outcome (lengthOf y) = number (shortest y)
 outcome (testOf y) = refusal (judge y)
 outcome (planOf y) = moves (plan y)
 outcome (openingOf y) = moves (take 1 (plan y))
+outcome (neediestOpeningOf y) = moves (take 1 (planBy neediestChild y))
 outcome (planInto n y) = planned (planAnswer y (replicate n 9)) (planList y (replicate n 9))
 outcome (checkOf bs y) = checked (checkAnswer y bs)
 outcome (trialOf bs budget y) = tried (trialAnswer y bs budget) (trialPebbles y bs budget)
@@ -215,6 +218,13 @@ cases =
     ∷ (planOf (yard (0 ∷ 0 ∷ 0 ∷ 0 ∷ []) (0 ∷ 3 ∷ []) (1 ∷ 2 ∷ [])) gives moves (push 0 1 ∷ push 3 0 ∷ push 0 2 ∷ []))
     -- a turn draws from the lowest child with one too many, not the one with most
     ∷ (openingOf (yard (0 ∷ 0 ∷ 0 ∷ 2 ∷ 0 ∷ 4 ∷ 5 ∷ []) (1 ∷ 2 ∷ 3 ∷ []) (4 ∷ 5 ∷ 6 ∷ [])) gives moves (push 1 0 ∷ []))
+    -- request 2.6's rule on that yard; a turn fills the child that lacks most, so does clearing, and drawing draws from the one with most too many; of two
+    -- equals behind one with less the lower
+    ∷ (neediestOpeningOf (yard (0 ∷ 0 ∷ 0 ∷ 2 ∷ 0 ∷ 4 ∷ 5 ∷ []) (1 ∷ 2 ∷ 3 ∷ []) (4 ∷ 5 ∷ 6 ∷ [])) gives moves (push 2 0 ∷ []))
+    ∷ (neediestOpeningOf (yard (0 ∷ 0 ∷ 0 ∷ 2 ∷ 0 ∷ 4 ∷ []) (0 ∷ 4 ∷ 5 ∷ []) (1 ∷ 2 ∷ 3 ∷ [])) gives moves (push 0 2 ∷ []))
+    ∷ (neediestOpeningOf (yard (0 ∷ 0 ∷ 1 ∷ 1 ∷ 3 ∷ 0 ∷ []) (0 ∷ 1 ∷ 5 ∷ []) (2 ∷ 3 ∷ 4 ∷ [])) gives moves (push 1 3 ∷ []))
+    ∷ (neediestOpeningOf (yard (0 ∷ 0 ∷ 1 ∷ 1 ∷ 3 ∷ 0 ∷ []) (2 ∷ 3 ∷ 4 ∷ []) (0 ∷ 1 ∷ 5 ∷ [])) gives moves (push 3 1 ∷ []))
+    ∷ (neediestOpeningOf (yard (0 ∷ 0 ∷ 0 ∷ 2 ∷ 0 ∷ 4 ∷ 0 ∷ 6 ∷ 7 ∷ 8 ∷ []) (1 ∷ 2 ∷ 3 ∷ 4 ∷ 5 ∷ []) (0 ∷ 6 ∷ 7 ∷ 8 ∷ 9 ∷ [])) gives moves (push 2 0 ∷ []))
     -- the root is not 0, and parents have higher numbers than their children
     ∷ (planOf (yard (3 ∷ 3 ∷ 3 ∷ 4 ∷ 4 ∷ []) (0 ∷ 1 ∷ []) (2 ∷ 4 ∷ [])) gives moves (push 0 3 ∷ push 3 4 ∷ push 1 3 ∷ push 3 2 ∷ []))
     -- pebbles 0 and 1 start at node 1, pebble 2 at node 2
@@ -222,7 +232,7 @@ cases =
     ∷ []
 
 worked : map (λ (c : Case). outcome (c .input)) cases ≡ map (λ (c : Case). c .expected) cases
-unfolding demandsA siding placed occurs firstAt lastIn displaced demandsAfter eventFault leaves runLeaves keeps cases _gives_ outcome yard marks yardA yardB planB sum below roots climbs inside subtotal shortest judge moveFault pushFault legal shifted after accepted count needy choice inject extract turn settle each balance planWithin plan range demandsFault bytes movesOf planFault movesFault checkFault trialFault matchedFault text digits decimal stopBefore line lines header cut same value field readLine readNodes readYard moveLines edges report moveSheet refusalSheet program
+unfolding demandsA siding placed occurs firstAt lastIn displaced demandsAfter eventFault leaves runLeaves keeps cases _gives_ outcome yard marks yardA yardB planB sum below roots climbs inside subtotal shortest judge moveFault pushFault legal shifted after accepted count needy lowestChild greatest neediestChild choice inject extract turn settle each balance planWithin planBy plan range demandsFault bytes movesOf planFault movesFault checkFault trialFault matchedFault text digits decimal stopBefore line lines header cut same value field readLine readNodes readYard moveLines edges report moveSheet refusalSheet program
 worked = refl
 
 -- two pebbles start at node 1, and one at node 2: whichever is taken, pebble 1 may go the second time, and each has its own route

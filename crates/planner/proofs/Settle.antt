@@ -14,7 +14,7 @@ use mir.Val.{ofZ}
 use Rattle.model.specs.Yard.{Yard, size, pebble, held, headOr, imbalance}
 use Rattle.model.specs.Judge.{Tree}
 use Rattle.model.specs.Push.{Move, after, run}
-use Rattle.model.specs.Plan.{needy, choice}
+use Rattle.model.specs.Plan.{needy, lowestChild, choice}
 use Rattle.model.proofs.Basics.{All}
 use Rattle.model.proofs.Trees.{Child}
 use Rattle.model.proofs.Judged.{facts, wood}
@@ -22,7 +22,7 @@ use Rattle.model.proofs.Demands.{weight-child}
 use Rattle.model.proofs.Step.{need}
 use Rattle.model.proofs.Runs.{after-append}
 use Rattle.model.proofs.Shortest.{Good, keeps}
-use Rattle.model.proofs.Choice.{all-needy, none-needy}
+use Rattle.model.proofs.Choice.{all-needy, none-needy, choice-sound}
 use Rattle.model.proofs.Serve.{Due, Serves, serves-shift}
 use Rattle.model.proofs.Balance.{Settles, settled, turned, turn-due, first-needy}
 use Rattle.serve.specs.Serving.{Describes, LookFrom, AskedChoice, AskedStart, Start, AskedMoves, Made, Served}
@@ -71,13 +71,13 @@ module _ {y : Yard} {t : List ℕ} {s : List ℤ} {plan : List ℕ} {u h c : ℕ
   b = readHeld s u
 
   due-chosen : (v : ℕ) → Child (y .parents) u v → 0 < imbalance y v → Due y b c
-  due-chosen v k n = rw (r .chosen) (turn-due y (a .described .tree) u (a .node) (a .even) v k n b (sym (read-held (a .described) (a .node))))
+  due-chosen v k n = rw (r .chosen) (turn-due choice choice-sound y (a .described .tree) u (a .node) (a .even) v k n b (sym (read-held (a .described) (a .node))))
 
   -- the loop ends
-  pub none-chosen : c ≡ u → Settles y u []
+  pub none-chosen : c ≡ u → Settles choice y u []
   none-chosen f = go (needy (imbalance y) y u) refl
     where
-      go : (l : List ℕ) → needy (imbalance y) y u ≡ l → Settles y u []
+      go : (l : List ℕ) → needy (imbalance y) y u ≡ l → Settles choice y u []
       go [] p = settled p
       go (v ∷ l) p =
           let n = first-needy y u v l p in
@@ -85,7 +85,7 @@ module _ {y : Yard} {t : List ℕ} {s : List ℤ} {plan : List ℕ} {u h c : ℕ
 
   module _ (d : c ≢ u) where
     chosen-needs : Child (y .parents) u c × (0 < need y b c)
-    unfolding choice
+    unfolding choice lowestChild
     chosen-needs = go (needy (need y b) y u) (all-needy (need y b) y u) (r .chosen)
       where
         go : (l : List ℕ) → All (λ v. Child (y .parents) u v × (0 < need y b v)) l → c ≡ headOr u l → Child (y .parents) u c × (0 < need y b c)
@@ -105,14 +105,14 @@ module _ {y : Yard} {t : List ℕ} {s : List ℤ} {plan : List ℕ} {u h c : ℕ
     pub turn-moves : {low : ℕ} → Start b y c low → AskedMoves b y t s plan low c
     turn-moves f = record { described = a .described; due = due; start = f; room = a .room }
 
-    module _ {ms : List Move} (v : Serves y b c ms) where
+    module _ {ms : List Move} (v : Serves choice y b c ms) where
       turn-good : Good y ms × (0 < length ms)
-      turn-good = let w = serves-shift y (a .described .tree) v due in (w .good, w .some)
+      turn-good = let w = serves-shift choice choice-sound y (a .described .tree) v due in (w .good, w .some)
 
-      turn-settles : (ns : List Move) → Settles (run y ms) u ns → Settles y u (ms ++ ns)
+      turn-settles : (ns : List Move) → Settles choice (run y ms) u ns → Settles choice y u (ms ++ ns)
       turn-settles ns f = go (needy (imbalance y) y u) refl
         where
-          go : (l : List ℕ) → needy (imbalance y) y u ≡ l → Settles y u (ms ++ ns)
+          go : (l : List ℕ) → needy (imbalance y) y u ≡ l → Settles choice y u (ms ++ ns)
           go [] p = absurd (omega (arith, some-need y b c (chosen-needs .1), none-needy (imbalance y) y u p c (chosen-needs .0)))
           go (w ∷ l) p = turned p (rw (r .chosen, read-held (a .described) (a .node)) at v) f
 
@@ -137,13 +137,13 @@ looks-next false h w g q d e f = rw (e, f) record { to-inject = from-after w g (
 
 -- some turns were made, and one more, of one move at least
 pub record Turned (y : Yard) (u : ℕ) (s : List ℤ) (before plan : List ℕ) (k injected extracted : ℕ) : Type 0 where
-  pub begun : Begun y s before plan k (Settles y u) (λ z. Settles z u)
+  pub begun : Begun y s before plan k (Settles choice y u) (λ z. Settles choice z u)
   pub looks : LooksFrom (run y (begun .moves)) u injected extracted
 
 pub turn-none : {y : Yard} {t : List ℕ} {s : List ℤ} {plan : List ℕ} {u c h : ℕ} → AskedEven y t s plan u h → c ≡ getD t (256 + u) 0 → Turned y u s plan plan 0 c c
 unfolding begin after
 turn-none {u = u} a e = record {
-  begun = begin {Ahead = λ z. Settles z u} (a .described .kept);
+  begun = begin {Ahead = λ z. Settles choice z u} (a .described .kept);
   looks = record { to-inject = from-first (a .described) (a .node) e; to-extract = from-first (a .described) (a .node) e };
 }
 

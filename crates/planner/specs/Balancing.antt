@@ -5,6 +5,7 @@ use lib.ListN.{length}
 use lib.IntN.{ℤ}
 use Rattle.model.specs.Yard.{Yard, size, shortest}
 use Rattle.model.specs.Push.{Move}
+use Rattle.model.specs.Plan.{choice}
 use Rattle.model.proofs.Demands.{weight}
 use Rattle.model.proofs.Balance.{Even, Settles, Balances}
 use Rattle.serve.specs.Serving.{Describes, Made}
@@ -20,10 +21,10 @@ pub record AskedEven (y : Yard) (t : List ℕ) (s : List ℤ) (plan : List ℕ) 
 -- what the loop at u gives, and what balancing u gives
 pub record Settled (y : Yard) (u : ℕ) (s : List ℤ) (before after : List ℕ) (count : ℕ) : Type 0 where
   pub moves : List Move
-  pub settles : Settles y u moves
+  pub settles : Settles choice y u moves
   pub made : Made y moves s before after count
 
 pub record Balanced (y : Yard) (u : ℕ) (s : List ℤ) (before after : List ℕ) (count : ℕ) : Type 0 where
   pub moves : List Move
-  pub balances : Balances y (u ∷ []) moves
+  pub balances : Balances choice y (u ∷ []) moves
   pub made : Made y moves s before after count

@@ -16,7 +16,7 @@ use borrow.Author.Tests.{lt-ltb, le-ltb, ltb-false, le-leb, lt-leb}
 use Rattle.model.specs.Yard.{Yard, size, below, headOr, isChild, demand}
 use Rattle.model.specs.Judge.{Tree}
 use Rattle.model.specs.Push.{Move, run}
-use Rattle.model.specs.Plan.{needy, choice}
+use Rattle.model.specs.Plan.{needy, lowestChild, choice}
 use Rattle.model.proofs.Basics.{below-none}
 use Rattle.model.proofs.Found.{found, missed, none-next, lowest-is, below-cong}
 use Rattle.model.proofs.Trees.{Child, child-is}
@@ -43,7 +43,7 @@ wants-need y true v = above-sign (demand y v) ∙ ap (ltb 0) (demand-parts y v .
 wants-need y false v = below-sign (demand y v) ∙ ap (ltb 0) (demand-parts y v .1)
 
 wants-choice : (y : Yard) (b : Bool) (u : ℕ) → headOr u (below (size y) (wantingChild b y u)) ≡ choice (need y b) y u
-unfolding choice needy
+unfolding choice lowestChild needy
 wants-choice y b u = ap (headOr u) (below-cong (size y) _ _ (λ v _. ap (λ (t : Bool). (isChild (y .parents) u v) && t) (wants-need y b v)))
 
 module _ {b : Bool} {y : Yard} {u : ℕ} where

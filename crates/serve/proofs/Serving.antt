@@ -21,6 +21,7 @@ use Rattle.model.proofs.Demands.{weight, weight-child}
 use Rattle.model.proofs.Step.{crossing, need}
 use Rattle.model.proofs.Shortest.{Good, good-nil, good-tree}
 use Rattle.model.proofs.Signed.{nextℤ, demand-range}
+use Rattle.model.proofs.Choice.{choice-sound}
 use Rattle.model.proofs.Serve.{Due, Shift, Serves, direct, behind, blocked, due-step, due-behind, able-behind, free-able, blocked-child, serves-shift}
 use Rattle.serve.specs.Serving.{Tables, Kept, Describes, movedState, movedPlan, AskedStart, Chain, at-top, down, Start, AskedMoves, Made, Served}
 use Rattle.serve.proofs.Moving.{made-nil, made-move}
@@ -53,7 +54,7 @@ blocked-node false y v e = ap not (le-ltb 0 (pebble y v) (omega arith))
 -- where v is blocked, the child that is chosen makes way
 module _ {b : Bool} {y : Yard} {t : List ℕ} {s : List ℤ} {v h : ℕ} (a : AskedStart b y t s v h) (e : blocked y b v ≡ true) where
   kid : Child (y .parents) v (choice (need y b) y v) × Due y b (choice (need y b) y v)
-  kid = blocked-child y (a .described .tree) b v (a .due) e
+  kid = blocked-child choice choice-sound y (a .described .tree) b v (a .due) e
 
   lower : weight (y .parents) (choice (need y b) y v) < weight (y .parents) v
   lower = weight-child (wood y (a .described .tree)) v (choice (need y b) y v) (a .due .lt) (kid .0)
@@ -79,20 +80,20 @@ module _ {b : Bool} {y : Yard} where
   -- a pebble is due over the edge of each of its nodes
   chain-due : {top v : ℕ} → Tree y → Due y b top → Chain b y top v → Due y b v
   chain-due t u at-top = u
-  chain-due t u (down {u = w} c e) = blocked-child y t b w (chain-due t u c) e .1
+  chain-due t u (down {u = w} c e) = blocked-child choice choice-sound y t b w (chain-due t u c) e .1
 
   -- and its nodes are each the child chosen of the one above, which is blocked
   climb : {top v : ℕ} → Tree y → Due y b top → Chain b y top v → v ≢ top
       → Chain b y top (up (y .parents) v) × (blocked y b (up (y .parents) v) ≡ true) × (v ≡ choice (need y b) y (up (y .parents) v))
   climb t u at-top d = absurd (d refl)
-  climb t u (down {u = w} c e) d = rw (blocked-child y t b w (chain-due t u c) e .0 .up) (c, e, refl)
+  climb t u (down {u = w} c e) d = rw (blocked-child choice choice-sound y t b w (chain-due t u c) e .0 .up) (c, e, refl)
 
 -- the moves that make way for the one over the edge of v
 pub data Way (b : Bool) (y : Yard) (v : ℕ) : List Move → Type 0 where
   at-once : blocked y b v ≡ false → Way b y v []
-  cleared : {ms : List Move} → blocked y b v ≡ true → Serves y b (choice (need y b) y v) ms → Way b y v ms
+  cleared : {ms : List Move} → blocked y b v ≡ true → Serves choice y b (choice (need y b) y v) ms → Way b y v ms
 
-way-serves : {b : Bool} {y : Yard} {v : ℕ} {ms : List Move} → Way b y v ms → Serves y b v (ms ++ (crossing (y .parents) b v ∷ []))
+way-serves : {b : Bool} {y : Yard} {v : ℕ} {ms : List Move} → Way b y v ms → Serves choice y b v (ms ++ (crossing (y .parents) b v ∷ []))
 way-serves (at-once e) = direct e
 way-serves (cleared e s) = behind e s
 
@@ -115,8 +116,8 @@ module _ {b : Bool} {y : Yard} {t : List ℕ} {s₀ : List ℤ} {before : List �
     climb-node = due .lt
 
     -- what made way for v
-    shift : {ms : List Move} → blocked y b v ≡ true → Serves y b (choice (need y b) y v) ms → Shift y b (choice (need y b) y v) ms
-    shift e r = serves-shift y (a .described .tree) r (blocked-child y (a .described .tree) b v due e .1)
+    shift : {ms : List Move} → blocked y b v ≡ true → Serves choice y b (choice (need y b) y v) ms → Shift y b (choice (need y b) y v) ms
+    shift e r = serves-shift choice choice-sound y (a .described .tree) r (blocked-child choice choice-sound y (a .described .tree) b v due e .1)
 
     way-good : {ms : List Move} → Way b y v ms → Good y ms
     way-good (at-once e) = good-nil y
@@ -124,7 +125,7 @@ module _ {b : Bool} {y : Yard} {t : List ℕ} {s₀ : List ℤ} {before : List �
 
     -- room for the move, and a demand in range
     pub climb-room : (length plan ≡ length before) × (2 * k + 2 ≤ length before)
-    climb-room = omega (arith, made-length (way-good (c .way)) (a .room) (c .made), a .room, serves-shift y (a .described .tree) (way-serves (c .way)) due .good .spends, length-append (c .moves) (crossing (y .parents) b v ∷ []), c .made .counted)
+    climb-room = omega (arith, made-length (way-good (c .way)) (a .room) (c .made), a .room, serves-shift choice choice-sound y (a .described .tree) (way-serves (c .way)) due .good .spends, length-append (c .moves) (crossing (y .parents) b v ∷ []), c .made .counted)
 
     pub climb-range : natAbs (getD s v (pos 0)) ≤ 256
     climb-range = rw (c .made .kept .demands v climb-node) (demand-range (run y (c .moves)) (good-tree y (a .described .tree) (c .moves) (way-good (c .way))) v)
@@ -132,9 +133,9 @@ module _ {b : Bool} {y : Yard} {t : List ℕ} {s₀ : List ℤ} {before : List �
     made-more : {ms : List Move} → Way b y v ms → Made y ms s before plan k → 2 * length ms + 2 ≤ length before
         → Made y (ms ++ (crossing (y .parents) b v ∷ [])) (movedState (y .parents) b v s) before (movedPlan (y .parents) b v k plan) (k + 1)
     unfolding due-step after
-    made-more (at-once e) d l = made-move y [] (crossing (y .parents) b v) s before plan k d (due-step y (a .described .tree) b v due (free-able y (a .described .tree) b v e)) l (nextℤ b (getD s v (pos 0))) refl
+    made-more (at-once e) d l = made-move y [] (crossing (y .parents) b v) s before plan k d (due-step y (a .described .tree) b v due (free-able y b v e)) l (nextℤ b (getD s v (pos 0))) refl
     made-more (cleared {ms = ms} e r) d l =
-        let f = blocked-child y (a .described .tree) b v due e .0 in
+        let f = blocked-child choice choice-sound y (a .described .tree) b v due e .0 in
         let p = shift e r in
         made-move y ms (crossing (y .parents) b v) s before plan k d
         (due-step (run y ms) (good-tree y (a .described .tree) ms (p .good)) b v
@@ -146,11 +147,11 @@ module _ {b : Bool} {y : Yard} {t : List ℕ} {s₀ : List ℤ} {before : List �
 
     -- the last one, or up to the next
     pub climb-last : v ≡ top → Served b y top (movedState t b v s) before (movedPlan t b v k plan) (k + 1)
-    climb-last e = record { moves = _; serves = subst (λ (w : ℕ). Serves y b w (c .moves ++ (crossing (y .parents) b v ∷ []))) e (way-serves (c .way)); made = climb-made }
+    climb-last e = record { moves = _; serves = subst (λ (w : ℕ). Serves choice y b w (c .moves ++ (crossing (y .parents) b v ∷ []))) e (way-serves (c .way)); made = climb-made }
 
     pub climb-next : v ≢ top → Climbing b y (movedState t b v s) before (movedPlan t b v k plan) (k + 1) (getD t v 0) top
     climb-next d =
         let u = climb (a .described .tree) (a .due) (c .chain) d in
-        let r = subst (λ (w : ℕ). Serves y b w (c .moves ++ (crossing (y .parents) b v ∷ []))) (u .2) (way-serves (c .way)) in
+        let r = subst (λ (w : ℕ). Serves choice y b w (c .moves ++ (crossing (y .parents) b v ∷ []))) (u .2) (way-serves (c .way)) in
         subst (λ (w : ℕ). Climbing b y (movedState t b v s) before (movedPlan t b v k plan) (k + 1) w top) (sym (a .described .tables .parent v climb-node))
         (record { moves = _; chain = u .0; way = cleared (u .1) r; made = climb-made })

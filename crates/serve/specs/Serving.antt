@@ -119,7 +119,7 @@ pub record Made (y : Yard) (ms : List Move) (s : List ℤ) (before after : List 
 -- what they give: the moves of Algorithm 2 or 3
 pub record Served (b : Bool) (y : Yard) (v : ℕ) (s : List ℤ) (before after : List ℕ) (count : ℕ) : Type 0 where
   pub moves : List Move
-  pub serves : Serves y b v moves
+  pub serves : Serves choice y b v moves
   pub made : Made y moves s before after count
 
 -- the same, for every yard that was asked about
