@@ -40,7 +40,7 @@ extern "C" {
 
 /* The version of these calls, which the library answers too. It is raised whenever a call is added, or gets further arguments or another
  * meaning under the same name, which requests to come will do: a program built with another header would still link. So compare the two once, before any other call. */
-#define JAVENDRIKY_VERSION 4
+#define JAVENDRIKY_VERSION 5
 
 /* The most nodes that a yard can have. */
 #define JAVENDRIKY_MAX_NODES 256

@@ -1,5 +1,5 @@
-//! Test, bound, displaced, events, planner, checker and trial once more, written for speed: no list is asked for from the heap, children stand side by
-//! side in rising number, each demand is kept and changed by one when its edge is crossed. The benchmark sets the library beside these.
+//! Test, bound, displaced, events, planner, checker and trial once more, written for speed: no list is asked for from the heap, each child
+//! names its next sibling, and each node keeps whose turn it is among its children. The benchmark sets the library beside these.
 
 use crate::checker::{Tried, MAX_PLAN_BYTES};
 use crate::demands::MAX_DEMAND;
@@ -60,19 +60,27 @@ pub fn event(parents: &[u8], pebbles: &mut [u8], targets: &mut [u8], demands: &m
 }
 
 /// Refusals 1 to 8; writes the plan at the front of the list and answers its moves.
+///
+/// Of the children of one sign the neediest are served in rising number, one pebble each. Then their demands are one nearer to 0, the next in need are as
+/// needy as they, and the children are gone through again. So each node keeps for each sign how needy a child must be and where to go on: no pick looks
+/// back, and the children are gone through as often as the greatest of their demands at the start says.
 pub fn plan(parents: &[u8], pebbles: &[u8], targets: &[u8], list: &mut [u8]) -> Answer<u32> {
-    plan_by::<Rows, false>(parents, pebbles, targets, list)
+    plan_by::<Siblings, true, false>(parents, pebbles, targets, list)
 }
 
-/// The same, with each child naming its next sibling.
-pub fn plan_by_siblings(parents: &[u8], pebbles: &[u8], targets: &[u8], list: &mut [u8]) -> Answer<u32> {
-    plan_by::<Siblings, false>(parents, pebbles, targets, list)
+/// The same, with the children of a node side by side.
+pub fn plan_by_rows(parents: &[u8], pebbles: &[u8], targets: &[u8], list: &mut [u8]) -> Answer<u32> {
+    plan_by::<Rows, true, false>(parents, pebbles, targets, list)
 }
 
-/// The same, but each node keeps where its last pick was: demands only go towards 0, so the next pick is never before it. This is what Lemma 20 of the
-/// source does with lists, and takes constant time a move however many children a node has.
-pub fn plan_with_cursors(parents: &[u8], pebbles: &[u8], targets: &[u8], list: &mut [u8]) -> Answer<u32> {
-    plan_by::<Rows, true>(parents, pebbles, targets, list)
+/// The same, but nothing is kept: each pick looks at all children for the neediest, and its demand follows the move.
+pub fn plan_with_scans(parents: &[u8], pebbles: &[u8], targets: &[u8], list: &mut [u8]) -> Answer<u32> {
+    plan_by::<Siblings, false, false>(parents, pebbles, targets, list)
+}
+
+/// The same, but Algorithms 2 and 3 do not call themselves: the way down is kept in a list, and its moves are written from the end.
+pub fn plan_by_ways(parents: &[u8], pebbles: &[u8], targets: &[u8], list: &mut [u8]) -> Answer<u32> {
+    plan_by::<Siblings, true, true>(parents, pebbles, targets, list)
 }
 
 /// Refusals 1 to 7, 9, 10 to 13 for each move, 14.
@@ -210,194 +218,272 @@ fn sizes(demand: &[i16]) -> u32 {
     demand.iter().map(|demand| u32::from(demand.unsigned_abs())).sum()
 }
 
-fn plan_by<C: Children, const CURSORS: bool>(parents: &[u8], pebbles: &[u8], targets: &[u8], list: &mut [u8]) -> Answer<u32> {
-    let (demand, root) = demands(parents, pebbles, targets)?;
-    let moves = sizes(&demand);
+fn plan_by<C: Children, const TURNS: bool, const WAYS: bool>(parents: &[u8], pebbles: &[u8], targets: &[u8], list: &mut [u8]) -> Answer<u32> {
+    let (of_node, root) = demands(parents, pebbles, targets)?;
+    let moves = sizes(&of_node);
     if list.len() < 2 * moves as usize {
         return refuse(8, moves as usize);
     }
-    let children = C::of(parents, root);
-    let begins = if CURSORS { std::array::from_fn(|u| children.begin(u)) } else { [0; MAX_NODES] };
-    let mut state = State::<C, CURSORS> {
-        positive_from: begins,
-        negative_from: begins,
-        children,
-        demand,
-        pebble: copy(pebbles).map(|mark| mark == 1),
-        list,
-        written: 0,
-    };
-    state.balance(root);
+    let mut demand = [0; MAX_NODES];
+    let mut positive = [Turn::default(); MAX_NODES];
+    let mut negative = [Turn::default(); MAX_NODES];
+    let children = C::of(parents, root, |node, place| {
+        demand[usize::from(place)] = of_node[node];
+        let parent = usize::from(parents[node]);
+        positive[parent].size = positive[parent].size.max(of_node[node]);
+        negative[parent].size = negative[parent].size.max(-of_node[node]);
+    });
+    if TURNS {
+        for node in 0..parents.len() {
+            let place = children.begin(node as u8);
+            positive[node].place = place;
+            negative[node].place = place;
+        }
+    }
+    let pebble = copy(pebbles).map(|mark| mark == 1);
+    let mut state = State::<C, TURNS, WAYS> { children, demand, positive, negative, pebble, way: [0; MAX_NODES], list, written: 0 };
+    state.balance(root as u8);
     Ok(moves)
 }
 
-/// How the children of each node are kept, in rising number.
+/// How the children of each node are kept, in rising number. Each has a place of its own, a byte as there are at most 255.
 trait Children {
-    fn of(parents: &[u8], root: usize) -> Self;
+    /// Calls `placed` with each child and its place.
+    fn of(parents: &[u8], root: usize, placed: impl FnMut(usize, u8)) -> Self;
     /// The place of the lowest child of u.
-    fn begin(&self, u: usize) -> u16;
-    /// The first child of u from a place on that is wanted, and its place.
-    fn find(&self, u: usize, from: u16, wanted: impl Fn(usize) -> bool) -> Option<(usize, u16)>;
+    fn begin(&self, u: u8) -> u8;
+    /// The first place of a child of u that is wanted, from a place on.
+    fn find(&self, u: u8, from: u8, wanted: impl Fn(u8) -> bool) -> Option<u8>;
     /// The place of the next child.
-    fn after(&self, place: u16) -> u16;
+    fn after(&self, place: u8) -> u8;
+    fn child(&self, place: u8) -> u8;
 }
 
-/// All children of a node side by side: those of u at places `start[u]` to before `start[u + 1]`.
+/// All children of a node side by side: those of u at places `begin[u]` to before `end[u]`.
 struct Rows {
-    start: [u16; MAX_NODES + 1],
+    begin: [u8; MAX_NODES],
+    end: [u8; MAX_NODES],
     nodes: [u8; MAX_NODES],
 }
 
 impl Children for Rows {
-    fn of(parents: &[u8], root: usize) -> Rows {
-        let mut rows = Rows { start: [0; MAX_NODES + 1], nodes: [0; MAX_NODES] };
+    fn of(parents: &[u8], root: usize, mut placed: impl FnMut(usize, u8)) -> Rows {
+        let mut rows = Rows { begin: [0; MAX_NODES], end: [0; MAX_NODES], nodes: [0; MAX_NODES] };
+        let mut counts = [0u8; MAX_NODES];
         for (node, &parent) in parents.iter().enumerate() {
-            rows.start[usize::from(parent) + 1] += u16::from(node != root);
+            counts[usize::from(parent)] += u8::from(node != root);
         }
-        for node in 0..MAX_NODES {
-            rows.start[node + 1] += rows.start[node];
+        let mut next = 0;
+        for (begin, count) in rows.begin.iter_mut().zip(counts) {
+            *begin = next;
+            next += count;
         }
-        let mut next = rows.start;
+        rows.end = rows.begin;
         for (node, &parent) in parents.iter().enumerate() {
             if node != root {
-                let place = &mut next[usize::from(parent)];
+                let place = &mut rows.end[usize::from(parent)];
                 rows.nodes[usize::from(*place)] = node as u8;
+                placed(node, *place);
                 *place += 1;
             }
         }
         rows
     }
 
-    fn begin(&self, u: usize) -> u16 {
-        self.start[u]
+    fn begin(&self, u: u8) -> u8 {
+        self.begin[usize::from(u)]
     }
 
-    fn find(&self, u: usize, from: u16, wanted: impl Fn(usize) -> bool) -> Option<(usize, u16)> {
-        let row = &self.nodes[usize::from(from)..usize::from(self.start[u + 1])];
-        let ahead = row.iter().position(|&v| wanted(usize::from(v)))?;
-        Some((usize::from(row[ahead]), from + ahead as u16))
+    fn find(&self, u: u8, from: u8, wanted: impl Fn(u8) -> bool) -> Option<u8> {
+        let mut place = from;
+        while place < self.end[usize::from(u)] {
+            if wanted(place) {
+                return Some(place);
+            }
+            place += 1;
+        }
+        None
     }
 
-    fn after(&self, place: u16) -> u16 {
+    fn after(&self, place: u8) -> u8 {
         place + 1
     }
+
+    fn child(&self, place: u8) -> u8 {
+        self.nodes[usize::from(place)]
+    }
 }
 
-/// Each node names its lowest child and its next sibling; places are nodes.
+/// Each node names its lowest child and its next sibling; places are nodes, and the root, which is no child, says that none follows.
 struct Siblings {
-    first: [u16; MAX_NODES],
-    next: [u16; MAX_NODES],
+    root: u8,
+    first: [u8; MAX_NODES],
+    next: [u8; MAX_NODES],
 }
-
-const NO_NODE: u16 = u16::MAX;
 
 impl Children for Siblings {
-    fn of(parents: &[u8], root: usize) -> Siblings {
-        let mut siblings = Siblings { first: [NO_NODE; MAX_NODES], next: [NO_NODE; MAX_NODES] };
+    fn of(parents: &[u8], root: usize, mut placed: impl FnMut(usize, u8)) -> Siblings {
+        let none = root as u8;
+        let mut siblings = Siblings { root: none, first: [none; MAX_NODES], next: [none; MAX_NODES] };
         for (node, &parent) in parents.iter().enumerate().rev() {
             if node != root {
                 siblings.next[node] = siblings.first[usize::from(parent)];
-                siblings.first[usize::from(parent)] = node as u16;
+                siblings.first[usize::from(parent)] = node as u8;
+                placed(node, node as u8);
             }
         }
         siblings
     }
 
-    fn begin(&self, u: usize) -> u16 {
-        self.first[u]
+    fn begin(&self, u: u8) -> u8 {
+        self.first[usize::from(u)]
     }
 
-    fn find(&self, _: usize, from: u16, wanted: impl Fn(usize) -> bool) -> Option<(usize, u16)> {
+    fn find(&self, _: u8, from: u8, wanted: impl Fn(u8) -> bool) -> Option<u8> {
         let mut place = from;
-        while place != NO_NODE {
-            let v = usize::from(place);
-            if wanted(v) {
-                return Some((v, place));
+        while place != self.root {
+            if wanted(place) {
+                return Some(place);
             }
-            place = self.next[v];
+            place = self.next[usize::from(place)];
         }
         None
     }
 
-    fn after(&self, place: u16) -> u16 {
+    fn after(&self, place: u8) -> u8 {
         self.next[usize::from(place)]
+    }
+
+    fn child(&self, place: u8) -> u8 {
+        place
     }
 }
 
-struct State<'a, C, const CURSORS: bool> {
+/// Who is next among the children of a node with demands of one sign: from `place` on, the first whose demand was at least of this size at the start.
+/// Those before it have been served in this round; at size 0 all have been.
+#[derive(Clone, Copy, Default)]
+struct Turn {
+    size: i16,
+    place: u8,
+}
+
+/// Demands stand by place. With turns they stay as they were at the start, else they follow the moves.
+struct State<'a, C, const TURNS: bool, const WAYS: bool> {
     children: C,
-    positive_from: [u16; MAX_NODES],
-    negative_from: [u16; MAX_NODES],
     demand: [i16; MAX_NODES],
+    positive: [Turn; MAX_NODES],
+    negative: [Turn; MAX_NODES],
     pebble: [bool; MAX_NODES],
+    way: [u8; MAX_NODES],
     list: &'a mut [u8],
     written: usize,
 }
 
-impl<C: Children, const CURSORS: bool> State<'_, C, CURSORS> {
+const POSITIVE: i16 = 1;
+const NEGATIVE: i16 = -1;
+
+impl<C: Children, const TURNS: bool, const WAYS: bool> State<'_, C, TURNS, WAYS> {
     /// Algorithm 1. The demand of u is 0, so a child of the sign wanted is there exactly if one of any sign is.
-    fn balance(&mut self, u: usize) {
+    fn balance(&mut self, u: u8) {
         loop {
-            if self.pebble[u] {
-                let Some(v) = self.positive_child(u) else { break };
+            if self.pebble[usize::from(u)] {
+                let Some(v) = self.pick::<POSITIVE>(u) else { break };
                 self.inject(v, u);
             } else {
-                let Some(v) = self.negative_child(u) else { break };
+                let Some(v) = self.pick::<NEGATIVE>(u) else { break };
                 self.extract(v, u);
             }
         }
         let mut from = self.children.begin(u);
-        while let Some((v, place)) = self.children.find(u, from, |_| true) {
-            self.balance(v);
+        while let Some(place) = self.children.find(u, from, |_| true) {
+            self.balance(self.children.child(place));
             from = self.children.after(place);
         }
     }
 
     /// Algorithm 2, from u into its child v.
-    fn inject(&mut self, v: usize, u: usize) {
-        if self.pebble[v] {
-            if let Some(w) = self.positive_child(v) {
+    fn inject(&mut self, v: u8, u: u8) {
+        if WAYS {
+            return self.shift::<POSITIVE>(v, u);
+        }
+        if self.pebble[usize::from(v)] {
+            if let Some(w) = self.pick::<POSITIVE>(v) {
                 self.inject(w, v);
             }
         }
-        self.demand[v] -= 1;
         self.move_pebble(u, v);
     }
 
     /// Algorithm 3, from v into its parent u.
-    fn extract(&mut self, v: usize, u: usize) {
-        if !self.pebble[v] {
-            if let Some(w) = self.negative_child(v) {
+    fn extract(&mut self, v: u8, u: u8) {
+        if WAYS {
+            return self.shift::<NEGATIVE>(v, u);
+        }
+        if !self.pebble[usize::from(v)] {
+            if let Some(w) = self.pick::<NEGATIVE>(v) {
                 self.extract(w, v);
             }
         }
-        self.demand[v] += 1;
         self.move_pebble(v, u);
     }
 
-    fn move_pebble(&mut self, from: usize, to: usize) {
-        self.pebble[from] = false;
-        self.pebble[to] = true;
-        self.list[self.written..self.written + 2].copy_from_slice(&[from as u8, to as u8]);
+    /// Both at once: down over the picks to the first node that is empty, or holds a pebble where one is extracted; then the moves, the last edge first.
+    /// Of the nodes on the way only the two at the ends are changed by them.
+    fn shift<const SIGN: i16>(&mut self, v: u8, u: u8) {
+        let injects = SIGN > 0;
+        self.way[..2].copy_from_slice(&[u, v]);
+        let (mut end, mut edges) = (v, 1);
+        while self.pebble[usize::from(end)] == injects {
+            let Some(w) = self.pick::<SIGN>(end) else { break };
+            end = w;
+            edges += 1;
+            self.way[edges] = w;
+        }
+        self.pebble[usize::from(u)] = !injects;
+        self.pebble[usize::from(end)] = injects;
+        let moves = self.list[self.written..self.written + 2 * edges].chunks_exact_mut(2);
+        for (ends, edge) in moves.zip(self.way[..=edges].windows(2).rev()) {
+            let [from, to] = if injects { [edge[0], edge[1]] } else { [edge[1], edge[0]] };
+            ends.copy_from_slice(&[from, to]);
+        }
+        self.written += 2 * edges;
+    }
+
+    fn move_pebble(&mut self, from: u8, to: u8) {
+        self.pebble[usize::from(from)] = false;
+        self.pebble[usize::from(to)] = true;
+        self.list[self.written..self.written + 2].copy_from_slice(&[from, to]);
         self.written += 2;
     }
 
-    fn positive_child(&mut self, u: usize) -> Option<usize> {
-        let from = if CURSORS { self.positive_from[u] } else { self.children.begin(u) };
-        let (v, place) = self.children.find(u, from, |v| self.demand[v] > 0)?;
-        if CURSORS {
-            self.positive_from[u] = place;
+    /// The neediest child of u with the sign, the lowest among equals. A move over its edge always follows, so it counts as served.
+    fn pick<const SIGN: i16>(&mut self, u: u8) -> Option<u8> {
+        if !TURNS {
+            return self.pick_by_scan::<SIGN>(u);
         }
-        Some(v)
+        let turn = if SIGN > 0 { &mut self.positive[usize::from(u)] } else { &mut self.negative[usize::from(u)] };
+        while turn.size > 0 {
+            let size = turn.size;
+            if let Some(place) = self.children.find(u, turn.place, |place| SIGN * self.demand[usize::from(place)] >= size) {
+                turn.place = self.children.after(place);
+                return Some(self.children.child(place));
+            }
+            *turn = Turn { size: size - 1, place: self.children.begin(u) };
+        }
+        None
     }
 
-    fn negative_child(&mut self, u: usize) -> Option<usize> {
-        let from = if CURSORS { self.negative_from[u] } else { self.children.begin(u) };
-        let (v, place) = self.children.find(u, from, |v| self.demand[v] < 0)?;
-        if CURSORS {
-            self.negative_from[u] = place;
+    fn pick_by_scan<const SIGN: i16>(&mut self, u: u8) -> Option<u8> {
+        let mut neediest = None;
+        let (mut size, mut from) = (0, self.children.begin(u));
+        while let Some(place) = self.children.find(u, from, |place| SIGN * self.demand[usize::from(place)] > size) {
+            neediest = Some(place);
+            size = SIGN * self.demand[usize::from(place)];
+            from = self.children.after(place);
         }
-        Some(v)
+        let place = neediest?;
+        self.demand[usize::from(place)] -= SIGN;
+        Some(self.children.child(place))
     }
 }
 

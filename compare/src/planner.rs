@@ -1,14 +1,30 @@
-//! The plan of Algorithms 1 to 4 of the source, with the lowest-numbered child wherever they say 'pick'.
+//! The plan of Algorithms 1 to 4 of the source, with the neediest child wherever they say 'pick' (request 2.6).
 
 use crate::demands;
 use crate::yard::{judge_matched, refuse, Answer, Yard};
+use std::cmp::Reverse;
+
+/// The child that is picked among those whose demand has the sign wanted, as demands are at that moment.
+#[derive(Clone, Copy, Debug, PartialEq, Eq)]
+pub enum Choice {
+    /// The one whose demand is farthest from 0, of equal ones the lowest-numbered: request 2.6, and so the plan that is due.
+    Neediest,
+    /// The lowest-numbered: what was due before request 2.6, kept because the lengths must not differ.
+    Lowest,
+}
 
 /// The plan, two bytes a move; refused if `room` bytes do not hold it.
 pub fn plan(yard: &Yard, room: usize) -> Answer<Vec<u8>> {
+    plan_by(Choice::Neediest, yard, room)
+}
+
+/// The plan by either choice.
+pub fn plan_by(choice: Choice, yard: &Yard, room: usize) -> Answer<Vec<u8>> {
     judge_matched(yard)?;
     let root = (0..yard.nodes()).find(|&node| yard.is_root(node)).expect("a tree has a root");
     let mut state = State {
         yard,
+        choice,
         children: yard.children(),
         demand: demands::of_tree(yard),
         pebble: yard.pebbles.iter().map(|&mark| mark == 1).collect(),
@@ -21,8 +37,13 @@ pub fn plan(yard: &Yard, room: usize) -> Answer<Vec<u8>> {
     Ok(state.moves)
 }
 
+/// The sign of a demand: a subtree lacks pebbles, or has too many.
+const POSITIVE: i16 = 1;
+const NEGATIVE: i16 = -1;
+
 struct State<'a> {
     yard: &'a Yard,
+    choice: Choice,
     children: Vec<Vec<usize>>,
     demand: Vec<i16>,
     pebble: Vec<bool>,
@@ -32,12 +53,12 @@ struct State<'a> {
 impl State<'_> {
     /// Algorithm 1. The children are balanced after the loop has ended: the source's listing is indented otherwise, its text decides.
     fn balance_subtrees(&mut self, u: usize) {
-        while self.pick(u, |demand| demand != 0).is_some() {
+        while self.children[u].iter().any(|&v| self.demand[v] != 0) {
             if self.pebble[u] {
-                let v = self.pick(u, |demand| demand > 0).expect("Lemma 9");
+                let v = self.pick(u, POSITIVE).expect("Lemma 9");
                 self.inject_pebble(v);
             } else {
-                let v = self.pick(u, |demand| demand < 0).expect("Lemma 10");
+                let v = self.pick(u, NEGATIVE).expect("Lemma 10");
                 self.extract_pebble(v);
             }
         }
@@ -49,7 +70,7 @@ impl State<'_> {
     /// Algorithm 2.
     fn inject_pebble(&mut self, v: usize) {
         if self.pebble[v] {
-            let w = self.pick(v, |demand| demand > 0).expect("Lemma 6");
+            let w = self.pick(v, POSITIVE).expect("Lemma 6");
             self.inject_pebble(w);
         }
         self.move_pebble(self.yard.parent(v), v);
@@ -58,7 +79,7 @@ impl State<'_> {
     /// Algorithm 3.
     fn extract_pebble(&mut self, v: usize) {
         if !self.pebble[v] {
-            let w = self.pick(v, |demand| demand < 0).expect("as Lemma 6");
+            let w = self.pick(v, NEGATIVE).expect("as Lemma 6");
             self.extract_pebble(w);
         }
         self.move_pebble(v, self.yard.parent(v));
@@ -76,8 +97,12 @@ impl State<'_> {
         self.moves.extend([u as u8, v as u8]);
     }
 
-    /// The lowest-numbered child of `u` whose demand is as wanted.
-    fn pick(&self, u: usize, wanted: fn(i16) -> bool) -> Option<usize> {
-        self.children[u].iter().copied().find(|&v| wanted(self.demand[v]))
+    /// The child of `u` that is chosen among those whose demand has the sign.
+    fn pick(&self, u: usize, sign: i16) -> Option<usize> {
+        let wanted = self.children[u].iter().copied().filter(|&v| self.demand[v].signum() == sign);
+        match self.choice {
+            Choice::Neediest => wanted.min_by_key(|&v| (Reverse(self.demand[v].abs()), v)),
+            Choice::Lowest => wanted.min(),
+        }
     }
 }

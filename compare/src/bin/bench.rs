@@ -183,13 +183,14 @@ fn run() -> Option<f64> {
             println!("{:<19}{n:>5}{moves:>8}{library:>12.2}{plain:>12.2}{:>8.2}", shape.name(), times.ratio());
         }
     }
-    println!("\nFor information, plan in µs and the library's ratio to it: plain Rust with the children of a node in a row (as above), chained");
-    println!("as siblings, and in a row with the place of the last pick kept, so that no pick looks at a child twice.\n");
-    println!("256 nodes    moves         in a row, ratio    siblings, ratio        kept, ratio");
+    println!("\nFor information, plan in µs and the library's ratio to it: plain Rust with the children of a node chained as siblings (as above),");
+    println!("in a row, chained with nothing kept, so that each pick looks at all children for the neediest, and chained as above with the");
+    println!("way of each pebble kept in a list instead of calls within calls.\n");
+    println!("256 nodes    moves    siblings, ratio    in a row, ratio       scans, ratio        ways, ratio");
     for shape in Shape::ALL {
         let yard = yard(shape, 256);
         print!("{:<11}{:>7}", shape.name(), planner::plan(&yard, PLAN_BYTES).ok()?.len() / 2);
-        for planner in [fast::plan, fast::plan_by_siblings, fast::plan_with_cursors] {
+        for planner in [fast::plan, fast::plan_by_rows, fast::plan_with_scans, fast::plan_by_ways] {
             let (_, times) = plans(&yard, planner)?;
             print!("{:>12.2} {:>6.2}", times.plain / 1e3, times.ratio());
         }

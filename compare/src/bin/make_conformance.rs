@@ -3,6 +3,7 @@
 
 use std::path::Path;
 use std::process::ExitCode;
+use unrelated::planner::{plan_by, Choice};
 use unrelated::random::Random;
 use unrelated::shapes::{self, Shape};
 use unrelated::yard::{Yard, MAX_NODES};
@@ -21,8 +22,9 @@ fn main() -> ExitCode {
     large(&mut sheets);
     refused_yards(&mut sheets);
     refused_sheets(&mut sheets);
-    // Behind the others, so that those keep their numbers.
+    // Behind the others, so that those keep their numbers; the later set behind the earlier.
     reports(&mut sheets);
+    neediest(&mut sheets);
     match sheets.write(Path::new(&folder)) {
         Ok(()) => {
             println!("{} sheets", sheets.all.len());
@@ -62,6 +64,15 @@ impl Sheets {
         self.yard(name, &tree(parents, pebbles, targets));
     }
 
+    /// A yard that is planned otherwise where the lowest-numbered child is taken, with its first moves.
+    fn choice(&mut self, name: &str, yard: &Yard, moves: &[[usize; 2]]) {
+        assert!(differing(yard) > 0, "{name} does not show the choice");
+        let lines: String = moves.iter().map(|[from, to]| format!("{from} {to}\n")).collect();
+        let name = format!("neediest-{name}");
+        self.yard(&name, yard);
+        assert!(sheet::program(&sheet::unjudged(yard)).starts_with(format!("from to\n{lines}").as_bytes()), "{name} does not begin with {lines:?}");
+    }
+
     fn write(&self, folder: &Path) -> std::io::Result<()> {
         std::fs::create_dir_all(folder)?;
         for (name, sheet) in &self.all {
@@ -75,6 +86,12 @@ impl Sheets {
 fn tree(parents: &[u8], pebbles: &[usize], targets: &[usize]) -> Yard {
     let marks = |nodes: &[usize]| -> Vec<u8> { (0..parents.len()).map(|node| u8::from(nodes.contains(&node))).collect() };
     Yard { parents: parents.to_vec(), pebbles: marks(pebbles), targets: marks(targets) }
+}
+
+/// How many moves of the plan are not those that stand there by the choice of before request 2.6.
+fn differing(yard: &Yard) -> usize {
+    let [neediest, lowest] = [Choice::Neediest, Choice::Lowest].map(|choice| plan_by(choice, yard, usize::MAX).expect("a yard with a plan"));
+    neediest.chunks(2).zip(lowest.chunks(2)).filter(|(one, other)| one != other).count()
 }
 
 /// The yards that document 01 works by hand; those of its letters that are other calls on the same yard are left out.
@@ -97,9 +114,9 @@ fn choices(sheets: &mut Sheets) {
     sheets.tree("drawing-extracts-from-lowest", &[0, 0, 1, 1], &[2, 3], &[0, 1]);
     sheets.tree("lowest-is-not-first-below", &[3, 3, 3, 3], &[2, 3], &[0, 1]);
     sheets.tree("lowest-of-three-after-one-is-served", &[0, 0, 0, 0, 0, 0], &[0, 4, 5], &[1, 2, 3]);
-    sheets.tree("a-child-is-served-until-its-demand-is-0", &[0, 0, 0, 1, 0, 0], &[0, 4, 5], &[1, 2, 3]);
-    sheets.tree("lowest-though-another-lacks-more", &[0, 0, 0, 2, 0, 0, 0], &[4, 5, 6], &[1, 2, 3]);
-    sheets.tree("lowest-though-another-has-more", &[0, 0, 0, 2, 0, 0, 0], &[1, 2, 3], &[4, 5, 6]);
+    sheets.tree("lowest-again-when-another-is-as-needy", &[0, 0, 0, 1, 0, 0], &[0, 4, 5], &[1, 2, 3]);
+    sheets.tree("one-that-lacks-more-before-the-lowest", &[0, 0, 0, 2, 0, 0, 0], &[4, 5, 6], &[1, 2, 3]);
+    sheets.tree("one-that-has-more-before-the-lowest", &[0, 0, 0, 2, 0, 0, 0], &[1, 2, 3], &[4, 5, 6]);
     sheets.tree("clearing-goes-down-two-steps", &[0, 0, 1, 2, 2, 1], &[0, 1, 2], &[2, 3, 4]);
     sheets.tree("drawing-goes-down-two-steps", &[0, 0, 1, 2, 2, 1], &[3, 4, 5], &[0, 1, 2]);
     sheets.tree("a-held-target-is-moved-on", &[0, 0, 1, 2], &[0, 1, 2], &[1, 2, 3]);
@@ -323,4 +340,80 @@ fn reports(sheets: &mut Sheets) {
     sheets.tree("report-line-256-up-to-root-255", &line(255), &first, &last);
     sheets.tree("report-line-256-by-root-128", &line(128), &first, &last);
     sheets.tree("report-line-256-no-move", &line(128), &first, &first);
+}
+
+/// Yards in which the neediest child is not the lowest-numbered one of its sign (request 2.6).
+fn neediest(sheets: &mut Sheets) {
+    sheets.choice("example", &tree(&[0, 0, 0, 2, 0, 4, 5], &[1, 2, 3], &[4, 5, 6]), &[[2, 0], [0, 4], [1, 0]]);
+    // Node 1 lacks or has one pebble, node 2 two.
+    let parents = [0, 0, 0, 2, 0, 0];
+    sheets.choice("balance-injects", &tree(&parents, &[0, 4, 5], &[1, 2, 3]), &[[0, 2], [4, 0], [0, 1]]);
+    sheets.choice("balance-extracts", &tree(&parents, &[1, 2, 3], &[0, 4, 5]), &[[2, 0], [0, 4], [1, 0]]);
+    // The same below node 1, which is cleared first, or drawn into.
+    let parents = [0, 0, 1, 1, 3, 0];
+    sheets.choice("clearing", &tree(&parents, &[0, 1, 5], &[2, 3, 4]), &[[1, 3], [0, 1]]);
+    sheets.choice("drawing", &tree(&parents, &[2, 3, 4], &[0, 1, 5]), &[[3, 1], [1, 0]]);
+    let parents = [0, 0, 1, 1, 3, 3, 5, 0];
+    sheets.choice("clearing-goes-down-two-steps", &tree(&parents, &[0, 1, 3, 7], &[2, 4, 5, 6]), &[[3, 5], [1, 3], [0, 1]]);
+    sheets.choice("drawing-goes-down-two-steps", &tree(&parents, &[2, 4, 5, 6], &[0, 1, 3, 7]), &[[5, 3], [3, 1], [1, 0]]);
+
+    // Nodes 2 and 3 are equal, before them is one of less need; when both have been served, it is the lowest of three equal ones.
+    let parents = [0, 0, 0, 0, 2, 3, 0, 0, 0, 0];
+    let (inner, outer) = ([1, 2, 3, 4, 5], [0, 6, 7, 8, 9]);
+    let down = [[0, 2], [6, 0], [0, 3], [7, 0], [0, 1], [8, 0], [2, 4], [0, 2], [9, 0], [3, 5], [0, 3]];
+    let up = [[2, 0], [0, 6], [3, 0], [0, 7], [1, 0], [0, 8], [4, 2], [2, 0], [0, 9], [5, 3], [3, 0]];
+    sheets.choice("equal-ones-behind-a-lesser-inject", &tree(&parents, &outer, &inner), &down);
+    sheets.choice("equal-ones-behind-a-lesser-extract", &tree(&parents, &inner, &outer), &up);
+    // With all numbers turned round, 6 and 7 are the equal ones and 8 the lesser.
+    let reversed = |yard: &Yard| {
+        let turned = |list: &[u8]| -> Vec<u8> { list.iter().rev().copied().collect() };
+        let parents = yard.parents.iter().rev().map(|parent| yard.nodes() as u8 - 1 - parent).collect();
+        Yard { parents, pebbles: turned(&yard.pebbles), targets: turned(&yard.targets) }
+    };
+    let down = [[9, 6], [0, 9], [9, 7], [1, 9], [6, 4], [9, 6], [2, 9], [7, 5], [9, 7], [3, 9], [9, 8]];
+    sheets.choice("equal-ones-root-last", &reversed(&tree(&parents, &outer, &inner)), &down);
+
+    // Two with two each take turns.
+    let parents = [0, 0, 0, 1, 2, 0, 0, 0];
+    let (inner, outer) = ([1, 2, 3, 4], [0, 5, 6, 7]);
+    let down = [[0, 1], [5, 0], [0, 2], [6, 0], [1, 3], [0, 1], [7, 0], [2, 4], [0, 2]];
+    let up = [[1, 0], [0, 5], [2, 0], [0, 6], [3, 1], [1, 0], [0, 7], [4, 2], [2, 0]];
+    sheets.choice("two-take-turns-inject", &tree(&parents, &outer, &inner), &down);
+    sheets.choice("two-take-turns-extract", &tree(&parents, &inner, &outer), &up);
+    // Three, one and two: node 1 becomes equal to 3, then both to 2.
+    let parents = [0, 0, 0, 0, 1, 4, 3, 0, 0, 0, 0, 0];
+    let (inner, outer) = ([1, 2, 3, 4, 5, 6], [0, 7, 8, 9, 10, 11]);
+    let down = [[0, 1], [7, 0], [1, 4], [0, 1], [8, 0], [0, 3], [9, 0], [4, 5], [1, 4], [0, 1], [10, 0], [0, 2], [11, 0], [3, 6], [0, 3]];
+    let up = [[1, 0], [0, 7], [4, 1], [1, 0], [0, 8], [3, 0], [0, 9], [5, 4], [4, 1], [1, 0], [0, 10], [2, 0], [0, 11], [6, 3], [3, 0]];
+    sheets.choice("one-becomes-equal-inject", &tree(&parents, &outer, &inner), &down);
+    sheets.choice("one-becomes-equal-extract", &tree(&parents, &inner, &outer), &up);
+
+    // A child of the other sign is farther from 0 than any; the sign decides first.
+    let parents = [0, 0, 0, 0, 1, 4, 3];
+    sheets.choice("of-the-sign-wanted-inject", &tree(&parents, &[0, 1, 4, 5], &[0, 2, 3, 6]), &[[0, 3], [1, 0], [0, 2]]);
+    sheets.choice("of-the-sign-wanted-extract", &tree(&parents, &[2, 3, 6], &[1, 4, 5]), &[[3, 0], [0, 1], [2, 0]]);
+    // Node 1 has more targets below it, and more pebbles, but lacks less.
+    let parents = [0, 0, 0, 1, 3, 2, 0, 0];
+    sheets.choice("by-demand-not-by-targets", &tree(&parents, &[0, 3, 4, 6, 7], &[1, 2, 3, 4, 5]), &[[0, 2], [6, 0], [0, 1]]);
+    // The children are balanced in rising number all the same: 1 before 2, which was served first.
+    let parents = [0, 0, 0, 2, 0, 0, 1, 1, 2, 2];
+    let moves = [[2, 0], [0, 4], [1, 0], [0, 5], [3, 2], [2, 0], [6, 1], [1, 7], [8, 2], [2, 9]];
+    sheets.choice("children-still-in-rising-number", &tree(&parents, &[1, 2, 3, 6, 8], &[0, 4, 5, 7, 9]), &moves);
+
+    // Chains of 1 to 15 nodes from the root, each length once held and once wanted.
+    let mut parents = vec![0u8];
+    for length in (1..=15).chain(1..=15) {
+        let begin = parents.len() as u8;
+        parents.push(0);
+        parents.extend(begin..begin + length - 1);
+    }
+    let (held, wanted): (Vec<usize>, Vec<usize>) = (1..parents.len()).partition(|&node| node <= 120);
+    sheets.choice("chains-241-from-first-to-last", &tree(&parents, &held, &wanted), &[[106, 0], [0, 226]]);
+    sheets.choice("chains-241-from-last-to-first", &tree(&parents, &wanted, &held), &[[226, 0], [0, 106]]);
+
+    // Of a hundred random trees the one with most moves that the choice alters.
+    let mut random = Random::new(104);
+    let yards = (0..100).map(|_| shapes::yard(Shape::Random, MAX_NODES, &mut random));
+    let most = yards.max_by_key(differing).expect("a hundred");
+    sheets.choice(&format!("random-{MAX_NODES}"), &most, &[]);
 }

@@ -2,7 +2,7 @@
 -- planner use no more of it. Both rules are sound. Of `neediestChild` moreover: no child needs more, and one that needs as much has no lower number,
 -- which determines it.
 use mathlib.Core.Path.{_≡_, refl, sym, _∙_, subst}
-use mathlib.Core.Logic.{_⊎_, inl, inr}
+use mathlib.Core.Logic.{_≢_, _⊎_, inl, inr}
 use mathlib.Core.Bool.{Bool, true, false, cond, _&&_, and-eq-true-iff, false≢true}
 use mathlib.Core.List.{List, [], _∷_, _++_, append-nil, nil≢cons}
 use Prim.Native.Nat.{ℕ, zero, suc, _*_, _≤_, _<_}
@@ -80,15 +80,15 @@ lowest-sound need y u c k = go (needy need y u) refl (all-needy need y u)
     go [] e a = absurd (nil-needy need y u e c k)
     go (v ∷ l) e a = a .0
 
--- of the numbers below n that pass a test, r is the one with the greatest need, and the lowestChild of those
-pub record Best (need : ℕ → ℕ) (p : ℕ → Bool) (n r : ℕ) : Type 0 where
+-- of the numbers below n that pass a test, r is the one with the greatest need, and the lowest of those
+record Best (need : ℕ → ℕ) (p : ℕ → Bool) (n r : ℕ) : Type 0 where
   pub lt : r < n
   pub passes : p r ≡ true
   pub most : (v : ℕ) → v < n → p v ≡ true → need v ≤ need r
   pub first : (v : ℕ) → v < r → p v ≡ true → need v < need r
 
 module _ {need : ℕ → ℕ} {p : ℕ → Bool} {n : ℕ} where
-  pub best-same : {r s : ℕ} → Best need p n r → Best need p n s → r ≡ s
+  best-same : {r s : ℕ} → Best need p n r → Best need p n s → r ≡ s
   best-same {r} {s} a b = go (decLt r s) (decLt s r)
     where
       go : Dec (r < s) → Dec (s < r) → r ≡ s
@@ -97,7 +97,7 @@ module _ {need : ℕ → ℕ} {p : ℕ → Bool} {n : ℕ} where
       go (no k) (no l) = omega arith
 
   -- a scan in rising number: the first that passes; a later one takes the place of the best so far only if it needs more
-  pub best-first : ((v : ℕ) → v < n → p v ≡ false) → p n ≡ true → Best need p (suc n) n
+  best-first : ((v : ℕ) → v < n → p v ≡ false) → p n ≡ true → Best need p (suc n) n
   best-first h e = record {
     lt = omega arith;
     passes = e;
@@ -109,14 +109,14 @@ module _ {need : ℕ → ℕ} {p : ℕ → Bool} {n : ℕ} where
       go (yes q) d l = rw q (omega arith)
       go (no q) d l = absurd (d (omega arith))
 
-  pub best-over : {r : ℕ} → Best need p n r → p n ≡ true → need r < need n → Best need p (suc n) n
+  best-over : {r : ℕ} → Best need p n r → p n ≡ true → need r < need n → Best need p (suc n) n
   best-over {r} b e m = record { lt = omega arith; passes = e; most = λ v l q. go v (ℕ-discrete v n) l q; first = λ v l q. omega (arith, b .most v l q) }
     where
       go : (v : ℕ) → Dec (v ≡ n) → v < suc n → p v ≡ true → need v ≤ need n
       go v (yes x) l q = rw x (omega arith)
       go v (no x) l q = omega (arith, b .most v (omega arith) q)
 
-  pub best-stays : {r : ℕ} → Best need p n r → (p n ≡ true → need n ≤ need r) → Best need p (suc n) r
+  best-stays : {r : ℕ} → Best need p n r → (p n ≡ true → need n ≤ need r) → Best need p (suc n) r
   best-stays {r} b h = record { lt = omega (arith, b .lt); passes = b .passes; most = λ v l q. go v (ℕ-discrete v n) l q; first = b .first }
     where
       go : (v : ℕ) → Dec (v ≡ n) → v < suc n → p v ≡ true → need v ≤ need r
@@ -145,26 +145,78 @@ module _ (need : ℕ → ℕ) (u : ℕ) (p : ℕ → Bool) where
           at true l b = best-over b e (ltb-true _ _ l)
           at false l b = best-stays b (λ _. ltb-false _ _ l)
 
+-- r is the child that `neediestChild` chooses: no child needs more, and those with a lower number need less
+pub record Neediest (need : ℕ → ℕ) (y : Yard) (u r : ℕ) : Type 0 where
+  pub needy : Needy need y u r
+  pub most : (v : ℕ) → Child (y .parents) u v → need v ≤ need r
+  pub first : (v : ℕ) → Child (y .parents) u v → v < r → need v < need r
+
 module _ (need : ℕ → ℕ) (y : Yard) (u : ℕ) where
-  pub neediest-none : ((v : ℕ) → v < size y → wanted need y u v ≡ false) → neediestChild need y u ≡ u
-  unfolding neediestChild needy
-  neediest-none h = rw (none-below (size y) (wanted need y u) h, neediestChild)
+  abbrev p : ℕ → Bool
+  p = wanted need y u
 
-  -- no child needs more, and those with a lower number need less; whatever is so is the choice
-  pub neediest-best : (c : ℕ) → Needy need y u c → Best need (wanted need y u) (size y) (neediestChild need y u)
-  unfolding neediestChild needy
-  neediest-best c k = go (best-below need u (wanted need y u) (size y))
+  -- a child that needs nothing needs no more than one that needs something
+  less : {r v : ℕ} → Child (y .parents) u v → (p v ≡ true → need v ≤ need r) → need v ≤ need r
+  less {r} {v} k h = go (decLt 0 (need v))
     where
-      go : (below (size y) (wanted need y u) ≡ []) ⊎ Best need (wanted need y u) (size y) (chosen need u (wanted need y u) (below (size y) (wanted need y u))) → Best need (wanted need y u) (size y) (chosen need u (wanted need y u) (below (size y) (wanted need y u)))
-      go (inl e) = absurd (false≢true (sym (below-none (size y) (wanted need y u) e c (k .0 .lt)) ∙ needy-wanted need y u c k))
-      go (inr b) = b
+      go : Dec (0 < need v) → need v ≤ need r
+      go (yes n) = h (needy-wanted need y u v (k, n))
+      go (no n) = omega arith
 
-  pub neediest-is : (r : ℕ) → Best need (wanted need y u) (size y) r → r ≡ neediestChild need y u
-  neediest-is r b = best-same b (neediest-best r (wanted-needy need y u r (b .lt) (b .passes)))
+  lesser : {r v : ℕ} → Child (y .parents) u v → 0 < need r → (p v ≡ true → need v < need r) → need v < need r
+  lesser {r} {v} k m h = go (decLt 0 (need v))
+    where
+      go : Dec (0 < need v) → need v < need r
+      go (yes n) = h (needy-wanted need y u v (k, n))
+      go (no n) = omega arith
+
+  best-neediest : {r : ℕ} → Best need p (size y) r → Neediest need y u r
+  best-neediest {r} b =
+      let n = wanted-needy need y u r (b .lt) (b .passes) in
+      record { needy = n; most = λ v k. less {r = r} {v = v} k (b .most v (k .lt)); first = λ v k l. lesser {r = r} {v = v} k (n .1) (b .first v l) }
+
+  neediest-best : {r : ℕ} → Neediest need y u r → Best need p (size y) r
+  neediest-best {r} n = record {
+    lt = n .needy .0 .lt;
+    passes = needy-wanted need y u r (n .needy);
+    most = λ v l q. n .most v (wanted-needy need y u v l q .0);
+    first = λ v l q. n .first v (wanted-needy need y u v (omega (arith, n .needy .0 .lt)) q .0) l;
+  }
+
+  none-or-best : (needy need y u ≡ []) ⊎ Best need p (size y) (neediestChild need y u)
+  unfolding neediestChild needy
+  none-or-best = best-below need u p (size y)
+
+  pub neediest-none : ((v : ℕ) → Child (y .parents) u v → need v ≡ 0) → u ≡ neediestChild need y u
+  unfolding neediestChild
+  neediest-none h = go (needy need y u) (all-needy need y u)
+    where
+      go : (l : List ℕ) → All (Needy need y u) l → u ≡ chosen need u p l
+      go [] a = refl
+      go (v ∷ l) a = absurd (omega (arith, h v (a .0 .0), a .0 .1))
+
+  pub neediest-some : (c : ℕ) → Needy need y u c → Neediest need y u (neediestChild need y u)
+  neediest-some c k = go none-or-best
+    where
+      go : (needy need y u ≡ []) ⊎ Best need p (size y) (neediestChild need y u) → Neediest need y u (neediestChild need y u)
+      go (inl e) = absurd (nil-needy need y u e c k)
+      go (inr b) = best-neediest b
+
+  -- what is not u itself is so
+  pub neediest-other : neediestChild need y u ≢ u → Neediest need y u (neediestChild need y u)
+  neediest-other d = go none-or-best
+    where
+      go : (needy need y u ≡ []) ⊎ Best need p (size y) (neediestChild need y u) → Neediest need y u (neediestChild need y u)
+      go (inl e) = absurd (d (sym (neediest-none (none-needy need y u e))))
+      go (inr b) = best-neediest b
+
+  -- and whatever is so is the choice
+  pub neediest-is : {r : ℕ} → Neediest need y u r → r ≡ neediestChild need y u
+  neediest-is n = best-same (neediest-best n) (neediest-best (neediest-some _ (n .needy)))
 
 pub neediest-sound : Sound neediestChild
-neediest-sound need y u c k = let b = neediest-best need y u c k in wanted-needy need y u (neediestChild need y u) (b .lt) (b .passes)
+neediest-sound need y u c k = neediest-some need y u c k .needy
 
 pub choice-sound : Sound choice
 unfolding choice
-choice-sound = lowest-sound
+choice-sound = neediest-sound

@@ -16,7 +16,7 @@ use Rattle.model.specs.Plan.{Rule, inject, extract}
 use Rattle.model.proofs.Trees.{Child, parent-outside, child-off-root, outside-child, outside-other}
 use Rattle.model.proofs.Judged.{facts, wood}
 use Rattle.model.proofs.Demands.{overChildren, weight, weight-child, weight-pos, parts-children}
-use Rattle.model.proofs.Step.{crossing, need, Step, legal-step, moved-pebble, pebblesIn-other}
+use Rattle.model.proofs.Step.{crossing, need, Step, legal-step, moved-pebble, pebblesIn-node, pebblesIn-other}
 use Rattle.model.proofs.Runs.{after-append, run-one}
 use Rattle.model.proofs.Shortest.{Good, good-append, good-tree, good-one}
 use Rattle.model.proofs.Choice.{Sound, some-needy}
@@ -42,13 +42,15 @@ chosen-due rule sound y t b u a h =
     let q = sound (need y b) y u (c .0) (c .1) in
     (q .0, record { lt = q .0 .lt; off-root = child-off-root (wood y t) u (rule (need y b) y u) (q .0); ready = rw (q .0 .up) a; needs = q .1 })
 
--- a pebble goes over the edge of v: the parent of v has one less, or one more, and all else outside the subtree of v stays
+-- a pebble goes over the edge of v: the subtree of v has one more, or one less, the parent of v one less, or one more, and all else outside the subtree
+-- stays
 pub record Shift (y : Yard) (away : Bool) (v : ℕ) (ms : List Move) : Type 0 where
   pub good : Good y ms
   pub some : 0 < length ms
   pub outer : (w : ℕ) → w < size y → inside (y .parents) v w ≡ false
       → pebble (run y ms) w + one (away && (eqb w (parent y v))) ≡ pebble y w + one ((not away) && (eqb w (parent y v)))
   pub beyond : (w : ℕ) → w < size y → inside (y .parents) v w ≡ false → pebblesIn (run y ms) w ≡ pebblesIn y w
+  pub within : pebblesIn (run y ms) v + one (not away) ≡ pebblesIn y v + one away
 
 -- the push that is due over the edge of v is legal, where v can take the pebble, or give it
 unfoldable pub due-step : (y : Yard) → Tree y → (b : Bool) (v : ℕ) → Due y b v → Able y (not b) v → Step y (crossing (y .parents) b v)
@@ -69,6 +71,7 @@ shift-one y t b v u a = record {
   some = omega arith;
   outer = λ w l i. rw z (side b w (outside-other (wood y t) v w i) (moved-pebble y m s w));
   beyond = λ w l i. rw z (pebblesIn-other y m s w (outside-other (wood y t) v w i));
+  within = rw z (pebblesIn-node y m s);
 }
   where
     m : Move
@@ -121,6 +124,7 @@ module _ (y : Yard) (t : Tree y) (b : Bool) (v c : ℕ) (ms : List Move) (u : Du
     some = rw (length-append ms (crossing (y .parents) b v ∷ [])) (omega arith);
     outer = λ w l i. rw (after-append ms (crossing (y .parents) b v ∷ []) y) (omega (arith, q .outer w l i, stays w l i));
     beyond = λ w l i. rw (after-append ms (crossing (y .parents) b v ∷ []) y) (q .beyond w l i ∙ p .beyond w l (outside-child (wood y t) v c w k l i));
+    within = rw (after-append ms (crossing (y .parents) b v ∷ []) y) (omega (arith, q .within, p .beyond v (u .lt) v-outside));
   }
     where
       q : Shift (run y ms) b v (crossing (y .parents) b v ∷ [])

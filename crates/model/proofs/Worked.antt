@@ -31,8 +31,8 @@ data Input : Type 0 where
   -- the plan, and its first move alone
   planOf : Yard → Input
   openingOf : Yard → Input
-  -- the same with the neediest child first
-  neediestOpeningOf : Yard → Input
+  -- the same with the lowest child first
+  lowestOpeningOf : Yard → Input
   -- the planner with a list of so many bytes, all 9
   planInto : ℕ → Yard → Input
   checkOf : List ℕ → Yard → Input
@@ -72,7 +72,7 @@ outcome (lengthOf y) = number (shortest y)
 outcome (testOf y) = refusal (judge y)
 outcome (planOf y) = moves (plan y)
 outcome (openingOf y) = moves (take 1 (plan y))
-outcome (neediestOpeningOf y) = moves (take 1 (planBy neediestChild y))
+outcome (lowestOpeningOf y) = moves (take 1 (planBy lowestChild y))
 outcome (planInto n y) = planned (planAnswer y (replicate n 9)) (planList y (replicate n 9))
 outcome (checkOf bs y) = checked (checkAnswer y bs)
 outcome (trialOf bs budget y) = tried (trialAnswer y bs budget) (trialPebbles y bs budget)
@@ -210,21 +210,19 @@ cases =
     gives console-left (1 ∷ 1 ∷ 0 ∷ 0 ∷ 0 ∷ []) (0 ∷ 0 ∷ 1 ∷ 0 ∷ 0 ∷ []) (negsuc 0 ∷ negsuc 0 ∷ pos 1 ∷ pos 0 ∷ pos 0 ∷ []))
     -- children are balanced in rising number
     ∷ (planOf (yard (0 ∷ 0 ∷ 0 ∷ 1 ∷ 1 ∷ 2 ∷ 2 ∷ []) (3 ∷ 5 ∷ []) (4 ∷ 6 ∷ [])) gives moves (push 3 1 ∷ push 1 4 ∷ push 5 2 ∷ push 2 6 ∷ []))
-    -- clearing fills the lowest child that lacks a pebble
+    -- of equals the lowest: clearing fills the lowest child, drawing draws from the lowest, and so does a turn
     ∷ (planOf (yard (0 ∷ 0 ∷ 1 ∷ 1 ∷ []) (0 ∷ 1 ∷ []) (2 ∷ 3 ∷ [])) gives moves (push 1 2 ∷ push 0 1 ∷ push 1 3 ∷ []))
-    -- drawing draws from the lowest child with one too many
     ∷ (planOf (yard (0 ∷ 0 ∷ 1 ∷ 1 ∷ []) (2 ∷ 3 ∷ []) (0 ∷ 1 ∷ [])) gives moves (push 2 1 ∷ push 1 0 ∷ push 3 1 ∷ []))
-    -- a turn fills the lowest child that lacks a pebble
     ∷ (planOf (yard (0 ∷ 0 ∷ 0 ∷ 0 ∷ []) (0 ∷ 3 ∷ []) (1 ∷ 2 ∷ [])) gives moves (push 0 1 ∷ push 3 0 ∷ push 0 2 ∷ []))
-    -- a turn draws from the lowest child with one too many, not the one with most
-    ∷ (openingOf (yard (0 ∷ 0 ∷ 0 ∷ 2 ∷ 0 ∷ 4 ∷ 5 ∷ []) (1 ∷ 2 ∷ 3 ∷ []) (4 ∷ 5 ∷ 6 ∷ [])) gives moves (push 1 0 ∷ []))
-    -- request 2.6's rule on that yard; a turn fills the child that lacks most, so does clearing, and drawing draws from the one with most too many; of two
-    -- equals behind one with less the lower
-    ∷ (neediestOpeningOf (yard (0 ∷ 0 ∷ 0 ∷ 2 ∷ 0 ∷ 4 ∷ 5 ∷ []) (1 ∷ 2 ∷ 3 ∷ []) (4 ∷ 5 ∷ 6 ∷ [])) gives moves (push 2 0 ∷ []))
-    ∷ (neediestOpeningOf (yard (0 ∷ 0 ∷ 0 ∷ 2 ∷ 0 ∷ 4 ∷ []) (0 ∷ 4 ∷ 5 ∷ []) (1 ∷ 2 ∷ 3 ∷ [])) gives moves (push 0 2 ∷ []))
-    ∷ (neediestOpeningOf (yard (0 ∷ 0 ∷ 1 ∷ 1 ∷ 3 ∷ 0 ∷ []) (0 ∷ 1 ∷ 5 ∷ []) (2 ∷ 3 ∷ 4 ∷ [])) gives moves (push 1 3 ∷ []))
-    ∷ (neediestOpeningOf (yard (0 ∷ 0 ∷ 1 ∷ 1 ∷ 3 ∷ 0 ∷ []) (2 ∷ 3 ∷ 4 ∷ []) (0 ∷ 1 ∷ 5 ∷ [])) gives moves (push 3 1 ∷ []))
-    ∷ (neediestOpeningOf (yard (0 ∷ 0 ∷ 0 ∷ 2 ∷ 0 ∷ 4 ∷ 0 ∷ 6 ∷ 7 ∷ 8 ∷ []) (1 ∷ 2 ∷ 3 ∷ 4 ∷ 5 ∷ []) (0 ∷ 6 ∷ 7 ∷ 8 ∷ 9 ∷ [])) gives moves (push 2 0 ∷ []))
+    -- a turn draws from the child with most too many (request 2.6's example), and fills the one that lacks most; the next turns meet two equals
+    ∷ (planOf (yard (0 ∷ 0 ∷ 0 ∷ 2 ∷ 0 ∷ 4 ∷ 5 ∷ []) (1 ∷ 2 ∷ 3 ∷ []) (4 ∷ 5 ∷ 6 ∷ [])) gives moves (push 2 0 ∷ push 0 4 ∷ push 1 0 ∷ push 4 5 ∷ push 0 4 ∷ push 3 2 ∷ push 2 0 ∷ push 5 6 ∷ push 4 5 ∷ push 0 4 ∷ []))
+    ∷ (planOf (yard (0 ∷ 0 ∷ 0 ∷ 2 ∷ 0 ∷ 4 ∷ 5 ∷ []) (4 ∷ 5 ∷ 6 ∷ []) (1 ∷ 2 ∷ 3 ∷ [])) gives moves (push 4 0 ∷ push 0 2 ∷ push 5 4 ∷ push 4 0 ∷ push 0 1 ∷ push 6 5 ∷ push 5 4 ∷ push 4 0 ∷ push 2 3 ∷ push 0 2 ∷ []))
+    -- clearing fills the child that lacks most, drawing draws from the one with most too many; of two equals behind one with less the lower
+    ∷ (openingOf (yard (0 ∷ 0 ∷ 1 ∷ 1 ∷ 3 ∷ 0 ∷ []) (0 ∷ 1 ∷ 5 ∷ []) (2 ∷ 3 ∷ 4 ∷ [])) gives moves (push 1 3 ∷ []))
+    ∷ (openingOf (yard (0 ∷ 0 ∷ 1 ∷ 1 ∷ 3 ∷ 0 ∷ []) (2 ∷ 3 ∷ 4 ∷ []) (0 ∷ 1 ∷ 5 ∷ [])) gives moves (push 3 1 ∷ []))
+    ∷ (openingOf (yard (0 ∷ 0 ∷ 0 ∷ 2 ∷ 0 ∷ 4 ∷ 0 ∷ 6 ∷ 7 ∷ 8 ∷ []) (1 ∷ 2 ∷ 3 ∷ 4 ∷ 5 ∷ []) (0 ∷ 6 ∷ 7 ∷ 8 ∷ 9 ∷ [])) gives moves (push 2 0 ∷ []))
+    -- by the earlier rule, the lowest child
+    ∷ (lowestOpeningOf (yard (0 ∷ 0 ∷ 0 ∷ 2 ∷ 0 ∷ 4 ∷ 5 ∷ []) (1 ∷ 2 ∷ 3 ∷ []) (4 ∷ 5 ∷ 6 ∷ [])) gives moves (push 1 0 ∷ []))
     -- the root is not 0, and parents have higher numbers than their children
     ∷ (planOf (yard (3 ∷ 3 ∷ 3 ∷ 4 ∷ 4 ∷ []) (0 ∷ 1 ∷ []) (2 ∷ 4 ∷ [])) gives moves (push 0 3 ∷ push 3 4 ∷ push 1 3 ∷ push 3 2 ∷ []))
     -- pebbles 0 and 1 start at node 1, pebble 2 at node 2

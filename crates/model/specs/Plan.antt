@@ -1,4 +1,4 @@
--- The plan of the source's Algorithms 1 to 4, with document 01's choices ('The planner'). Each step reads the yard as it then is, so demands
+-- The plan of the source's Algorithms 1 to 4, with the choices of document 01 ('The planner') and request 2.6. Each step reads the yard as it then is, so demands
 -- follow every move (Algorithm 4). The numbers k, t and d bound the depth of calls, the turns of a loop and the depth of the tree: on a tree
 -- with as many pebbles as targets `enough` never runs out, and a larger one changes nothing (`planBy-within`).
 use mathlib.Core.Bool.{true, false, cond, _&&_}
@@ -16,7 +16,7 @@ needy need y u = below (size y) (λ v. (isChild (y .parents) u v) && (ltb 0 (nee
 abbrev pub Rule : Type 0
 Rule = (ℕ → ℕ) → Yard → ℕ → ℕ
 
--- document 01's rule: the lowest-numbered child that needs something
+-- the rule of document 01, before request 2.6: the lowest-numbered child that needs something
 unfoldable pub lowestChild : Rule
 lowestChild need y u = headOr u (needy need y u)
 
@@ -31,7 +31,7 @@ neediestChild need y u = elim (needy need y u) [ [] ↦ u | (v ∷ vs) ↦ great
 
 -- the rule of the planner
 unfoldable pub choice : Rule
-choice = lowestChild
+choice = neediestChild
 
 -- f at each of some nodes, one after another, each in the yard that the one before leaves
 unfoldable pub each : (Yard → ℕ → List Move) → Yard → List ℕ → List Move

@@ -1,34 +1,33 @@
 -- The loop at u: the child that is chosen is u itself exactly if all children have a demand of 0, because u has; else a pebble is due over the edge
 -- of the chosen one.
-use mathlib.Core.Path.{_≡_, refl, sym}
+use mathlib.Core.Path.{_≡_, refl, sym, _∙_}
 use mathlib.Core.Logic.{_≢_}
 use mathlib.Core.Bool.{Bool, true, false, not, cond}
 use mathlib.Core.List.{List, [], _∷_, _++_}
 use Prim.Native.Nat.{ℕ, zero, suc, _+_, _≤_, _<_}
 use native.Mathlib.Omega.{arith}
-use lib.ListN.{length, getD}
+use lib.ListN.{getD}
 use lib.Dec.{ltb, eqb}
 use lib.IntN.{ℤ, pos}
 use mir.Syntax.{w16}
 use mir.Val.{ofZ}
-use Rattle.model.specs.Yard.{Yard, size, pebble, held, headOr, imbalance}
+use Rattle.model.specs.Yard.{Yard, size, one, inside, pebble, pebblesIn, held, imbalance}
 use Rattle.model.specs.Judge.{Tree}
 use Rattle.model.specs.Push.{Move, after, run}
-use Rattle.model.specs.Plan.{needy, lowestChild, choice}
-use Rattle.model.proofs.Basics.{All}
-use Rattle.model.proofs.Trees.{Child}
+use Rattle.model.specs.Plan.{needy, choice}
+use Rattle.model.proofs.Trees.{Child, outside-sibling}
 use Rattle.model.proofs.Judged.{facts, wood}
 use Rattle.model.proofs.Demands.{weight-child}
 use Rattle.model.proofs.Step.{need}
 use Rattle.model.proofs.Runs.{after-append}
 use Rattle.model.proofs.Shortest.{Good, keeps}
-use Rattle.model.proofs.Choice.{all-needy, none-needy, choice-sound}
-use Rattle.model.proofs.Serve.{Due, Serves, serves-shift}
+use Rattle.model.proofs.Choice.{none-needy, Neediest, neediest-other, choice-sound}
+use Rattle.model.proofs.Serve.{Due, Shift, Serves, serves-shift}
 use Rattle.model.proofs.Balance.{Settles, settled, turned, turn-due, first-needy}
-use Rattle.serve.specs.Serving.{Describes, LookFrom, AskedChoice, AskedStart, Start, AskedMoves, Made, Served}
+use Rattle.serve.specs.Serving.{Describes, LastServed, AskedChoice, AskedStart, Start, AskedMoves, Made, Served}
 use Rattle.planner.specs.Balancing.{AskedEven}
 use Rattle.serve.proofs.Serving.{mark-is}
-use Rattle.serve.proofs.Looking.{from-first, from-chosen, from-after}
+use Rattle.serve.proofs.Looking.{last-chosen, last-after}
 use Rattle.serve.proofs.Stretches.{rest, back, describes-after, room-left, Begun, begin, go-on}
 
 -- whether u holds a pebble, as the code reads it
@@ -84,13 +83,13 @@ module _ {y : Yard} {t : List ℕ} {s : List ℤ} {plan : List ℕ} {u h c : ℕ
           absurd (omega (arith, a .even, some-need y b u (rw f at (due-chosen v (n .0) (n .1) .needs))))
 
   module _ (d : c ≢ u) where
+    -- no child needs more
+    pub chosen-neediest : Neediest (need y b) y u c
+    unfolding choice
+    chosen-neediest = rw (r .chosen) (neediest-other (need y b) y u (λ e. d (r .chosen ∙ e)))
+
     chosen-needs : Child (y .parents) u c × (0 < need y b c)
-    unfolding choice lowestChild
-    chosen-needs = go (needy (need y b) y u) (all-needy (need y b) y u) (r .chosen)
-      where
-        go : (l : List ℕ) → All (λ v. Child (y .parents) u v × (0 < need y b v)) l → c ≡ headOr u l → Child (y .parents) u c × (0 < need y b c)
-        go [] n f = absurd (d f)
-        go (v ∷ l) n f = rw f (n .0)
+    chosen-needs = chosen-neediest .needy
 
     due : Due y b c
     due = due-chosen c (chosen-needs .0) (some-need y b c (chosen-needs .1))
@@ -106,8 +105,8 @@ module _ {y : Yard} {t : List ℕ} {s : List ℤ} {plan : List ℕ} {u h c : ℕ
     turn-moves f = record { described = a .described; due = due; start = f; room = a .room }
 
     module _ {ms : List Move} (v : Serves choice y b c ms) where
-      turn-good : Good y ms × (0 < length ms)
-      turn-good = let w = serves-shift choice choice-sound y (a .described .tree) v due in (w .good, w .some)
+      pub shift : Shift y b c ms
+      shift = serves-shift choice choice-sound y (a .described .tree) v due
 
       turn-settles : (ns : List Move) → Settles choice (run y ms) u ns → Settles choice y u (ms ++ ns)
       turn-settles ns f = go (needy (imbalance y) y u) refl
@@ -116,35 +115,61 @@ module _ {y : Yard} {t : List ℕ} {s : List ℤ} {plan : List ℕ} {u h c : ℕ
           go [] p = absurd (omega (arith, some-need y b c (chosen-needs .1), none-needy (imbalance y) y u p c (chosen-needs .0)))
           go (w ∷ l) p = turned p (rw (r .chosen, read-held (a .described) (a .node)) at v) f
 
--- where looking goes on in the loop: for a child to fill, at the one filled last, and for one to draw from, at the one drawn from last
-pub record LooksFrom (y : Yard) (u injected extracted : ℕ) : Type 0 where
-  pub to-inject : LookFrom true y u injected
-  pub to-extract : LookFrom false y u extracted
+-- the children that were served last in the loop: the one filled, and the one drawn from, or u itself before there is one
+pub record LastOf (b : Bool) (y : Yard) (u c : ℕ) : Type 0 where
+  pub lt : c < size y
+  pub served : c ≢ u → LastServed b y u c
 
-look-for : {y : Yard} {u injected extracted : ℕ} (b : Bool) → LooksFrom y u injected extracted → LookFrom b y u (cond b injected extracted)
-look-for true h = h .to-inject
-look-for false h = h .to-extract
+pub record Lasts (y : Yard) (u injected extracted : ℕ) : Type 0 where
+  pub to-inject : LastOf true y u injected
+  pub to-extract : LastOf false y u extracted
+
+last-for : {y : Yard} {u injected extracted : ℕ} (b : Bool) → Lasts y u injected extracted → LastOf b y u (cond b injected extracted)
+last-for true h = h .to-inject
+last-for false h = h .to-extract
 
 pub choice-asked : {y : Yard} {t : List ℕ} {s : List ℤ} {plan : List ℕ} {u h injected extracted : ℕ} (b : Bool)
-    → AskedEven y t s plan u h → LooksFrom y u injected extracted → AskedChoice b y t s u (cond b injected extracted)
-choice-asked b a f = record { described = a .described; node = a .node; from = look-for b f }
+    → AskedEven y t s plan u h → Lasts y u injected extracted → AskedChoice b y t s u (cond b injected extracted)
+choice-asked b a f = record { described = a .described; node = a .node; last-lt = last-for b f .lt; last = last-for b f .served }
 
--- after a turn it is the child that was chosen, for its sign
-looks-next : {y : Yard} {ms : List Move} {u c injected extracted injected′ extracted′ : ℕ} (b : Bool) → LooksFrom y u injected extracted → Tree y → Good y ms
-    → c ≡ choice (need y b) y u → c ≢ u → injected′ ≡ cond b c injected → extracted′ ≡ cond b extracted c → LooksFrom (run y ms) u injected′ extracted′
-looks-next true h w g q d e f = rw (e, f) record { to-inject = from-after w g (from-chosen q d); to-extract = from-after w g (h .to-extract) }
-looks-next false h w g q d e f = rw (e, f) record { to-inject = from-after w g (h .to-inject); to-extract = from-after w g (from-chosen q d) }
+-- a turn serves the child c for its sign, and leaves what the other children need
+module _ {y : Yard} {ms : List Move} {u c : ℕ} {b : Bool} (w : Tree y) (n : Neediest (need y b) y u c) (h : Shift y b c ms) where
+  turned-last : LastOf b (run y ms) u c
+  turned-last = record { lt = n .needy .0 .lt; served = λ _. last-chosen w (h .good) n (falls b (h .within)) }
+    where
+      falls : (b : Bool) → pebblesIn (run y ms) c + one (not b) ≡ pebblesIn y c + one b → need y b c ≤ need (run y ms) b c + 1
+      falls true e = omega arith
+      falls false e = omega arith
+
+  other-last : {v : ℕ} → LastOf (not b) y u v → LastOf (not b) (run y ms) u v
+  other-last {v} l = record { lt = l .lt; served = λ d. last-after w (h .good) (l .served d) (same (not b) (h .beyond v (l .lt) (apart (l .served d)))) }
+    where
+      back-side : (b : Bool) → need y (not (not b)) v ≡ 0 → need y b v ≡ 0
+      back-side true e = e
+      back-side false e = e
+
+      apart : LastServed (not b) y u v → inside (y .parents) c v ≡ false
+      apart s = outside-sibling (wood y w) u c v (n .needy .0) (s .child) (λ e. absurd (omega (arith, n .needy .1, rw e at (back-side b (s .side)))))
+
+      same : (b : Bool) → pebblesIn (run y ms) v ≡ pebblesIn y v → need y b v ≤ need (run y ms) b v
+      same true e = omega arith
+      same false e = omega arith
+
+lasts-next : {y : Yard} {ms : List Move} {u c injected extracted injected′ extracted′ : ℕ} (b : Bool) → Lasts y u injected extracted → Tree y
+    → Neediest (need y b) y u c → Shift y b c ms → injected′ ≡ cond b c injected → extracted′ ≡ cond b extracted c → Lasts (run y ms) u injected′ extracted′
+lasts-next true h w n g e f = rw (e, f) record { to-inject = turned-last w n g; to-extract = other-last w n g (h .to-extract) }
+lasts-next false h w n g e f = rw (e, f) record { to-inject = other-last w n g (h .to-inject); to-extract = turned-last w n g }
 
 -- some turns were made, and one more, of one move at least
 pub record Turned (y : Yard) (u : ℕ) (s : List ℤ) (before plan : List ℕ) (k injected extracted : ℕ) : Type 0 where
   pub begun : Begun y s before plan k (Settles choice y u) (λ z. Settles choice z u)
-  pub looks : LooksFrom (run y (begun .moves)) u injected extracted
+  pub lasts : Lasts (run y (begun .moves)) u injected extracted
 
-pub turn-none : {y : Yard} {t : List ℕ} {s : List ℤ} {plan : List ℕ} {u c h : ℕ} → AskedEven y t s plan u h → c ≡ getD t (256 + u) 0 → Turned y u s plan plan 0 c c
+pub turn-none : {y : Yard} {t : List ℕ} {s : List ℤ} {plan : List ℕ} {u h : ℕ} → AskedEven y t s plan u h → Turned y u s plan plan 0 u u
 unfolding begin after
-turn-none {u = u} a e = record {
+turn-none {u = u} a = record {
   begun = begin {Ahead = λ z. Settles choice z u} (a .described .kept);
-  looks = record { to-inject = from-first (a .described) (a .node) e; to-extract = from-first (a .described) (a .node) e };
+  lasts = record { to-inject = record { lt = a .node; served = λ d. absurd (d refl) }; to-extract = record { lt = a .node; served = λ d. absurd (d refl) } };
 }
 
 pub turn-more : {y : Yard} {t : List ℕ} {u h c : ℕ} {s s′ : List ℤ} {before plan part : List ℕ} {k m injected extracted injected′ extracted′ : ℕ}
@@ -153,10 +178,10 @@ pub turn-more : {y : Yard} {t : List ℕ} {u h c : ℕ} {s s′ : List ℤ} {bef
     → Turned y u s′ before (back plan k part) (k + m) injected′ extracted′ × (0 < m)
 unfolding go-on
 turn-more {y} {u = u} {s = s} w r d v e f =
-    let g = turn-good r d (v .serves) in (
+    let g = shift r d (v .serves) in (
       record {
-        begun = go-on (w .begun) (v .moves) (g .0) (v .made) (turn-settles r d (v .serves));
-        looks = rw (after-append (w .begun .moves) (v .moves) y) (looks-next (readHeld s u) (w .looks) (r .asked .described .tree) (g .0) (r .chosen) d e f);
+        begun = go-on (w .begun) (v .moves) (g .good) (v .made) (turn-settles r d (v .serves));
+        lasts = rw (after-append (w .begun .moves) (v .moves) y) (lasts-next (readHeld s u) (w .lasts) (r .asked .described .tree) (chosen-neediest r d) g e f);
       },
-      omega (arith, g .1, v .made .counted),
+      omega (arith, g .some, v .made .counted),
     )

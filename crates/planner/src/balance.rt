@@ -34,8 +34,8 @@ fn either(test: bool, a: usize, b: usize) -> usize
     b
 }
 
-// The child that the loop at u serves next, looked for from the child on that was filled last, or drawn from last. One scan for each sign, so that
-// neither asks for the sign child by child.
+// The child that the loop at u serves next, after the child that was filled last, or drawn from last. One scan for each sign, so that neither asks for the
+// sign child by child.
 fn choose_next(
     t: &[u8; 768],
     s: &[i16; 512],
@@ -54,15 +54,14 @@ fn choose_next(
 }
 
 // The loop at u: if u holds a pebble a child is filled from it, else one is drawn from a child, until no child has a demand of the sign wanted;
-// then none has any, as u's own demand is 0. No demand grows, so a child passed over once for a sign is not looked at again.
+// then none has any, as u's own demand is 0. For each sign it keeps the child that was served last, u itself before there is one.
 fn settle(t: &[u8; 768], s: &mut [i16; 512], plan: &mut [u8], u: usize, height: usize) -> usize
     requires { ⌜ ((y : Yard) × AskedEven y (now t) (now s) (now plan) u height) ⌝ }
     ensures { λ r. ⌜ ((y : Yard) → AskedEven y (was t) (was s) (was plan) u height → Settled y u (became s) (was plan) (became plan) r) ⌝ }
 {
-    let first = wide(t[256 + u]);
     let mut k = 0;
-    let mut injected = first;
-    let mut extracted = first;
+    let mut injected = u;
+    let mut extracted = u;
     loop {
         let away = s[256 + u] != 0;
         let c = choose_next(t, s, u, injected, extracted, away);

@@ -2,7 +2,7 @@
 -- asks that there is one, and says what it did for each.
 use mathlib.Core.Path.{_≡_}
 use mathlib.Core.Logic.{_≢_}
-use mathlib.Core.Bool.{Bool, true, false, cond, _&&_}
+use mathlib.Core.Bool.{Bool, true, false, not, cond, _&&_}
 use mathlib.Core.List.{List}
 use Prim.Native.Nat.{ℕ, _+_, _*_, _≤_, _<_}
 use lib.ListN.{length, getD, set}
@@ -15,6 +15,7 @@ use Rattle.model.specs.Push.{Move, run}
 use Rattle.model.specs.Plan.{choice}
 use Rattle.model.specs.Calls.Answers.{overwrite}
 use Rattle.model.specs.Calls.Plans.{bytes}
+use Rattle.model.proofs.Trees.{Child}
 use Rattle.model.proofs.Demands.{weight}
 use Rattle.model.proofs.Step.{crossing, need}
 use Rattle.model.proofs.Signed.{nextℤ}
@@ -66,26 +67,24 @@ pub record Describes (y : Yard) (t : List ℕ) (s : List ℤ) : Type 0 where
   pub tables : Tables (y .parents) t
   pub kept : Kept y s
 
--- a demand is of the sign wanted: above 0, where pebbles lack and one is to go away from the root (true), or below 0, where there are too many
-abbrev pub wants : Bool → ℤ → Bool
-wants away d = cond away (ltZ (pos 0) d) (ltZ d (pos 0))
+-- a demand lies beyond another, away from 0 on the side of the sign wanted: above, where pebbles lack and one is to go away from the root (true), or
+-- below, where there are too many
+abbrev pub beyond : Bool → ℤ → ℤ → Bool
+beyond away d e = cond away (ltZ e d) (ltZ d e)
 
--- a child of u that wants so, and where to look for one from: at the lowest child from some number on, before which none wants (at u itself, if there
--- is no child left)
-abbrev pub wantingChild : Bool → Yard → ℕ → ℕ → Bool
-wantingChild b y u v = (isChild (y .parents) u v) && (wants b (demand y v))
+-- c is the child of u that was served last for a sign: it needs one less since, so no child needs more than one more, and none with a lower number more
+pub record LastServed (b : Bool) (y : Yard) (u c : ℕ) : Type 0 where
+  pub child : Child (y .parents) u c
+  pub side : need y (not b) c ≡ 0
+  pub most : (v : ℕ) → Child (y .parents) u v → need y b v ≤ need y b c + 1
+  pub first : (v : ℕ) → Child (y .parents) u v → v < c → need y b v ≤ need y b c
 
-pub record LookFrom (b : Bool) (y : Yard) (u c : ℕ) : Type 0 where
-  pub low : ℕ
-  pub low-le : low ≤ size y
-  pub lowest : Lowest (y .parents) u low c
-  pub none : (v : ℕ) → v < low → wantingChild b y u v ≡ false
-
--- what the choice of a child of u asks, looked for from a child on
+-- what the choice of a child of u asks, after c was served, or u itself for none
 pub record AskedChoice (b : Bool) (y : Yard) (t : List ℕ) (s : List ℤ) (u c : ℕ) : Type 0 where
   pub described : Describes y t s
   pub node : u < size y
-  pub from : LookFrom b y u c
+  pub last-lt : c < size y
+  pub last : c ≢ u → LastServed b y u c
 
 -- what filling v (true) or drawing from it (false) asks: that a pebble is due over its edge, and a height that bounds the nodes inside v
 pub record AskedStart (b : Bool) (y : Yard) (t : List ℕ) (s : List ℤ) (v height : ℕ) : Type 0 where

@@ -213,7 +213,7 @@ impl Caller {
         let expected = planner::plan(yard, room);
         let after = written(&before, &expected);
         let moves = expected.map(|plan| plan.len() as u32 / 2);
-        for planner in [fast::plan, fast::plan_by_siblings, fast::plan_with_cursors] {
+        for planner in [fast::plan, fast::plan_by_rows, fast::plan_with_scans, fast::plan_by_ways] {
             let mut quick_list = before.clone();
             quick(&inputs, planner(&yard.parents, &yard.pebbles, &yard.targets, &mut quick_list), &moves)?;
             quick(&inputs, Ok(quick_list), &Ok(after.clone()))?;

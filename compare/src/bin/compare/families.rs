@@ -4,6 +4,7 @@ use crate::calls::{Caller, Same, LAST_REFUSAL};
 use crate::worked::worked;
 use crate::{events, sheets};
 use std::ops::RangeInclusive;
+use unrelated::planner::Choice;
 use unrelated::random::Random;
 use unrelated::shapes::{self, Shape};
 use unrelated::yard::{Refusal, Yard};
@@ -12,9 +13,10 @@ use unrelated::{checker, damage, demands, figures, follow, library, planner, rep
 /// A family tries its cases and tells how many there were.
 pub type Family = fn(&Caller, Thin) -> Same<u64>;
 
-pub const FAMILIES: [(&str, Family); 24] = [
+pub const FAMILIES: [(&str, Family); 25] = [
     ("yards and examples of documents 01 and 02", |caller, _| worked(caller)),
     ("every tree up to 5 nodes with all marks, against the search", every_tree),
+    ("every tree of 6 nodes, half held, the others wanted, by search", halves_of_six),
     ("6 and 7 nodes, against the search", against_search),
     ("up to 24 nodes, against the cheapest matching", against_matching),
     ("6 to 256 nodes in six shapes", all_shapes),
@@ -101,10 +103,15 @@ fn planned(caller: &Caller, yard: &Yard, plan: &[u8], random: &mut Random) -> Sa
     printed(yard, plan)
 }
 
-/// The plan as the move program prints it, with the crossing report that demand 3 asks for; its pebbles, followed, end on the targets.
+/// The plan as the move program prints it, with the crossing report that demand 3 asks for; its pebbles, followed, end on the targets. By the choice of
+/// before request 2.6 the plan is as long.
 fn printed(yard: &Yard, plan: &[u8]) -> Same {
     let judged = report::judge(yard, &sheet::move_sheet(yard, plan)).and_then(|()| follow::judge(yard, plan));
-    judged.map_err(|what| format!("{yard:?}: {what}"))
+    judged.map_err(|what| format!("{yard:?}: {what}"))?;
+    match planner::plan_by(Choice::Lowest, yard, usize::MAX) {
+        Ok(earlier) if earlier.len() == plan.len() => Ok(()),
+        earlier => Err(format!("{yard:?}: the plan is {plan:?}, by the earlier choice {earlier:?}")),
+    }
 }
 
 fn every_tree(caller: &Caller, thin: Thin) -> Same<u64> {
@@ -127,6 +134,31 @@ fn every_tree(caller: &Caller, thin: Thin) -> Same<u64> {
                 }
             }
         }
+    }
+    Ok(cases)
+}
+
+/// The smallest trees in which the neediest child need not be the lowest-numbered: three pebbles, and the targets on the other three nodes.
+fn halves_of_six(caller: &Caller, thin: Thin) -> Same<u64> {
+    let mut random = Random::new(32);
+    let (mut number, mut cases, mut differ) = (0, 0, 0);
+    for parents in shapes::every_tree(6) {
+        for held in (0..1usize << 6).filter(|held| held.count_ones() == 3) {
+            number += 1;
+            if !thin.keeps(number) {
+                continue;
+            }
+            cases += 1;
+            let marks = |set: usize| -> Vec<u8> { (0..6).map(|node| (set >> node & 1) as u8).collect() };
+            let yard = Yard { parents: parents.clone(), pebbles: marks(held), targets: marks(!held) };
+            let least = shortest::by_search(&yard)[shortest::set(&yard.targets)];
+            searched(caller, &yard, least, &mut random)?;
+            let [neediest, lowest] = [Choice::Neediest, Choice::Lowest].map(|choice| planner::plan_by(choice, &yard, usize::MAX));
+            differ += u64::from(neediest != lowest);
+        }
+    }
+    if thin.is_full() && differ == 0 {
+        return Err("the two choices never differ: the family does not do what it is for".to_string());
     }
     Ok(cases)
 }

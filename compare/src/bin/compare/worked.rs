@@ -5,7 +5,7 @@ use crate::calls::{Caller, Same};
 use std::fmt::Debug;
 use unrelated::checker::{check, push, trial, Checked, Tried};
 use unrelated::event::{happen, Event, Kept};
-use unrelated::planner::plan;
+use unrelated::planner::{plan, plan_by, Choice};
 use unrelated::random::Random;
 use unrelated::shapes::{far, Shape};
 use unrelated::sheet::{self, program};
@@ -126,6 +126,12 @@ pub fn worked(caller: &Caller) -> Same<u64> {
     w.is("I, moves", plan(&i, 32_768).map(|plan| plan.len() / 2), Ok(16_384))?;
     w.plan("I, 32,767 bytes", &i, 32_767, refuse(8, 16_384))?;
     caller.plan(&i, 32_768)?;
+
+    // Request 2.6 gives the first move by its choice and by the one before it; the others follow from Algorithms 1 to 4.
+    let neediest = yard(&[0, 0, 0, 2, 0, 4, 5], &[0, 1, 1, 1, 0, 0, 0], &[0, 0, 0, 0, 1, 1, 1]);
+    w.plan("the neediest branch first", &neediest, ANY, Ok(&[2, 0, 0, 4, 1, 0, 4, 5, 0, 4, 3, 2, 2, 0, 5, 6, 4, 5, 0, 4]))?;
+    let earlier = plan_by(Choice::Lowest, &neediest, ANY);
+    w.is("the lowest branch first", earlier, Ok(vec![1, 0, 0, 4, 2, 0, 4, 5, 0, 4, 3, 2, 2, 0, 5, 6, 4, 5, 0, 4]))?;
 
     events_on_a(&mut w, &a)?;
     longest_way(&mut w)?;

@@ -16,26 +16,17 @@ use Rattle.planner.proofs.balance.settle.Statement.{statement}
 use Rattle.planner.proofs.balance.settle.Tie as tie
 
 abbrev Inv-loop : tie.InvT-loop
-Inv-loop t s₀ plan₀ u height first k₀ injected₀ extracted₀ s plan k injected extracted = (y : Yard) → AskedEven y t s₀ plan₀ u height → Turned y u s plan₀ plan k injected extracted
+Inv-loop t s₀ plan₀ u height k₀ injected₀ extracted₀ s plan k injected extracted = (y : Yard) → AskedEven y t s₀ plan₀ u height → Turned y u s plan₀ plan k injected extracted
 
 abbrev μ-loop : tie.MeasureT-loop
-μ-loop t s₀ plan₀ u height first k₀ injected₀ extracted₀ s plan k injected extracted = length plan₀ - 2 * k
-
-add-wide : tie.Need-add-wide Inv-loop μ-loop
-add-wide c = let a = c .before .pre .1 in omega (arith, node-small (a .described) (a .node))
-
-element-copy-out-wide : tie.Need-element-copy-out-wide Inv-loop μ-loop
-element-copy-out-wide c = let a = c .before .pre .1 in omega (arith, node-small (a .described) (a .node))
-
-wide-requires : tie.Need-wide-requires Inv-loop μ-loop
-wide-requires c κs = search needs
+μ-loop t s₀ plan₀ u height k₀ injected₀ extracted₀ s plan k injected extracted = length plan₀ - 2 * k
 
 loop-holds : tie.Need-loop-holds Inv-loop μ-loop
-loop-holds c y a = turn-none a (c .wide .ensures .0)
+loop-holds c y a = turn-none a
 
 -- the call that a loop's head belongs to
 abbrev call : tie.At-loop Inv-loop μ-loop → tie.Start Inv-loop μ-loop
-call c = c .before .before .before .before
+call c = c .before .before
 
 add-away : tie.Need-add-away Inv-loop μ-loop
 add-away c = let a = call c .pre .1 in omega (arith, node-small (a .described) (a .node))
@@ -63,7 +54,7 @@ choose-next-requires : tie.Need-choose-next-requires Inv-loop μ-loop
 choose-next-requires c κs =
     let l = c .before .before in
     let p = call l .pre in
-    (_, choice-asked _ (here l (p .0) (p .1)) (l .loop .inv (p .0) (p .1) .looks))
+    (_, choice-asked _ (here l (p .0) (p .1)) (l .loop .inv (p .0) (p .1) .lasts))
 
 -- the turn that the choice of a child begins
 turn : (c : tie.After-choose-next Inv-loop μ-loop) (y : Yard)
@@ -74,7 +65,7 @@ turn : (c : tie.After-choose-next Inv-loop μ-loop) (y : Yard)
 turn c y a =
     let l = c .before .before .before in
     let z = here l y a in
-    record { asked = z; chosen = c .choose-next .ensures _ (choice-asked _ z (l .loop .inv y a .looks)) }
+    record { asked = z; chosen = c .choose-next .ensures _ (choice-asked _ z (l .loop .inv y a .lasts)) }
 
 same-length : tie.Need-same-length Inv-loop μ-loop
 same-length c = used (c .before .before .before .before) .0
@@ -165,9 +156,6 @@ settle-spec =
     (tie.spec
     Inv-loop
     μ-loop
-    add-wide
-    element-copy-out-wide
-    wide-requires
     loop-holds
     add-away
     mul-away
