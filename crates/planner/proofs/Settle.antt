@@ -117,7 +117,6 @@ module _ {y : Yard} {t : List ℕ} {s : List ℤ} {plan : List ℕ} {u h c : ℕ
 
 -- the children that were served last in the loop: the one filled, and the one drawn from, or u itself before there is one
 pub record LastOf (b : Bool) (y : Yard) (u c : ℕ) : Type 0 where
-  pub lt : c < size y
   pub served : c ≢ u → LastServed b y u c
 
 pub record Lasts (y : Yard) (u injected extracted : ℕ) : Type 0 where
@@ -130,19 +129,19 @@ last-for false h = h .to-extract
 
 pub choice-asked : {y : Yard} {t : List ℕ} {s : List ℤ} {plan : List ℕ} {u h injected extracted : ℕ} (b : Bool)
     → AskedEven y t s plan u h → Lasts y u injected extracted → AskedChoice b y t s u (cond b injected extracted)
-choice-asked b a f = record { described = a .described; node = a .node; last-lt = last-for b f .lt; last = last-for b f .served }
+choice-asked b a f = record { described = a .described; node = a .node; last = last-for b f .served }
 
 -- a turn serves the child c for its sign, and leaves what the other children need
 module _ {y : Yard} {ms : List Move} {u c : ℕ} {b : Bool} (w : Tree y) (n : Neediest (need y b) y u c) (h : Shift y b c ms) where
   turned-last : LastOf b (run y ms) u c
-  turned-last = record { lt = n .needy .0 .lt; served = λ _. last-chosen w (h .good) n (falls b (h .within)) }
+  turned-last = record { served = λ _. last-chosen w (h .good) n (falls b (h .within)) }
     where
       falls : (b : Bool) → pebblesIn (run y ms) c + one (not b) ≡ pebblesIn y c + one b → need y b c ≤ need (run y ms) b c + 1
       falls true e = omega arith
       falls false e = omega arith
 
   other-last : {v : ℕ} → LastOf (not b) y u v → LastOf (not b) (run y ms) u v
-  other-last {v} l = record { lt = l .lt; served = λ d. last-after w (h .good) (l .served d) (same (not b) (h .beyond v (l .lt) (apart (l .served d)))) }
+  other-last {v} l = record { served = λ d. last-after w (h .good) (l .served d) (same (not b) (h .beyond v (l .served d .child .lt) (apart (l .served d)))) }
     where
       back-side : (b : Bool) → need y (not (not b)) v ≡ 0 → need y b v ≡ 0
       back-side true e = e
@@ -169,7 +168,7 @@ pub turn-none : {y : Yard} {t : List ℕ} {s : List ℤ} {plan : List ℕ} {u h 
 unfolding begin after
 turn-none {u = u} a = record {
   begun = begin {Ahead = λ z. Settles choice z u} (a .described .kept);
-  lasts = record { to-inject = record { lt = a .node; served = λ d. absurd (d refl) }; to-extract = record { lt = a .node; served = λ d. absurd (d refl) } };
+  lasts = record { to-inject = record { served = λ d. absurd (d refl) }; to-extract = record { served = λ d. absurd (d refl) } };
 }
 
 pub turn-more : {y : Yard} {t : List ℕ} {u h c : ℕ} {s s′ : List ℤ} {before plan part : List ℕ} {k m injected extracted injected′ extracted′ : ℕ}

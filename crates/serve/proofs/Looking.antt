@@ -1,5 +1,5 @@
--- Looking for the child that is served, by scans of u's children in rising number: one keeps the neediest so far, the other goes on from the child that was
--- served last.
+-- Looking for the child that is served, by scans of u's children in rising number: from each that needs more than those before it on to the next, or on from
+-- the child that was served last.
 use mathlib.Core.Path.{_≡_, refl, sym, ap, _∙_}
 use mathlib.Core.Logic.{_≢_}
 use mathlib.Core.Bool.{Bool, true, false, not, cond, false≢true}
@@ -13,19 +13,18 @@ use lib.IntN.{ℤ, pos, negsuc}
 use mir.Syntax.{w16}
 use mir.Val.{toZ, ofZ}
 use borrow.Author.Tests.{lt-ltb, le-ltb, ltb-true, ltb-false, le-leb, lt-leb}
-use Rattle.model.specs.Yard.{Yard, size, inside, demand}
+use Rattle.model.specs.Yard.{Yard, size, demand}
 use Rattle.model.specs.Judge.{Tree}
 use Rattle.model.specs.Push.{Move, run}
 use Rattle.model.specs.Plan.{choice}
 use Rattle.model.proofs.Basics.{below-none}
-use Rattle.model.proofs.Found.{found}
 use Rattle.model.proofs.Trees.{Child, child-is}
 use Rattle.model.proofs.Judged.{facts}
 use Rattle.model.proofs.Signed.{above0, below0, demand-parts, demand-range}
 use Rattle.model.proofs.Step.{need}
 use Rattle.model.proofs.Shortest.{Good, keeps}
 use Rattle.model.proofs.Choice.{Neediest, neediest-is, neediest-none}
-use Rattle.serve.specs.Serving.{isChildFrom, Lowest, Describes, beyond, LastServed, AskedChoice}
+use Rattle.serve.specs.Serving.{isChildFrom, Lowest, Describes, beyond, NextBeyond, LastServed}
 use Rattle.serve.proofs.Numbers.{small-back}
 use Rattle.serve.proofs.Siblings.{none-from, none-between, child-from, next-is}
 
@@ -82,120 +81,111 @@ module _ {ps : List ℕ} {u low c : ℕ} (h : Lowest ps u low c) {P : ℕ → Ty
         go (yes e) = rw e x
         go (no e) = passed-before v k (omega arith)
 
--- the scan of all children: of those passed r is the neediest, with the demand d, or there is none that needs something
-pub record Scan (b : Bool) (y : Yard) (u c r : ℕ) (d : ℤ) : Type 0 where
-  pub low : ℕ
-  pub lowest : Lowest (y .parents) u low c
-  pub side : sized (not b) d ≡ 0
-  pub passed : (v : ℕ) → Child (y .parents) u v → v < low → need y b v ≤ sized b d
-  pub some : 0 < sized b d → Child (y .parents) u r × (need y b r ≡ sized b d) × ((v : ℕ) → Child (y .parents) u v → v < r → need y b v < sized b d)
-  pub none : sized b d ≡ 0 → r ≡ u
+-- a demand lies beyond that of a node which is not of the other sign exactly if more is needed, and beyond 0 if something is
+beyond-need : (y : Yard) (b : Bool) (v r : ℕ) → need y (not b) r ≡ 0 → beyond b (demand y v) (demand y r) ≡ ltb (need y b r) (need y b v)
+beyond-need y b v r e = rw (← need-sized y b r, ← need-sized y b v) (beyond-sized b (demand y v) (demand y r) (need-sized y (not b) r ∙ e))
 
-module _ {b : Bool} {y : Yard} {u : ℕ} where
-  pub scan-first : {t : List ℕ} {s : List ℤ} {c : ℕ} → Describes y t s → u < size y → c ≡ getD t (256 + u) 0 → Scan b y u c u (pos 0)
-  scan-first r l e = record {
-    low = 0;
-    lowest = rw e (r .tables .first u l);
-    side = sized-zero (not b);
-    passed = λ v k m. absurd (omega arith);
-    some = λ n. absurd (omega (arith, sized-zero b));
-    none = λ _. refl;
-  }
+beyond-zero : (y : Yard) (b : Bool) (v : ℕ) → beyond b (demand y v) (pos 0) ≡ ltb 0 (need y b v)
+beyond-zero y b v = beyond-sized b (demand y v) (pos 0) (sized-zero (not b)) ∙ rw (sized-zero b, need-sized y b v)
 
-  pub scan-end : {r : ℕ} {d : ℤ} → Scan b y u u r d → r ≡ choice (need y b) y u
-  unfolding choice
-  scan-end {r} {d} h = go (decLt 0 (sized b d))
-    where
-      all : (v : ℕ) → Child (y .parents) u v → need y b v ≤ sized b d
-      all = passed-all (h .lowest) (h .passed) refl
+-- the scan from number low on: no child passed lies beyond
+pub record Scan (b : Bool) (y : Yard) (u low : ℕ) (most : ℤ) (c : ℕ) : Type 0 where
+  pub at : ℕ
+  pub at-le : low ≤ at
+  pub lowest : Lowest (y .parents) u at c
+  pub passed : (v : ℕ) → Child (y .parents) u v → v < at → low ≤ v → beyond b (demand y v) most ≡ false
 
-      go : Dec (0 < sized b d) → r ≡ choice (need y b) y u
-      go (no n) = h .none (omega arith) ∙ neediest-none (need y b) y u (λ v k. omega (arith, all v k))
-      go (yes n) =
-          let q = h .some n in
-          neediest-is (need y b) y u record {
-            needy = (q .0, omega (arith, q .1));
-            most = λ v k. omega (arith, all v k, q .1);
-            first = λ v k l. omega (arith, q .2 v k l, q .1);
-          }
+module _ {b : Bool} {y : Yard} {u low : ℕ} {most : ℤ} where
+  pub scan-first : {c : ℕ} → Lowest (y .parents) u low c → Scan b y u low most c
+  scan-first h = record { at = low; at-le = omega arith; lowest = h; passed = λ v k l m. absurd (omega arith) }
 
-  module _ {c r : ℕ} {d : ℤ} (h : Scan b y u c r d) (e : c ≢ u) where
+  pub scan-end : Scan b y u low most u → NextBeyond b y u low most u
+  scan-end h = record { passed = λ v k l _. passed-all (h .lowest) (h .passed) refl v k l; found = λ d. absurd (d refl) }
+
+  module _ {c : ℕ} (h : Scan b y u low most c) (e : c ≢ u) where
     pub scan-child : Child (y .parents) u c
     scan-child = child-from (h .lowest) e .0
 
     module _ {t : List ℕ} {s : List ℤ} (w : Describes y t s) where
-      reads : getD s c (pos 0) ≡ demand y c
-      reads = w .kept .demands c (scan-child .lt)
+      reads : demand y c ≡ getD s c (pos 0)
+      reads = sym (w .kept .demands c (scan-child .lt))
 
-      test : beyond b (getD s c (pos 0)) d ≡ ltb (sized b d) (need y b c)
-      test = ap (λ (x : ℤ). beyond b x d) reads ∙ beyond-sized b (demand y c) d (h .side) ∙ ap (ltb (sized b d)) (need-sized y b c)
-
-      pub scan-better : beyond b (getD s c (pos 0)) d ≡ true → Scan b y u (getD t (512 + c) 0) c (getD s c (pos 0))
-      scan-better f =
-          let m = ltb-true (sized b d) (need y b c) (sym test ∙ f) in
-          let q : sized b (getD s c (pos 0)) ≡ need y b c = ap (sized b) reads ∙ need-sized y b c in
-          record {
-            low = c + 1;
-            lowest = next-is (w .tables) scan-child;
-            side = ap (sized (not b)) reads ∙ need-sized y (not b) c ∙ one-side y b c (omega (arith, m));
-            passed = passed-more (h .lowest) (λ v k l. omega (arith, h .passed v k l, m, q)) e (omega (arith, q));
-            some = λ _. (scan-child, sym q, passed-before (h .lowest) (λ v k l. omega (arith, h .passed v k l, m, q)) e);
-            none = λ n. absurd (omega (arith, n, m, q));
-          }
-
-      pub scan-same : beyond b (getD s c (pos 0)) d ≡ false → Scan b y u (getD t (512 + c) 0) r d
-      scan-same f = record {
-        low = c + 1;
-        lowest = next-is (w .tables) scan-child;
-        side = h .side;
-        passed = passed-more (h .lowest) (h .passed) e (ltb-false (sized b d) (need y b c) (sym test ∙ f));
-        some = h .some;
-        none = h .none;
+      pub scan-found : beyond b (getD s c (pos 0)) most ≡ true → NextBeyond b y u low most c
+      scan-found f = record {
+        passed = λ v k l m. passed-before (h .lowest) (h .passed) e v k (m e) l;
+        found = λ _. (scan-child, omega (arith, h .at-le, child-from (h .lowest) e .1), rw reads f);
       }
 
--- the scan from the child that was served last: none of those passed needs more than it does
-pub record LookFrom (b : Bool) (y : Yard) (u last c : ℕ) : Type 0 where
-  pub served : LastServed b y u last
-  pub low : ℕ
-  pub lowest : Lowest (y .parents) u low c
-  pub passed : (v : ℕ) → Child (y .parents) u v → v < low → need y b v ≤ need y b last
+      pub scan-next : beyond b (getD s c (pos 0)) most ≡ false → Scan b y u low most (getD t (512 + c) 0)
+      scan-next f = record {
+        at = c + 1;
+        at-le = omega (arith, h .at-le, child-from (h .lowest) e .1);
+        lowest = next-is (w .tables) scan-child;
+        passed = passed-more (h .lowest) (h .passed) e (λ _. rw reads f);
+      }
 
-module _ {b : Bool} {y : Yard} {u last : ℕ} where
-  pub look-first : LastServed b y u last → LookFrom b y u last last
-  look-first f = record {
-    served = f;
-    low = last;
-    lowest = record { is = found (size y) u last (isChildFrom (y .parents) u last) (f .child .lt) (λ v m. rw (lt-leb last v m)) (rw (le-leb last last (omega arith)) (child-is (y .parents) u last (f .child))) };
-    passed = f .first;
+-- r needs something, and more than every child with a lower number
+pub record Lead (b : Bool) (y : Yard) (u r : ℕ) : Type 0 where
+  pub child : Child (y .parents) u r
+  pub needs : 0 < need y b r
+  pub first : (v : ℕ) → Child (y .parents) u v → v < r → need y b v < need y b r
+
+module _ {b : Bool} {y : Yard} {u r : ℕ} where
+  module _ (n : NextBeyond b y u 0 (pos 0) r) where
+    none-before : (v : ℕ) → Child (y .parents) u v → (r ≢ u → v < r) → need y b v ≤ 0
+    none-before v k m = ltb-false 0 (need y b v) (sym (beyond-zero y b v) ∙ n .passed v k (omega arith) m)
+
+    pub lead-first : r ≢ u → Lead b y u r
+    lead-first d =
+        let f = n .found d in
+        let m = ltb-true 0 (need y b r) (sym (beyond-zero y b r) ∙ f .2) in
+        record { child = f .0; needs = m; first = λ v k l. omega (arith, none-before v k (λ _. l), m) }
+
+    pub lead-none : r ≡ u → u ≡ choice (need y b) y u
+    unfolding choice
+    lead-none q = neediest-none (need y b) y u (λ v k. omega (arith, none-before v k (λ d. absurd (d q))))
+
+-- behind a child r of which no lower one needs more than it does, and which is not of the other sign
+module _ {b : Bool} {y : Yard} {u r c : ℕ} (side : need y (not b) r ≡ 0) (lower : (v : ℕ) → Child (y .parents) u v → v < r → need y b v ≤ need y b r) (n : NextBeyond b y u (r + 1) (demand y r) c) where
+  no-more : (v : ℕ) → Child (y .parents) u v → (c ≢ u → v < c) → need y b v ≤ need y b r
+  no-more v k m = go (decLt v r) (ℕ-discrete v r)
+    where
+      go : Dec (v < r) → Dec (v ≡ r) → need y b v ≤ need y b r
+      go (yes l) _ = lower v k l
+      go (no _) (yes e) = rw e (omega arith)
+      go (no l) (no e) = ltb-false (need y b r) (need y b v) (sym (beyond-need y b v r side) ∙ n .passed v k (omega arith) m)
+
+  more : c ≢ u → need y b r < need y b c
+  more d = ltb-true (need y b r) (need y b c) (sym (beyond-need y b c r side) ∙ n .found d .2)
+
+module _ {b : Bool} {y : Yard} {u r c : ℕ} (h : Lead b y u r) (n : NextBeyond b y u (r + 1) (demand y r) c) where
+  side : need y (not b) r ≡ 0
+  side = one-side y b r (h .needs)
+
+  lower : (v : ℕ) → Child (y .parents) u v → v < r → need y b v ≤ need y b r
+  lower v k l = omega (arith, h .first v k l)
+
+  pub lead-next : c ≢ u → Lead b y u c
+  lead-next d = record {
+    child = n .found d .0;
+    needs = omega (arith, more side lower n d);
+    first = λ v k l. omega (arith, no-more side lower n v k (λ _. l), more side lower n d);
   }
 
-  module _ {c : ℕ} (h : LookFrom b y u last c) (e : c ≢ u) where
-    pub look-child : Child (y .parents) u c
-    look-child = child-from (h .lowest) e .0
+  pub lead-last : c ≡ u → r ≡ choice (need y b) y u
+  unfolding choice
+  lead-last q = neediest-is (need y b) y u record { needy = (h .child, h .needs); most = λ v k. no-more side lower n v k (λ d. absurd (d q)); first = h .first }
 
-    module _ {t : List ℕ} {s : List ℤ} (w : Describes y t s) where
-      test-last : beyond b (getD s c (pos 0)) (getD s last (pos 0)) ≡ ltb (need y b last) (need y b c)
-      test-last =
-          rw (w .kept .demands c (look-child .lt), w .kept .demands last (h .served .child .lt), ← need-sized y b last, ← need-sized y b c)
-          (beyond-sized b (demand y c) (demand y last) (need-sized y (not b) last ∙ h .served .side))
-
-      pub look-found : beyond b (getD s c (pos 0)) (getD s last (pos 0)) ≡ true → c ≡ choice (need y b) y u
-      unfolding choice
-      look-found f =
-          let m = ltb-true (need y b last) (need y b c) (sym test-last ∙ f) in
-          neediest-is (need y b) y u record {
-            needy = (look-child, omega (arith, m));
-            most = λ v k. omega (arith, h .served .most v k, m);
-            first = passed-before (h .lowest) (λ v k l. omega (arith, h .passed v k l, m)) e;
-          }
-
-      pub look-next : beyond b (getD s c (pos 0)) (getD s last (pos 0)) ≡ false → LookFrom b y u last (getD t (512 + c) 0)
-      look-next f = record {
-        served = h .served;
-        low = c + 1;
-        lowest = next-is (w .tables) look-child;
-        passed = passed-more (h .lowest) (h .passed) e (ltb-false (need y b last) (need y b c) (sym test-last ∙ f));
-      }
+-- behind the child that was served last
+pub last-next : {b : Bool} {y : Yard} {u l c : ℕ} → LastServed b y u l → NextBeyond b y u (l + 1) (demand y l) c → c ≢ u → c ≡ choice (need y b) y u
+unfolding choice
+last-next {b} {y} {u} {l} {c} f n d =
+    let m = more (f .side) (f .first) n d in
+    neediest-is (need y b) y u record {
+      needy = (n .found d .0, omega (arith, m));
+      most = λ v k. omega (arith, f .most v k, m);
+      first = λ v k g. omega (arith, no-more (f .side) (f .first) n v k (λ _. g), m);
+    }
 
 -- no demand grows by good moves: so a child that was chosen is the one served last, if it needs at most one less, and stays so while it needs as much
 module _ {y : Yard} {ms : List Move} (w : Tree y) (g : Good y ms) where

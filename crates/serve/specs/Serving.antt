@@ -72,6 +72,11 @@ pub record Describes (y : Yard) (t : List ℕ) (s : List ℤ) : Type 0 where
 abbrev pub beyond : Bool → ℤ → ℤ → Bool
 beyond away d e = cond away (ltZ e d) (ltZ d e)
 
+-- r is the lowest child of u from number low on whose demand lies beyond one, or u itself if there is none
+pub record NextBeyond (b : Bool) (y : Yard) (u low : ℕ) (most : ℤ) (r : ℕ) : Type 0 where
+  pub passed : (v : ℕ) → Child (y .parents) u v → low ≤ v → (r ≢ u → v < r) → beyond b (demand y v) most ≡ false
+  pub found : r ≢ u → Child (y .parents) u r × (low ≤ r) × (beyond b (demand y r) most ≡ true)
+
 -- c is the child of u that was served last for a sign: it needs one less since, so no child needs more than one more, and none with a lower number more
 pub record LastServed (b : Bool) (y : Yard) (u c : ℕ) : Type 0 where
   pub child : Child (y .parents) u c
@@ -83,7 +88,6 @@ pub record LastServed (b : Bool) (y : Yard) (u c : ℕ) : Type 0 where
 pub record AskedChoice (b : Bool) (y : Yard) (t : List ℕ) (s : List ℤ) (u c : ℕ) : Type 0 where
   pub described : Describes y t s
   pub node : u < size y
-  pub last-lt : c < size y
   pub last : c ≢ u → LastServed b y u c
 
 -- what filling v (true) or drawing from it (false) asks: that a pebble is due over its edge, and a height that bounds the nodes inside v
