@@ -26,14 +26,7 @@ fn passes(demand: i16, other: i16, away: bool) -> bool
 
 // The first child of u, from one on, whose demand lies beyond `most`; u itself if there is none. It ends at that child, so that a processor need not wait for
 // the demands to foresee where the way leads.
-fn next_beyond(
-    t: &[u8; 768],
-    s: &[i16; 512],
-    u: usize,
-    from: usize,
-    most: i16,
-    away: bool,
-) -> usize
+fn next_beyond(t: &[u8; 768], s: &[i16; 512], u: usize, from: usize, most: i16, away: bool) -> usize
     requires { ⌜ ((y : Yard) × Describes y (now t) (now s) × ((low : ℕ) × Lowest (y .parents) u low from)) ⌝ }
     ensures { λ r. ⌜ ((y : Yard) → Describes y (was t) (was s) → (low : ℕ) → Lowest (y .parents) u low from → NextBeyond away y u low most r) ⌝ }
 {

@@ -2,7 +2,6 @@
 use native.Mathlib.Omega.{arith}
 use borrow.Author.Needs.{needs}
 use Prim.Native.Nat.{_+_, _<_}
-
 use Rattle.model.specs.Yard.{Yard}
 use Rattle.serve.specs.Serving.{Lowest, AskedChoice}
 use Rattle.serve.proofs.Siblings.{next-is}
