@@ -12,7 +12,7 @@ use lib.Dec.{ltb}
 use borrow.Author.Tests.{ltb-true, ltb-false, lt-ltb}
 use Rattle.model.specs.Yard.{Yard, size, one, below, headOr, isChild}
 use Rattle.model.specs.Plan.{needy, Rule, lowestChild, greatest, neediestChild, choice}
-use Rattle.model.proofs.Basics.{All, all-below, below-all, below-none, none-below}
+use Rattle.model.proofs.Basics.{All, all-below, below-all, below-none}
 use Rattle.model.proofs.Sums.{sum-some}
 use Rattle.model.proofs.Trees.{Child, is-child, child-is}
 use Rattle.model.proofs.Demands.{overChildren}

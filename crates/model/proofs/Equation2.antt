@@ -2,10 +2,9 @@
 -- subtrees.
 use mathlib.Core.Path.{_≡_, refl, sym, ap, _∙_}
 use mathlib.Core.Bool.{true}
-use mathlib.Core.List.{List, map}
+use mathlib.Core.List.{map}
 use Prim.Native.Nat.{ℕ, zero, suc, _≤_, _<_}
 use native.Mathlib.Omega.{arith}
-use lib.ListN.{length}
 use lib.Seq.{ext-getD}
 use lib.IntN.{ℤ, pos, subℕ, _+ℤ_}
 use Rattle.model.specs.Yard.{Yard, size, pebble, target, isChild, children, demand, sumℤ, entry, Equation2}

@@ -7,24 +7,23 @@ use mathlib.Core.Option.{none}
 use Prim.Native.Nat.{ℕ, suc, _+_, _-_, _*_, _≤_, _<_}
 use native.Mathlib.Omega.{arith}
 use native.Mathlib.Decide.{ℕ-discrete}
-use lib.ListN.{length, getD, set, length-set}
+use lib.ListN.{length, getD, length-set}
 use lib.Seq.{getD-set-same, getD-set-other}
 use lib.Dec.{ltb, eqb}
 use lib.IntN.{ℤ, pos, natAbs, subℕ, sucℤ, predℤ, negℤ, _-ℤ_, suc-pred, pred-suc, sucℤ-+ℤ, predℤ-+ℤ, +ℤ-invr}
 use borrow.Author.Tests.{ltb-true, le-leb, eq-eqb, ne-eqb}
 use Rattle.model.specs.declared.Event.{Event}
 use Rattle.model.specs.declared.Event.the-variants.{PebbleArrives, PebbleLeaves, TargetSet, TargetCleared}
-use Rattle.model.specs.Yard.{Yard, yardOf, size, maxDemand, pebble, target, capacity, one, sum, root, inside, subtotal, targetsIn, pebblesIn, demand, entry}
+use Rattle.model.specs.Yard.{Yard, yardOf, size, maxDemand, pebble, target, capacity, one, sum, inside, subtotal, targetsIn, pebblesIn, demand, entry}
 use Rattle.model.specs.Judge.{atLowest, Tree}
 use Rattle.model.specs.Calls.Demands.{demandsFault, demandsOf, demandsList}
 use Rattle.model.specs.Calls.Events.{oneMore, oneLess, pebblesAfter, targetsAfter, altered, changed, entryAfter, demandsAfter, possible, inRange, rangeFault}
 use Rattle.model.proofs.Basics.{none-below}
 use Rattle.model.proofs.Sums.{sum-cong, sum-add, sum-pick}
-use Rattle.model.proofs.Judged.{facts, wood, counted-tree}
+use Rattle.model.proofs.Judged.{facts, counted-tree}
 use Rattle.model.proofs.Signed.{sub-suc, suc-sub, demand-range}
 use Rattle.model.proofs.Ranges.{length-range, getD-listed, listed}
 use Rattle.model.proofs.Equation2.{demands-entry}
-use Rattle.model.proofs.Way.{Climbed, climb-entry, climb-end}
 
 -- one entry more or less
 module _ (list : List ℕ) (v : ℕ) (l : v < length list) where
@@ -175,11 +174,3 @@ module _ (y : Yard) (t : Tree y) (e : Event) (v : ℕ) (l : v < size y) (h : pos
     where
       small : (z : Yard) → Tree z → (u : ℕ) → inRange (demand z u) ≡ true
       small z s u = le-leb (natAbs (demand z u)) maxDemand (demand-range z s u)
-
--- one climb from the node to the root brings the list up to date: where it has come to the root, only that entry is left to change
-pub climb-demands : (y : Yard) (t : Tree y) (e : Event) (v : ℕ) → v < size y → (list now : List ℤ)
-    → Climbed (y .parents) (λ u. changed e (entry list u)) (pos 0) v list now (root y) → set now (root y) (changed e (entry now (root y))) ≡ demandsAfter y e v list
-unfolding demandsAfter
-climb-demands y t e v l list now c =
-    ap (λ (k : ℤ). set now (root y) (changed e k)) (climb-entry (wood y t) (λ u. changed e (entry list u)) (pos 0) v l list now (root y) c)
-    ∙ climb-end (wood y t) (λ u. changed e (entry list u)) (pos 0) v l list now (root y) c refl

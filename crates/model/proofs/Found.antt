@@ -93,10 +93,3 @@ lowest-missing n d p e f = below-none n p (go (below n p) e (all-below (λ w. p 
     go : (vs : List ℕ) → d ≡ headOr d vs → All (λ w. p w ≡ true) vs → vs ≡ []
     go [] q a = refl
     go (w ∷ vs) q a = absurd (false≢true (sym f ∙ ap p q ∙ a .0))
-
-pub lowest-lt : (n d : ℕ) (p : ℕ → Bool) → d < n → headOr d (below n p) < n
-lowest-lt n d p l = go (below n p) (all-below (λ v. v < n) p n (λ v m _. m))
-  where
-    go : (vs : List ℕ) → All (λ v. v < n) vs → headOr d vs < n
-    go [] a = l
-    go (v ∷ vs) a = a .0

@@ -4,7 +4,7 @@ use mathlib.Core.Path.{_≡_, refl, sym, ap, _∙_}
 use mathlib.Core.Logic.{_≢_}
 use mathlib.Core.Bool.{Bool, true, false, not, cond, _&&_, and-true}
 use mathlib.Core.List.{List, map}
-use Prim.Native.Nat.{ℕ, suc, _+_, _*_, _≤_, _<_}
+use Prim.Native.Nat.{ℕ, suc, _+_, _*_, _<_}
 use native.Mathlib.Omega.{arith}
 use native.Mathlib.Decide.{ℕ-discrete}
 use lib.ListN.{length, getD, set, length-set}
@@ -13,8 +13,8 @@ use lib.Dec.{eqb}
 use borrow.Author.Tests.{ne-eqb}
 use Rattle.model.specs.Yard.{up, one, sum, inside}
 use Rattle.model.specs.Calls.Answers.{range}
-use Rattle.model.proofs.Basics.{one-le, eqb-sym}
-use Rattle.model.proofs.Sums.{sum-cong, sum-add, sum-pick, sum-le}
+use Rattle.model.proofs.Basics.{eqb-sym}
+use Rattle.model.proofs.Sums.{sum-cong, sum-add, sum-pick}
 use Rattle.model.proofs.Climb.{inside-step}
 use Rattle.model.proofs.Trees.{Wood, inside-self, root-inside, inside-up, parent-outside, one-step}
 use Rattle.model.proofs.Ranges.{listed}
@@ -22,9 +22,6 @@ use Rattle.model.proofs.Ranges.{listed}
 -- the number of nodes on the way from w, w itself included: one fewer from its parent, and never more than all, so the climb ends
 abbrev pub wayLength : List ℕ → ℕ → ℕ
 wayLength ps w = sum (length ps) (λ u. one (inside ps u w))
-
-pub wayLength-le : (ps : List ℕ) (w : ℕ) → wayLength ps w ≤ length ps
-wayLength-le ps w = sum-le (length ps) _ (λ u. one-le (inside ps u w))
 
 pub wayLength-parent : {ps : List ℕ} {r : ℕ} (g : Wood ps r) (w : ℕ) → w < length ps → w ≢ r → wayLength ps w ≡ suc (wayLength ps (up ps w))
 wayLength-parent {ps} g w l d =

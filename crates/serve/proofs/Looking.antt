@@ -1,6 +1,6 @@
 -- Looking for the child that is served, by scans of u's children in rising number: from each that needs more than those before it on to the next, or on from
 -- the child that was served last.
-use mathlib.Core.Path.{_≡_, refl, sym, ap, _∙_}
+use mathlib.Core.Path.{_≡_, refl, sym, _∙_}
 use mathlib.Core.Logic.{_≢_}
 use mathlib.Core.Bool.{Bool, true, false, not, cond, false≢true}
 use mathlib.Core.List.{List}
@@ -12,7 +12,7 @@ use lib.Dec.{ltb, leb·suc-suc}
 use lib.IntN.{ℤ, pos, negsuc}
 use mir.Syntax.{w16}
 use mir.Val.{toZ, ofZ}
-use borrow.Author.Tests.{lt-ltb, le-ltb, ltb-true, ltb-false, le-leb, lt-leb}
+use borrow.Author.Tests.{lt-ltb, le-ltb, ltb-true, ltb-false, le-leb}
 use Rattle.model.specs.Yard.{Yard, size, demand}
 use Rattle.model.specs.Judge.{Tree}
 use Rattle.model.specs.Push.{Move, run}

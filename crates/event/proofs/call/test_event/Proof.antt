@@ -1,12 +1,10 @@
 -- `test_event` is refused as the yard is, then for the list's length, for the node, and if the event cannot happen by the marks there.
 use borrow.Author.Needs.{needs}
 use native.Mathlib.Omega.{arith}
-use mathlib.Core.Path.{_≡_, sym, ap, _∙_}
-use mathlib.Core.Option.{none}
+use mathlib.Core.Path.{_≡_, sym, _∙_}
 use Prim.Native.Nat.{_<_}
-use lib.ListN.{length}
 use Rattle.model.specs.Yard.{Yard, yardOf, size}
-use Rattle.model.specs.Judge.{Tree, judge}
+use Rattle.model.specs.Judge.{Tree}
 use Rattle.model.specs.Calls.Events.{possible}
 use Rattle.model.proofs.Judged.{facts}
 use Rattle.model.proofs.Calls.{sees}

@@ -1,17 +1,16 @@
 -- `climb` steps the entries of the nodes on the way: when it has come to w, those below w are stepped (`Climbed`). The way from w is one node shorter with
 -- each turn, and at the root one entry is left.
-use mathlib.Core.Path.{_≡_, refl, sym, ap, _∙_}
+use mathlib.Core.Path.{_≡_, ap, _∙_}
 use mathlib.Core.Logic.{_≢_}
-use mathlib.Core.List.{List}
-use Prim.Native.Nat.{ℕ, _≤_, _<_, _^_}
+use Prim.Native.Nat.{ℕ, _<_, _^_}
 use native.Mathlib.Omega.{arith}
-use lib.ListN.{length, getD, length-set}
+use lib.ListN.{getD, length-set}
 use lib.IntN.{ℤ, pos}
 use lib.Signed.{mag}
 use mir.Syntax.{w16}
 use mir.Val.{toZ, ofZ}
 use mir.ValLaws.{toZ-ofZ}
-use Rattle.model.specs.Yard.{up, entry}
+use Rattle.model.specs.Yard.{entry}
 use Rattle.model.proofs.Trees.{Wood}
 use Rattle.model.proofs.Way.{wayLength, wayLength-parent, Climbed, climb-start, climb-entry, climb-next, climb-end}
 use Rattle.event.specs.Change.{steppedBy, keptAfter}

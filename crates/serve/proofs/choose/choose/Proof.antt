@@ -2,8 +2,7 @@
 -- in Looking).
 use native.Mathlib.Omega.{arith}
 use borrow.Author.Needs.{needs}
-use Prim.Native.Nat.{ℕ, _+_, _-_, _<_}
-use mathlib.Core.Path.{_≡_}
+use Prim.Native.Nat.{_+_, _-_, _<_}
 use lib.IntN.{pos}
 use Rattle.model.specs.Yard.{Yard, size, demand}
 use Rattle.serve.specs.Serving.{Describes, Lowest, NextBeyond}

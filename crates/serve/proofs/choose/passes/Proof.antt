@@ -1,7 +1,5 @@
 -- `serve::choose::passes` meets its contract: each branch is a side of the test, on the demands as their 16 bits give them back.
-use mathlib.Core.Path.{_≡_, refl, ap}
-use lib.IntN.{ℤ}
-use lib.Signed.{ltZ}
+use mathlib.Core.Path.{refl}
 use mir.Syntax.{w16}
 use mir.ValLaws.{toZ-ofZ}
 use Rattle.serve.proofs.choose.passes.Statement.{statement}
