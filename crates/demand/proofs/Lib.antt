@@ -3,3 +3,4 @@ pub mod Numbers
 pub mod Lists
 pub mod Partial
 pub mod Answers
+pub mod Refused

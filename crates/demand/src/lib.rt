@@ -1,4 +1,5 @@
 // Demands (accounts) in code.
 pub mod call;
 pub mod fill;
+pub mod matched;
 pub mod signed;

@@ -1,18 +1,11 @@
--- The demands at the front of a list, and the pebbles that leave a node where each edge is crossed as often as the demand of its lower node says.
+-- The pebbles that leave a node where each edge is crossed as often as the demand of its lower node says.
 use mathlib.Core.Path.{_≡_}
 use mathlib.Core.List.{List}
-use mathlib.Core.Option.{none}
 use Prim.Native.Nat.{ℕ, zero, suc, _-_, _*_, _<_}
-use lib.ListN.{length, getD, take}
+use lib.ListN.{length, getD}
 use lib.Dec.{eqb}
 use lib.IntN.{ℤ, pos, negsuc, natAbs}
-use Rattle.model.specs.Yard.{Yard, size, up, one, sum, entry}
-use Rattle.model.specs.Judge.{matchedFault}
-use Rattle.model.specs.Calls.Demands.{demandsOf}
-
--- of a yard that refusals 1 to 7 do not meet
-abbrev pub Told : Yard → List ℤ → Type 0
-Told y list = matchedFault y ≡ none → take (size y) list ≡ demandsOf y
+use Rattle.model.specs.Yard.{up, one, sum, entry}
 
 -- the node from which pebbles cross the edge of v, whose parent is p, by the demand z: v if it is below 0, p if it is above; or else `other`
 unfoldable pub sourceOr : ℕ → ℤ → ℕ → ℕ → ℕ

@@ -3,7 +3,7 @@ ghost use mathlib.Core.Path.{_≡_};
 ghost use Rattle.model.specs.Given.{given};
 ghost use Rattle.model.specs.Calls.Demands.{boundAnswer, longestAnswer};
 ghost use Rattle.model.specs.Paper.{paperCounted, paperMeasured};
-use crate::matched::matched_demands;
+use demand::matched::matched_demands;
 use demand::signed::sizes;
 use model::Counted;
 use model::Done;

@@ -8,7 +8,7 @@ ghost use Rattle.model.specs.Given.{given, was};
 ghost use Rattle.model.specs.Calls.Demands.{displacedAnswer};
 ghost use Rattle.model.specs.Paper.{paperCounted};
 ghost use Rattle.figures.specs.Leaving.{sourceOr, Staying};
-use crate::matched::matched_demands;
+use demand::matched::matched_demands;
 use model::Counted;
 use model::Done;
 

@@ -3,8 +3,8 @@
 -- pebbles too few. With k pebbles to a node all of that is k times as much.
 use mathlib.Core.Path.{_≡_, refl, sym, ap, _∙_}
 use mathlib.Core.Logic.{_↔_}
-use mathlib.Core.Bool.{Bool, true, false, _&&_, _||_, or-true}
-use mathlib.Core.List.{List, [], _∷_, map}
+use mathlib.Core.Bool.{Bool, true, false, _||_, or-true}
+use mathlib.Core.List.{List, map}
 use mathlib.Core.Option.{Option, none, some}
 use Prim.Native.Nat.{ℕ, zero, suc, _+_, _-_, _*_, _/_, _≤_, _<_, min, max}
 use native.Mathlib.Nat.{mul-sub, mul-le-mul-left, div-mul-le-self, lt-div-mul-add, div-eq-of-lt-le}
@@ -13,7 +13,7 @@ use native.Mathlib.Decide.{ℕ-discrete, decLe}
 use lib.ListN.{length}
 use lib.Dec.{leb, ltb, eqb, leb·zero}
 use borrow.Author.Tests.{leb-true, leb-false, ltb-true, ltb-false, lt-ltb, le-ltb, le-leb, lt-leb, eq-eqb, ne-eqb}
-use Rattle.model.specs.Yard.{Yard, yardOf, size, maxSize, up, pebble, target, one, sum, below, roots, root, climbs, inside, subtotal, pebblesIn, targetsIn, imbalance, shortest, Matched}
+use Rattle.model.specs.Yard.{Yard, yardOf, size, maxSize, up, pebble, target, one, sum, below, root, climbs, inside, subtotal, pebblesIn, targetsIn, imbalance, shortest, Matched}
 use Rattle.model.specs.Judge.{Fault, atLowest, shapeTests, Tree, matchedFault}
 use Rattle.model.specs.Plan.{plan}
 use Rattle.model.specs.Calls.Answers.{answered, answer, range}

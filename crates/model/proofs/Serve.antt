@@ -6,6 +6,7 @@ use mathlib.Core.Bool.{Bool, true, false, not, cond, _&&_, and-true, and-false, 
 use mathlib.Core.List.{List, [], _∷_, _++_}
 use Prim.Native.Nat.{ℕ, zero, suc, _+_, _*_, _≤_, _<_}
 use native.Mathlib.Omega.{arith}
+use native.Mathlib.Decide.{ℕ-discrete}
 use lib.ListN.{length, length-append}
 use lib.Dec.{eqb}
 use borrow.Author.Tests.{ltb-true, ltb-false, leb-true, leb-false, eq-eqb, ne-eqb, not-true, not-false}
@@ -13,7 +14,7 @@ use Rattle.model.specs.Yard.{Yard, size, parent, pebble, capacity, full,
 use Rattle.model.specs.Judge.{Tree}
 use Rattle.model.specs.Push.{Move, shifted, moved, after, run}
 use Rattle.model.specs.Plan.{Rule, inject, extract}
-use Rattle.model.proofs.Trees.{Child, parent-outside, child-off-root, outside-child, outside-other}
+use Rattle.model.proofs.Trees.{Child, parent-outside, child-off-root, outside-child, outside-sibling, outside-other}
 use Rattle.model.proofs.Judged.{facts, wood}
 use Rattle.model.proofs.Demands.{overChildren, weight, weight-child, weight-pos, parts-children}
 use Rattle.model.proofs.Step.{crossing, need, Step, legal-step, moved-pebble, pebblesIn-node, pebblesIn-other}
@@ -116,6 +117,18 @@ module _ (y : Yard) (t : Tree y) (b : Bool) (v c : ℕ) (ms : List Move) (u : Du
       go : (b : Bool) → pebble (run y ms) v + one b ≡ pebble y v + one (not b) → Able (run y ms) (not b) v
       go true e = omega (arith, facts y t .pebble-le v (u .lt))
       go false e = omega arith
+
+  -- v and its siblings need as much as before
+  pub need-behind : {q w : ℕ} → Child (y .parents) q v → Child (y .parents) q w → need (run y ms) b w ≡ need y b w
+  need-behind {q} {w} own j = same b (p .beyond w (j .lt) (outside (ℕ-discrete w v)))
+    where
+      outside : Dec (w ≡ v) → inside (y .parents) c w ≡ false
+      outside (yes e) = rw e v-outside
+      outside (no d) = outside-child (wood y t) v c w k (j .lt) (outside-sibling (wood y t) q v w own j d)
+
+      same : (b : Bool) → pebblesIn (run y ms) w ≡ pebblesIn y w → need (run y ms) b w ≡ need y b w
+      same true e = rw e
+      same false e = rw e
 
   -- and then one push over that of v
   shift-two : Shift y b v (ms ++ (crossing (y .parents) b v ∷ []))

@@ -2,16 +2,16 @@
 use mathlib.Core.Path.{_≡_, sym, ap, _∙_}
 use mathlib.Core.Logic.{_≢_}
 use mathlib.Core.Bool.{Bool, not, _&&_, and-eq-true-iff}
-use mathlib.Core.List.{List, [], _∷_, _++_}
+use mathlib.Core.List.{List, [], _∷_}
 use mathlib.Core.Option.{Option, none, some}
 use Prim.Native.Nat.{ℕ, _+_, _≤_, _<_}
 use native.Mathlib.Omega.{arith}
 use lib.ListN.{length, getD}
 use lib.Dec.{leb, ltb, eqb, leb·zero}
-use borrow.Author.Tests.{ltb-true, leb-true, eqb-true, lt-ltb, le-leb, lt-leb, leb-false, eq-eqb, ne-eqb}
+use borrow.Author.Tests.{ltb-true, leb-true, eqb-true, lt-ltb, le-leb, lt-leb, eq-eqb, ne-eqb}
 use Rattle.model.specs.Yard.{Yard, yardOf, maxSize, up, below, climbs, roots, headOr}
 use Rattle.model.specs.Judge.{Fault, fault, firstOf, sizeFault, rootFault, lengthTests, entryTests, listTests, shapeTests, judge}
-use Rattle.model.proofs.Basics.{first-refused, first-passed, below-none, none-all, unless-none, atLowest-none}
+use Rattle.model.proofs.Basics.{first-refused, first-passed, none-all, unless-none}
 use Rattle.model.proofs.Found.{lowest-fault, lowest-none, lowest-is, below-rest, below-cong}
 
 -- 1 and 2

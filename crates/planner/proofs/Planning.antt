@@ -1,64 +1,92 @@
 -- What planning starts from: the demands and pebbles of the yard, its length, and an even root.
 use mathlib.Core.Path.{_≡_, refl, sym, ap, _∙_}
-use mathlib.Core.List.{List, _++_, map}
+use mathlib.Core.Logic.{_≢_}
+use mathlib.Core.Bool.{Bool, true, false}
+use mathlib.Core.List.{List}
 use Prim.Native.Nat.{ℕ, _+_, _*_, _/_, _≤_, _<_}
-use native.Mathlib.Nat.{zero-add, le-div-iff-mul-le, div-lt-iff-lt-mul}
+use native.Mathlib.Nat.{le-div-iff-mul-le, div-lt-iff-lt-mul}
 use native.Mathlib.Omega.{arith}
 use native.Mathlib.Decide.{ℕ-discrete, decLt}
-use lib.ListN.{length, getD, take, set, length-set, List·getD-append, List·getD-eq-default}
+use lib.ListN.{length, getD, take, set, length-set, List·getD-eq-default}
 use lib.Seq.{getD-set-same, getD-set-other, getD-take, length-take-le}
 use lib.IntN.{ℤ, pos, natAbs}
 use borrow.Author.Tests.{lt-leb}
 use mathlib.Core.Option.{none}
-use Rattle.model.specs.Yard.{Yard, yardOf, size, sum, root, demand, imbalance, shortest, Matched}
+use Rattle.model.specs.Yard.{Yard, size, sum, root, imbalance, shortest, Matched}
 use Rattle.model.specs.Judge.{row, Tree}
 use Rattle.model.specs.Plan.{plan}
-use Rattle.model.specs.Calls.Answers.{refused, range, overwrite}
+use Rattle.model.specs.Calls.Answers.{refused, overwrite}
+use Rattle.model.specs.Calls.Demands.{demandsOf}
 use Rattle.model.specs.Calls.Plans.{bytes, planFault, planAnswer, planList}
 use Rattle.model.proofs.Sums.{sum-cong}
 use Rattle.model.proofs.Judged.{facts, wood}
 use Rattle.model.proofs.Demands.{root-even, weight-le}
 use Rattle.model.proofs.Signed.{demand-size, demand-range}
 use Rattle.model.proofs.Balance.{plan-only}
+use Rattle.model.proofs.Equation2.{demands-entry}
 use Rattle.model.proofs.Calls.{totals-none, plan-none}
 use Rattle.model.proofs.Demand3.{plan-length}
-use Rattle.model.proofs.Ranges.{length-range, getD-range}
-use Rattle.serve.specs.Serving.{Tables, Kept}
-use Rattle.planner.specs.Balancing.{AskedEven, Balanced}
+use Rattle.serve.specs.Serving.{Tables, lastAt, Kept}
+use Rattle.planner.specs.Balancing.{AskedEven, Balanced, Placed}
 
--- placing the pebbles of the nodes below v, 256 entries behind the demands
-pub record Placed (pebbles : List ℕ) (s₀ s : List ℤ) (v : ℕ) : Type 0 where
-  pub long : length s ≡ 512
-  pub low : (w : ℕ) → w < 256 → getD s w (pos 0) ≡ getD s₀ w (pos 0)
-  pub high : (w : ℕ) → w < v → getD s (256 + w) (pos 0) ≡ pos (getD pebbles w 0)
+pub place-none : (pebbles : List ℕ) (s : List ℤ) → length s ≡ 1024 → Placed pebbles s s 0
+place-none pebbles s e = record { long = e; low = λ w l. refl; high = λ w l. absurd (omega arith); lasts = λ b w l. absurd (omega arith) }
 
-pub place-none : (pebbles : List ℕ) (s : List ℤ) → length s ≡ 512 → Placed pebbles s s 0
-place-none pebbles s e = record { long = e; low = λ w l. refl; high = λ w l. absurd (omega arith) }
+-- writing at a place from 256 on
+module _ (s : List ℤ) (e : length s ≡ 1024) (v : ℕ) (l : v < 256) (p q r : ℤ) where
+  abbrev marked : List ℤ
+  marked = set s (256 + v) p
 
-pub place-next : (pebbles : List ℕ) (s₀ s : List ℤ) (v : ℕ) (k : ℤ) → v < 256 → k ≡ pos (getD pebbles v 0) → Placed pebbles s₀ s v → Placed pebbles s₀ (set s (256 + v) k) (v + 1)
-place-next pebbles s₀ s v k l e h = record {
-  long = length-set s (256 + v) k ∙ h .long;
-  low = λ w m. getD-set-other s (256 + v) w k (pos 0) (omega arith) ∙ h .low w m;
+  abbrev filled : List ℤ
+  filled = set marked (512 + v) q
+
+  abbrev written : List ℤ
+  written = set filled (768 + v) r
+
+  elsewhere : (i : ℕ) → i ≢ 256 + v → i ≢ 512 + v → i ≢ 768 + v → getD written i (pos 0) ≡ getD s i (pos 0)
+  elsewhere i a b c = getD-set-other filled (768 + v) i r (pos 0) c ∙ getD-set-other marked (512 + v) i q (pos 0) b ∙ getD-set-other s (256 + v) i p (pos 0) a
+
+  at-mark : getD written (256 + v) (pos 0) ≡ p
+  at-mark = getD-set-other filled (768 + v) (256 + v) r (pos 0) (omega arith) ∙ getD-set-other marked (512 + v) (256 + v) q (pos 0) (omega arith) ∙ getD-set-same s (256 + v) p (pos 0) (omega (arith, e))
+
+  at-filled : getD written (512 + v) (pos 0) ≡ q
+  at-filled = getD-set-other filled (768 + v) (512 + v) r (pos 0) (omega arith) ∙ getD-set-same marked (512 + v) q (pos 0) (simp length-set (omega (arith, e)))
+
+  at-drawn : getD written (768 + v) (pos 0) ≡ r
+  at-drawn = getD-set-same filled (768 + v) r (pos 0) (simp length-set (omega (arith, e)))
+
+pub place-next : (pebbles : List ℕ) (s₀ s : List ℤ) (v : ℕ) (p q r : ℤ) → v < 256 → p ≡ pos (getD pebbles v 0) → q ≡ pos v → r ≡ pos v → Placed pebbles s₀ s v
+    → Placed pebbles s₀ (set (set (set s (256 + v) p) (512 + v) q) (768 + v) r) (v + 1)
+place-next pebbles s₀ s v p q r l e f g h = record {
+  long = simp length-set (h .long);
+  low = λ w m. other w (omega arith) (omega arith) (omega arith) ∙ h .low w m;
   high = λ w m. at w m (ℕ-discrete w v);
+  lasts = λ b w m. last b w m (ℕ-discrete w v);
 }
   where
-    at : (w : ℕ) → w < v + 1 → Dec (w ≡ v) → getD (set s (256 + v) k) (256 + w) (pos 0) ≡ pos (getD pebbles w 0)
-    at w m (yes q) = rw q (getD-set-same s (256 + v) k (pos 0) (omega (arith, h .long)) ∙ e)
-    at w m (no d) = getD-set-other s (256 + v) (256 + w) k (pos 0) (omega arith) ∙ h .high w (omega arith)
+    other : (i : ℕ) → i ≢ 256 + v → i ≢ 512 + v → i ≢ 768 + v → getD (set (set (set s (256 + v) p) (512 + v) q) (768 + v) r) i (pos 0) ≡ getD s i (pos 0)
+    other = elsewhere s (h .long) v l p q r
 
--- all placed on the demands of a tree
-pub placed-kept : (ps qs ts : List ℕ) → Tree (yardOf ps qs ts) → (front back s : List ℤ) → front ≡ map (demand (yardOf ps qs ts)) (range 0 (length ps)) → Placed qs (front ++ back) s (length ps) → Kept (yardOf ps qs ts) s
-placed-kept ps qs ts t front back s e h = record {
+    at : (w : ℕ) → w < v + 1 → Dec (w ≡ v) → getD (set (set (set s (256 + v) p) (512 + v) q) (768 + v) r) (256 + w) (pos 0) ≡ pos (getD pebbles w 0)
+    at w m (yes c) = rw c (at-mark s (h .long) v l p q r ∙ e)
+    at w m (no d) = other (256 + w) (omega arith) (omega arith) (omega arith) ∙ h .high w (omega arith)
+
+    last : (b : Bool) (w : ℕ) → w < v + 1 → Dec (w ≡ v) → getD (set (set (set s (256 + v) p) (512 + v) q) (768 + v) r) (lastAt b w) (pos 0) ≡ pos w
+    last true w m (yes c) = rw c (at-filled s (h .long) v l p q r ∙ f)
+    last false w m (yes c) = rw c (at-drawn s (h .long) v l p q r ∙ g)
+    last true w m (no d) = other (512 + w) (omega arith) (omega arith) (omega arith) ∙ h .lasts true w (omega arith)
+    last false w m (no d) = other (768 + w) (omega arith) (omega arith) (omega arith) ∙ h .lasts false w (omega arith)
+
+-- all placed behind the demands of a tree
+pub placed-kept : (y : Yard) → Tree y → (s₀ s : List ℤ) → take (size y) s₀ ≡ demandsOf y → Placed (y .pebbles) s₀ s (length (y .pebbles)) → Kept y s
+placed-kept y t s₀ s e h = record {
   long = h .long;
   demands = λ v l.
-      h .low v (omega (arith, facts (yardOf ps qs ts) t .few))
-      ∙ List·getD-append front back (pos 0) v (omega (arith, long))
-      ∙ ap (λ (xs : List ℤ). getD xs v (pos 0)) e ∙ getD-range (demand (yardOf ps qs ts)) (pos 0) 0 (length ps) v l ∙ ap (demand (yardOf ps qs ts)) (zero-add v);
-  pebbles = λ v l. h .high v l;
+      h .low v (omega (arith, facts y t .few))
+      ∙ sym (getD-take (size y) s₀ v (pos 0) l) ∙ ap (λ (xs : List ℤ). getD xs v (pos 0)) e ∙ demands-entry y v l;
+  pebbles = λ v l. h .high v (omega (arith, facts y t .pebbles-size));
+  lasts = λ b u l. record { node = u; is = h .lasts b u (omega (arith, facts y t .pebbles-size)); served = λ d. absurd (d refl) };
 }
-  where
-    long : length front ≡ length ps
-    long = ap length e ∙ length-range (demand (yardOf ps qs ts)) 0 (length ps)
 
 -- the state's demands, and their sizes summed: the shortest length
 module _ (y : Yard) (t : Tree y) (s : List ℤ) (k : Kept y s) where

@@ -1,14 +1,10 @@
 -- Demand 3 of a call that answers and leaves what the model says.
 use mathlib.Core.Path.{_≡_}
 use mathlib.Core.List.{List}
-use mathlib.Core.Option.{some}
 use Prim.Native.Nat.{ℕ}
-use lib.ListN.{length}
 use Rattle.model.specs.Yard.{Yard}
-use Rattle.model.specs.Judge.{Fault, matchedFault}
-use Rattle.model.specs.Calls.Answers.{Answer, refused}
+use Rattle.model.specs.Calls.Answers.{Answer}
 use Rattle.model.specs.Calls.Plans.{planAnswer, planList}
-use Rattle.model.proofs.Calls.{plan-matched}
 use Rattle.model.proofs.Demand3.{demand-3}
 use Rattle.model.specs.Demand3.{Demand3}
 
@@ -18,7 +14,3 @@ Promises y before after a = (a ≡ planAnswer y before) × ((after ≡ planList 
 
 pub promises : (y : Yard) (before after : List ℕ) (a : Answer ℕ) → a ≡ planAnswer y before → after ≡ planList y before → Promises y before after a
 promises y before after a e f = (e, (f, rw (e, f) (demand-3 y before)))
-
--- also where the yard has no plan
-pub promises-refused : (y : Yard) (before : List ℕ) (r : Fault) → matchedFault y ≡ some r → Promises y before before (refused r)
-promises-refused y before r e = let f = plan-matched y r e (length before) in promises y before before (refused r) (rw f) (rw f)

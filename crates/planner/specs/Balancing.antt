@@ -1,14 +1,18 @@
--- What balancing a node asks and gives, beside what the tables and the state hold.
+-- What balancing a node asks and gives, and what it starts from, beside what the tables and the state hold.
+use mathlib.Core.Path.{_≡_}
+use mathlib.Core.Logic.{_≢_}
+use mathlib.Core.Bool.{Bool}
 use mathlib.Core.List.{List, [], _∷_}
-use Prim.Native.Nat.{ℕ, _*_, _≤_, _<_}
-use lib.ListN.{length}
-use lib.IntN.{ℤ}
-use Rattle.model.specs.Yard.{Yard, size, shortest}
+use Prim.Native.Nat.{ℕ, _+_, _*_, _≤_, _<_}
+use lib.ListN.{length, getD}
+use lib.IntN.{ℤ, pos}
+use Rattle.model.specs.Yard.{Yard, size, held, shortest}
 use Rattle.model.specs.Push.{Move}
 use Rattle.model.specs.Plan.{choice}
 use Rattle.model.proofs.Demands.{weight}
+use Rattle.model.proofs.Step.{need}
 use Rattle.model.proofs.Balance.{Even, Settles, Balances}
-use Rattle.serve.specs.Serving.{Describes, Made}
+use Rattle.serve.specs.Serving.{lastAt, Describes, Made, Served}
 
 -- what balancing u asks, and its loop
 pub record AskedEven (y : Yard) (t : List ℕ) (s : List ℤ) (plan : List ℕ) (u height : ℕ) : Type 0 where
@@ -17,6 +21,16 @@ pub record AskedEven (y : Yard) (t : List ℕ) (s : List ℤ) (plan : List ℕ) 
   pub even : Even y u
   pub room : 2 * shortest y ≤ length plan
   pub high : weight (y .parents) u ≤ height
+
+-- what a turn of the loop at u asks: whether u holds a pebble says which way one goes
+pub record AskedTurn (b : Bool) (y : Yard) (t : List ℕ) (s : List ℤ) (plan : List ℕ) (u height : ℕ) : Type 0 where
+  pub asked : AskedEven y t s plan u height
+  pub sign : b ≡ held y u
+
+-- what it gives: no move, and all as before, where no child is chosen; else the moves that serve the one that is
+pub record TurnTaken (b : Bool) (y : Yard) (u : ℕ) (s₀ s : List ℤ) (before after : List ℕ) (count : ℕ) : Type 0 where
+  pub none : count ≡ 0 → (u ≡ choice (need y b) y u) × (s ≡ s₀) × (after ≡ before)
+  pub some : count ≢ 0 → (choice (need y b) y u ≢ u) × Served b y (choice (need y b) y u) s before after count
 
 -- what the loop at u gives, and what balancing u gives
 pub record Settled (y : Yard) (u : ℕ) (s : List ℤ) (before after : List ℕ) (count : ℕ) : Type 0 where
@@ -28,3 +42,10 @@ pub record Balanced (y : Yard) (u : ℕ) (s : List ℤ) (before after : List ℕ
   pub moves : List Move
   pub balances : Balances choice y (u ∷ []) moves
   pub made : Made y moves s before after count
+
+-- what is known of the nodes below v, placed behind the demands: the pebbles, and for each sign the node itself
+pub record Placed (pebbles : List ℕ) (s₀ s : List ℤ) (v : ℕ) : Type 0 where
+  pub long : length s ≡ 1024
+  pub low : (w : ℕ) → w < 256 → getD s w (pos 0) ≡ getD s₀ w (pos 0)
+  pub high : (w : ℕ) → w < v → getD s (256 + w) (pos 0) ≡ pos (getD pebbles w 0)
+  pub lasts : (b : Bool) (w : ℕ) → w < v → getD s (lastAt b w) (pos 0) ≡ pos w

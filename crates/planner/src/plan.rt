@@ -1,31 +1,31 @@
 // The planner's call.
 ghost use mathlib.Core.Path.{_≡_};
-ghost use Rattle.model.specs.Yard.{Matched};
-ghost use Rattle.model.specs.Given.{given, handed, was, became};
-ghost use Rattle.model.specs.Judge.{Tree};
+ghost use Rattle.model.specs.Given.{given, was, became};
 ghost use Rattle.model.specs.Calls.Plans.{planAnswer, planList};
 ghost use Rattle.model.specs.Paper.{paperCounted};
 ghost use Rattle.model.specs.Demand3.{Demand3};
 use crate::balance::balance_subtrees;
-use crate::state::write_state;
+use crate::state::place;
+use demand::matched::matched_demands;
 use demand::signed::sizes;
-use judge::totals::test_matched;
 use lists::find::first_own;
 use model::Counted;
 use model::Done;
 use model::Refusal;
 use serve::tree::tables;
 
-// The plan of a tree with as many pebbles as targets. Its length is worked out from the demands before anything is written: refusal 8 with it as
-// place if the list is shorter.
-fn plan_matched(parents: &[u8], pebbles: &[u8], targets: &[u8], plan: &mut [u8]) -> Counted
-    requires { ⌜ Tree (handed parents pebbles targets) × Matched (handed parents pebbles targets) ⌝ }
+// The plan, or the refusal. Its length is worked out from the demands before anything is written: refusal 8 with it as place if the list is shorter.
+fn plan_sheet(parents: &[u8], pebbles: &[u8], targets: &[u8], plan: &mut [u8]) -> Counted
     ensures { λ r. ⌜ paperCounted r ≡ planAnswer (given parents pebbles targets) (was plan) ⌝ }
     ensures { λ r. ⌜ became plan ≡ planList (given parents pebbles targets) (was plan) ⌝ }
 {
+    let mut s = [0i16; 1024];
+    let tested = matched_demands(parents, pebbles, targets, &mut s);
+    if let Done::Refused(r) = tested {
+        return Counted::Refused(r);
+    }
     let n = parents.len();
-    let mut s = [0i16; 512];
-    write_state(parents, pebbles, targets, &mut s);
+    place(pebbles, &mut s);
     let length = sizes(&s[..n]);
     if plan.len() / 2 < length {
         return Counted::Refused(Refusal::ListTooShort(length));
@@ -43,9 +43,5 @@ pub fn plan(parents: &[u8], pebbles: &[u8], targets: &[u8], list: &mut [u8]) -> 
     ensures { λ r. ⌜ became list ≡ planList (given parents pebbles targets) (was list) ⌝ }
     ensures { λ r. ⌜ Demand3 (given parents pebbles targets) (was list) (paperCounted r) (became list) ⌝ }
 {
-    let tested = test_matched(parents, pebbles, targets);
-    if let Done::Refused(r) = tested {
-        return Counted::Refused(r);
-    }
-    plan_matched(parents, pebbles, targets, list)
+    plan_sheet(parents, pebbles, targets, list)
 }

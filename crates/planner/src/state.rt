@@ -1,21 +1,20 @@
-// The state that planning starts from: demands and pebbles.
+// The state that planning starts from, behind the demands.
+ghost use Prim.Native.Nat.{_≤_};
 ghost use mathlib.Core.Path.{_≡_};
 ghost use lib.ListN.{length};
-ghost use Rattle.model.specs.Given.{given, handed, became};
-ghost use Rattle.model.specs.Judge.{Tree};
-ghost use Rattle.serve.specs.Serving.{Kept};
-use demand::fill::fill;
+ghost use Rattle.model.specs.Given.{was, became};
+ghost use Rattle.planner.specs.Balancing.{Placed};
 
-// Writes the demands of a tree's nodes, and 256 entries behind them their pebbles.
-pub fn write_state(parents: &[u8], pebbles: &[u8], targets: &[u8], s: &mut [i16])
-    requires { ⌜ Tree (handed parents pebbles targets) × (length (now s) ≡ 512) ⌝ }
-    ensures { λ _. ⌜ Kept (given parents pebbles targets) (became s) ⌝ }
+// Writes the pebbles 256 entries behind the demands, and behind those twice each node itself, as none of its children was served.
+pub fn place(pebbles: &[u8], s: &mut [i16])
+    requires { ⌜ (length (now pebbles) ≤ 256) × (length (now s) ≡ 1024) ⌝ }
+    ensures { λ _. ⌜ Placed (was pebbles) (was s) (became s) (length (was pebbles)) ⌝ }
 {
-    let n = parents.len();
-    fill(parents, pebbles, targets, &mut s[..n]);
     let mut v = 0;
-    while v < n {
+    while v < pebbles.len() {
         s[256 + v] = pebbles[v] as i16;
+        s[512 + v] = v as i16;
+        s[768 + v] = v as i16;
         v += 1;
     }
 }

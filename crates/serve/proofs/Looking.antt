@@ -1,30 +1,28 @@
 -- Looking for the child that is served, by scans of u's children in rising number: from each that needs more than those before it on to the next, or on from
 -- the child that was served last.
-use mathlib.Core.Path.{_≡_, refl, sym, _∙_}
+use mathlib.Core.Path.{_≡_, refl, sym, ap, subst, _∙_}
 use mathlib.Core.Logic.{_≢_}
 use mathlib.Core.Bool.{Bool, true, false, not, cond, false≢true}
 use mathlib.Core.List.{List}
-use Prim.Native.Nat.{ℕ, suc, _+_, _≤_, _<_}
+use Prim.Native.Nat.{ℕ, zero, suc, _+_, _-_, _≤_, _<_}
 use native.Mathlib.Omega.{arith}
 use native.Mathlib.Decide.{ℕ-discrete, decLt}
 use lib.ListN.{length, getD}
-use lib.Dec.{ltb, leb·suc-suc}
-use lib.IntN.{ℤ, pos, negsuc}
+use lib.Dec.{ltb, eqb, leb·suc-suc}
+use lib.IntN.{ℤ, pos, negsuc, natAbs}
 use mir.Syntax.{w16}
 use mir.Val.{toZ, ofZ}
-use borrow.Author.Tests.{lt-ltb, le-ltb, ltb-true, ltb-false, le-leb}
-use Rattle.model.specs.Yard.{Yard, size, demand}
-use Rattle.model.specs.Judge.{Tree}
-use Rattle.model.specs.Push.{Move, run}
-use Rattle.model.specs.Plan.{choice}
+use borrow.Author.Tests.{lt-ltb, le-ltb, ltb-true, ltb-false, le-leb, eq-eqb, ne-eqb}
+use Rattle.model.specs.Yard.{Yard, size, one, parent, pebblesIn, demand}
+use Rattle.model.specs.Push.{Move, moved}
+use Rattle.model.specs.Plan.{neediestChild, choice}
 use Rattle.model.proofs.Basics.{below-none}
 use Rattle.model.proofs.Trees.{Child, child-is}
 use Rattle.model.proofs.Judged.{facts}
-use Rattle.model.proofs.Signed.{above0, below0, demand-parts, demand-range}
-use Rattle.model.proofs.Step.{need}
-use Rattle.model.proofs.Shortest.{Good, keeps}
+use Rattle.model.proofs.Signed.{nextℤ, above0, below0, demand-parts, demand-range}
+use Rattle.model.proofs.Step.{need, Step, pebblesIn-other, pebblesIn-node}
 use Rattle.model.proofs.Choice.{Neediest, neediest-is, neediest-none}
-use Rattle.serve.specs.Serving.{isChildFrom, Lowest, Describes, beyond, NextBeyond, LastServed}
+use Rattle.serve.specs.Serving.{isChildFrom, Lowest, LastServed, lastAt, Describes, beyond, NextBeyond}
 use Rattle.serve.proofs.Numbers.{small-back}
 use Rattle.serve.proofs.Siblings.{none-from, none-between, child-from, next-is}
 
@@ -81,13 +79,6 @@ module _ {ps : List ℕ} {u low c : ℕ} (h : Lowest ps u low c) {P : ℕ → Ty
         go (yes e) = rw e x
         go (no e) = passed-before v k (omega arith)
 
--- a demand lies beyond that of a node which is not of the other sign exactly if more is needed, and beyond 0 if something is
-beyond-need : (y : Yard) (b : Bool) (v r : ℕ) → need y (not b) r ≡ 0 → beyond b (demand y v) (demand y r) ≡ ltb (need y b r) (need y b v)
-beyond-need y b v r e = rw (← need-sized y b r, ← need-sized y b v) (beyond-sized b (demand y v) (demand y r) (need-sized y (not b) r ∙ e))
-
-beyond-zero : (y : Yard) (b : Bool) (v : ℕ) → beyond b (demand y v) (pos 0) ≡ ltb 0 (need y b v)
-beyond-zero y b v = beyond-sized b (demand y v) (pos 0) (sized-zero (not b)) ∙ rw (sized-zero b, need-sized y b v)
-
 -- the scan from number low on: no child passed lies beyond
 pub record Scan (b : Bool) (y : Yard) (u low : ℕ) (most : ℤ) (c : ℕ) : Type 0 where
   pub at : ℕ
@@ -130,84 +121,189 @@ pub record Lead (b : Bool) (y : Yard) (u r : ℕ) : Type 0 where
   pub needs : 0 < need y b r
   pub first : (v : ℕ) → Child (y .parents) u v → v < r → need y b v < need y b r
 
-module _ {b : Bool} {y : Yard} {u r : ℕ} where
-  module _ (n : NextBeyond b y u 0 (pos 0) r) where
-    none-before : (v : ℕ) → Child (y .parents) u v → (r ≢ u → v < r) → need y b v ≤ 0
-    none-before v k m = ltb-false 0 (need y b v) (sym (beyond-zero y b v) ∙ n .passed v k (omega arith) m)
+-- from each such child on to the next: r is the last so far, or u itself before the first, and of the children passed, those below number `at`, none needs more
+pub record Led (b : Bool) (y : Yard) (u r from : ℕ) (most : ℤ) : Type 0 where
+  pub at : ℕ
+  pub lowest : Lowest (y .parents) u at from
+  pub side : sized (not b) most ≡ 0
+  pub passed : (v : ℕ) → Child (y .parents) u v → v < at → need y b v ≤ sized b most
+  pub none : r ≡ u → sized b most ≡ 0
+  pub lead : r ≢ u → Lead b y u r × (r < at) × (need y b r ≡ sized b most)
 
-    pub lead-first : r ≢ u → Lead b y u r
-    lead-first d =
-        let f = n .found d in
-        let m = ltb-true 0 (need y b r) (sym (beyond-zero y b r) ∙ f .2) in
-        record { child = f .0; needs = m; first = λ v k l. omega (arith, none-before v k (λ _. l), m) }
+-- what falls with each of them
+abbrev pub left : ℕ → ℕ → ℕ
+left u r = cond (eqb r u) 257 (256 - r)
 
-    pub lead-none : r ≡ u → u ≡ choice (need y b) y u
+module _ {b : Bool} {y : Yard} {u : ℕ} where
+  pub led-first : {from : ℕ} → Lowest (y .parents) u 0 from → Led b y u u from (pos 0)
+  led-first h = record { at = 0; lowest = h; side = sized-zero (not b); passed = λ v k l. absurd (omega arith); none = λ _. sized-zero b; lead = λ d. absurd (d refl) }
+
+  module _ {r from c : ℕ} {most : ℤ} (h : Led b y u r from most) (n : NextBeyond b y u (h .at) most c) where
+    lies : (v : ℕ) → beyond b (demand y v) most ≡ ltb (sized b most) (need y b v)
+    lies v = beyond-sized b (demand y v) most (h .side) ∙ rw (need-sized y b v)
+
+    no-record : (v : ℕ) → Child (y .parents) u v → (c ≢ u → v < c) → need y b v ≤ sized b most
+    no-record v k m = go (decLt v (h .at))
+      where
+        go : Dec (v < h .at) → need y b v ≤ sized b most
+        go (yes l) = h .passed v k l
+        go (no l) = ltb-false (sized b most) (need y b v) (sym (lies v) ∙ n .passed v k (omega arith) m)
+
+    pub led-last : c ≡ u → r ≡ choice (need y b) y u
     unfolding choice
-    lead-none q = neediest-none (need y b) y u (λ v k. omega (arith, none-before v k (λ d. absurd (d q))))
+    led-last q = go (ℕ-discrete r u)
+      where
+        all : (v : ℕ) → Child (y .parents) u v → need y b v ≤ sized b most
+        all v k = no-record v k (λ d. absurd (d q))
 
--- behind a child r of which no lower one needs more than it does, and which is not of the other sign
-module _ {b : Bool} {y : Yard} {u r c : ℕ} (side : need y (not b) r ≡ 0) (lower : (v : ℕ) → Child (y .parents) u v → v < r → need y b v ≤ need y b r) (n : NextBeyond b y u (r + 1) (demand y r) c) where
-  no-more : (v : ℕ) → Child (y .parents) u v → (c ≢ u → v < c) → need y b v ≤ need y b r
-  no-more v k m = go (decLt v r) (ℕ-discrete v r)
+        go : Dec (r ≡ u) → r ≡ neediestChild (need y b) y u
+        go (yes e) = e ∙ neediest-none (need y b) y u (λ v k. omega (arith, all v k, h .none e))
+        go (no d) = let f = h .lead d in neediest-is (need y b) y u record { needy = (f .0 .child, f .0 .needs); most = λ v k. omega (arith, all v k, f .2); first = f .0 .first }
+
+    module _ (d : c ≢ u) where
+      record-more : sized b most < need y b c
+      record-more = ltb-true (sized b most) (need y b c) (sym (lies c) ∙ n .found d .2)
+
+      pub led-next : {from′ : ℕ} → Lowest (y .parents) u (c + 1) from′ → Led b y u c from′ (demand y c)
+      led-next l = record {
+        at = c + 1;
+        lowest = l;
+        side = need-sized y (not b) c ∙ one-side y b c (omega (arith, record-more));
+        passed = λ v k g. at v k g (ℕ-discrete v c);
+        none = λ e. absurd (d e);
+        lead = λ _. (
+          record { child = n .found d .0; needs = omega (arith, record-more); first = λ v k g. omega (arith, no-record v k (λ _. g), record-more) },
+          omega arith,
+          sym (need-sized y b c),
+        );
+      }
+        where
+          at : (v : ℕ) → Child (y .parents) u v → v < c + 1 → Dec (v ≡ c) → need y b v ≤ sized b (demand y c)
+          at v k g (yes e) = rw (e, need-sized y b c) (omega arith)
+          at v k g (no e) = omega (arith, no-record v k (λ _. omega arith), record-more, need-sized y b c)
+
+      pub led-falls : c < 256 → left u c < left u r
+      led-falls l = rw (ne-eqb c u d) (go (ℕ-discrete r u))
+        where
+          go : Dec (r ≡ u) → 256 - c < left u r
+          go (yes e) = rw (eq-eqb r u e) (omega arith)
+          go (no e) = rw (ne-eqb r u e) (omega (arith, h .lead e .1, n .found d .1))
+
+-- one nearer to 0
+next-sized : (b : Bool) (d : ℤ) → sized (not b) d ≡ 0 → d ≢ pos 0 → (sized b d ≡ sized b (nextℤ b d) + 1) × (sized (not b) (nextℤ b d) ≡ 0)
+next-sized true (pos zero) h d = absurd (d refl)
+next-sized true (pos (suc n)) h d = omega arith
+next-sized true (negsuc n) h d = absurd (omega arith)
+next-sized false (pos zero) h d = absurd (d refl)
+next-sized false (pos (suc n)) h d = absurd (omega arith)
+next-sized false (negsuc zero) h d = omega arith
+next-sized false (negsuc (suc n)) h d = omega arith
+
+-- after the child l was served: the first behind it that needs more; else none needs more than l does, and the choice is the first that needs as much
+module _ {b : Bool} {y : Yard} {u l c : ℕ} (f : LastServed b y u l) (n : NextBeyond b y u (l + 1) (demand y l) c) where
+  more-than : (v : ℕ) → beyond b (demand y v) (demand y l) ≡ ltb (need y b l) (need y b v)
+  more-than v = rw (← need-sized y b l, ← need-sized y b v) (beyond-sized b (demand y v) (demand y l) (need-sized y (not b) l ∙ f .side))
+
+  no-more : (v : ℕ) → Child (y .parents) u v → (c ≢ u → v < c) → need y b v ≤ need y b l
+  no-more v k m = go (decLt v l) (ℕ-discrete v l)
     where
-      go : Dec (v < r) → Dec (v ≡ r) → need y b v ≤ need y b r
-      go (yes l) _ = lower v k l
+      go : Dec (v < l) → Dec (v ≡ l) → need y b v ≤ need y b l
+      go (yes g) _ = f .first v k g
       go (no _) (yes e) = rw e (omega arith)
-      go (no l) (no e) = ltb-false (need y b r) (need y b v) (sym (beyond-need y b v r side) ∙ n .passed v k (omega arith) m)
+      go (no g) (no e) = ltb-false (need y b l) (need y b v) (sym (more-than v) ∙ n .passed v k (omega arith) m)
 
-  more : c ≢ u → need y b r < need y b c
-  more d = ltb-true (need y b r) (need y b c) (sym (beyond-need y b c r side) ∙ n .found d .2)
-
-module _ {b : Bool} {y : Yard} {u r c : ℕ} (h : Lead b y u r) (n : NextBeyond b y u (r + 1) (demand y r) c) where
-  side : need y (not b) r ≡ 0
-  side = one-side y b r (h .needs)
-
-  lower : (v : ℕ) → Child (y .parents) u v → v < r → need y b v ≤ need y b r
-  lower v k l = omega (arith, h .first v k l)
-
-  pub lead-next : c ≢ u → Lead b y u c
-  lead-next d = record {
-    child = n .found d .0;
-    needs = omega (arith, more side lower n d);
-    first = λ v k l. omega (arith, no-more side lower n v k (λ _. l), more side lower n d);
-  }
-
-  pub lead-last : c ≡ u → r ≡ choice (need y b) y u
+  pub last-next : c ≢ u → c ≡ choice (need y b) y u
   unfolding choice
-  lead-last q = neediest-is (need y b) y u record { needy = (h .child, h .needs); most = λ v k. no-more side lower n v k (λ d. absurd (d q)); first = h .first }
+  last-next d =
+      let m = ltb-true (need y b l) (need y b c) (sym (more-than c) ∙ n .found d .2) in
+      neediest-is (need y b) y u record {
+        needy = (n .found d .0, omega (arith, m));
+        most = λ v k. omega (arith, f .most v k, m);
+        first = λ v k g. omega (arith, no-more v k (λ _. g), m);
+      }
 
--- behind the child that was served last
-pub last-next : {b : Bool} {y : Yard} {u l c : ℕ} → LastServed b y u l → NextBeyond b y u (l + 1) (demand y l) c → c ≢ u → c ≡ choice (need y b) y u
-unfolding choice
-last-next {b} {y} {u} {l} {c} f n d =
-    let m = more (f .side) (f .first) n d in
-    neediest-is (need y b) y u record {
-      needy = (n .found d .0, omega (arith, m));
-      most = λ v k. omega (arith, f .most v k, m);
-      first = λ v k g. omega (arith, no-more (f .side) (f .first) n v k (λ _. g), m);
-    }
+  module _ (e : c ≡ u) where
+    none-more : (v : ℕ) → Child (y .parents) u v → need y b v ≤ need y b l
+    none-more v k = no-more v k (λ d. absurd (d e))
 
--- no demand grows by good moves: so a child that was chosen is the one served last, if it needs at most one less, and stays so while it needs as much
-module _ {y : Yard} {ms : List Move} (w : Tree y) (g : Good y ms) where
-  need-after : (b : Bool) (v : ℕ) → v < size y → need (run y ms) b v ≤ need y b v
-  need-after true v l = keeps y w ms g v l .0
-  need-after false v l = keeps y w ms g v l .1
+    pub last-none : demand y l ≡ pos 0 → u ≡ choice (need y b) y u
+    unfolding choice
+    last-none q = neediest-none (need y b) y u (λ v k. omega (arith, none-more v k, sym (need-sized y b l) ∙ ap (sized b) q ∙ sized-zero b))
 
-  module _ {b : Bool} {u c : ℕ} where
-    pub last-chosen : Neediest (need y b) y u c → need y b c ≤ need (run y ms) b c + 1 → LastServed b (run y ms) u c
-    last-chosen n m = record {
-      child = n .needy .0;
-      side = omega (arith, need-after (not b) c (n .needy .0 .lt), one-side y b c (n .needy .1));
-      most = λ v k. omega (arith, need-after b v (k .lt), n .most v k, m);
-      first = λ v k l. omega (arith, need-after b v (k .lt), n .first v k l, m);
-    }
+    module _ (q : demand y l ≢ pos 0) where
+      step : (sized b (demand y l) ≡ sized b (nextℤ b (demand y l)) + 1) × (sized (not b) (nextℤ b (demand y l)) ≡ 0)
+      step = next-sized b (demand y l) (need-sized y (not b) l ∙ f .side) q
 
-    pub last-after : LastServed b y u c → need y b c ≤ need (run y ms) b c → LastServed b (run y ms) u c
-    last-after f m = record {
+      as-much : (v : ℕ) → beyond b (demand y v) (nextℤ b (demand y l)) ≡ ltb (sized b (nextℤ b (demand y l))) (need y b v)
+      as-much v = rw (← need-sized y b v) (beyond-sized b (demand y v) (nextℤ b (demand y l)) (step .1))
+
+      level : need y b l ≡ sized b (nextℤ b (demand y l)) + 1
+      level = sym (need-sized y b l) ∙ step .0
+
+      pub last-round : {r : ℕ} → NextBeyond b y u 0 (nextℤ b (demand y l)) r → r ≡ choice (need y b) y u
+      unfolding choice
+      last-round {r} m = go (ℕ-discrete r u)
+        where
+          less : (v : ℕ) → Child (y .parents) u v → (r ≢ u → v < r) → need y b v < need y b l
+          less v k h = omega (arith, ltb-false (sized b (nextℤ b (demand y l))) (need y b v) (sym (as-much v) ∙ m .passed v k (omega arith) h), level)
+
+          go : Dec (r ≡ u) → r ≡ neediestChild (need y b) y u
+          go (yes h) = absurd (omega (arith, less l (f .child) (λ d. absurd (d h))))
+          go (no d) =
+              let k = ltb-true (sized b (nextℤ b (demand y l))) (need y b r) (sym (as-much r) ∙ m .found d .2) in
+              neediest-is (need y b) y u record {
+                needy = (m .found d .0, omega (arith, k));
+                most = λ v j. omega (arith, none-more v j, k, level);
+                first = λ v j g. omega (arith, less v j (λ _. g), k, level);
+              }
+
+-- a move over the edge of the child that is chosen: that is the one served last then; for other nodes, and for the other sign, the one served last stays
+module _ {y : Yard} {m : Move} (g : Step y m) (n : Neediest (need y (g .away)) y (parent y (g .node)) (g .node)) where
+  need-other : (b : Bool) (v : ℕ) → v ≢ g .node → need (moved y m) b v ≡ need y b v
+  need-other true v d = rw (pebblesIn-other y m g v d)
+  need-other false v d = rw (pebblesIn-other y m g v d)
+
+  need-node : (need y (g .away) (g .node) ≡ need (moved y m) (g .away) (g .node) + 1) × (need (moved y m) (not (g .away)) (g .node) ≡ 0)
+  need-node = go (g .away) (pebblesIn-node y m g) (n .needy .1)
+    where
+      go : (b : Bool) → pebblesIn (moved y m) (g .node) + one (not b) ≡ pebblesIn y (g .node) + one b → 0 < need y b (g .node)
+          → (need y b (g .node) ≡ need (moved y m) b (g .node) + 1) × (need (moved y m) (not b) (g .node) ≡ 0)
+      go true e h = omega arith
+      go false e h = omega arith
+
+  pub last-here : LastServed (g .away) (moved y m) (parent y (g .node)) (g .node)
+  last-here = record {
+    child = n .needy .0;
+    side = need-node .1;
+    most = λ v k. at v k (ℕ-discrete v (g .node));
+    first = λ v k l. omega (arith, need-other (g .away) v (λ e. absurd (omega arith)), n .first v k l, need-node .0);
+  }
+    where
+      at : (v : ℕ) → Child (y .parents) (parent y (g .node)) v → Dec (v ≡ g .node) → need (moved y m) (g .away) v ≤ need (moved y m) (g .away) (g .node) + 1
+      at v k (yes e) = rw e (omega arith)
+      at v k (no d) = omega (arith, need-other (g .away) v d, n .most v k, need-node .0)
+
+  module _ {b : Bool} {u c : ℕ} (apart : u ≡ parent y (g .node) → b ≡ not (g .away)) (f : LastServed b y u c) where
+    side-of : (a : Bool) → b ≡ not a → need y (not b) c ≡ need y a c
+    side-of true e = rw e
+    side-of false e = rw e
+
+    not-here : c ≢ g .node
+    not-here e = absurd (omega (arith, n .needy .1, rw e at (sym (side-of (g .away) (apart (sym (f .child .up) ∙ ap (parent y) e))) ∙ f .side)))
+
+    no-more-then : (v : ℕ) → Child (y .parents) u v → need (moved y m) b v ≤ need y b v
+    no-more-then v k = at (ℕ-discrete v (g .node))
+      where
+        at : Dec (v ≡ g .node) → need (moved y m) b v ≤ need y b v
+        at (yes e) = rw (apart (sym (k .up) ∙ ap (parent y) e), e) (omega (arith, need-node .1))
+        at (no d) = omega (arith, need-other b v d)
+
+    pub last-there : LastServed b (moved y m) u c
+    last-there = record {
       child = f .child;
-      side = omega (arith, need-after (not b) c (f .child .lt), f .side);
-      most = λ v k. omega (arith, need-after b v (k .lt), f .most v k, m);
-      first = λ v k l. omega (arith, need-after b v (k .lt), f .first v k l, m);
+      side = need-other (not b) c not-here ∙ f .side;
+      most = λ v k. omega (arith, no-more-then v k, need-other b c not-here, f .most v k);
+      first = λ v k l. omega (arith, no-more-then v k, need-other b c not-here, f .first v k l);
     }
 
 -- a node is below 256
@@ -216,5 +312,26 @@ module _ {y : Yard} {t : List ℕ} {s : List ℤ} {v : ℕ} (r : Describes y t s
   node-small = omega (arith, facts y (r .tree) .few)
 
   -- a demand is within −256 to 256, and so unchanged by a passage through 16 bits
+  pub in-range : natAbs (getD s v (pos 0)) ≤ 256
+  in-range = rw (r .kept .demands v l) (demand-range y (r .tree) v)
+
   pub demand-back : toZ w16 (ofZ w16 (getD s v (pos 0))) ≡ getD s v (pos 0)
-  demand-back = small-back (getD s v (pos 0)) (rw (r .kept .demands v l) (demand-range y (r .tree) v))
+  demand-back = small-back (getD s v (pos 0)) in-range
+
+  pub zero-demand : (ofZ w16 (getD s v (pos 0)) ≡ 0 → demand y v ≡ pos 0) × (demand y v ≡ pos 0 → ofZ w16 (getD s v (pos 0)) ≡ 0)
+  zero-demand = ((λ e. sym (r .kept .demands v l) ∙ sym demand-back ∙ ap (toZ w16) e), (λ e. ap (ofZ w16) (r .kept .demands v l ∙ e)))
+
+-- the entry for the child that was served last
+module _ {y : Yard} {t : List ℕ} {s : List ℤ} {u : ℕ} (b : Bool) (r : Describes y t s) (l : u < size y) where
+  pub last-entry : (c : ℕ) × (c < 256) × (getD s (lastAt b u) (pos 0) ≡ pos c)
+  last-entry = let k = r .kept .lasts b u l in (k .node, small (ℕ-discrete (k .node) u), k .is)
+    where
+      small : Dec (r .kept .lasts b u l .node ≡ u) → r .kept .lasts b u l .node < 256
+      small (yes e) = omega (arith, node-small r l)
+      small (no d) = node-small r (r .kept .lasts b u l .served d .child .lt)
+
+  pub last-read : {c : ℕ} → getD s (lastAt b u) (pos 0) ≡ pos c → c ≢ u → LastServed b y u c
+  last-read {c} e d =
+      let k = r .kept .lasts b u l in
+      let q : k .node ≡ c = ap natAbs (sym (k .is) ∙ e) in
+      subst (LastServed b y u) q (k .served (λ h. d (sym q ∙ h)))

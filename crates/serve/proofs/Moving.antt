@@ -2,6 +2,7 @@
 -- the moves before.
 use mathlib.Core.Path.{_≡_, refl, sym, ap, _∙_}
 use mathlib.Core.Logic.{_≢_}
+use mathlib.Core.Bool.{Bool, true, false, not}
 use mathlib.Core.List.{List, [], _∷_, _++_, append-assoc}
 use Prim.Native.Nat.{ℕ, _+_, _*_, _≤_, _<_}
 use native.Mathlib.Nat.{suc-add}
@@ -11,16 +12,18 @@ use lib.ListN.{length, getD, set, drop, length-set, length-append}
 use lib.Seq.{getD-set-same, getD-set-other}
 use borrow.Author.Tests.{eq-eqb, ne-eqb}
 use lib.IntN.{ℤ, pos}
-use Rattle.model.specs.Yard.{Yard, size, one, pebble, demand}
+use Rattle.model.specs.Yard.{Yard, size, one, parent, pebble, demand}
 use Rattle.model.specs.Push.{Move, push, moved, after, run}
 use Rattle.model.specs.Calls.Answers.{overwrite}
 use Rattle.model.specs.Calls.Plans.{bytes}
-use Rattle.model.proofs.Judged.{facts}
-use Rattle.model.proofs.Step.{Step, legal-step, ends, moved-pebble}
+use Rattle.model.proofs.Judged.{facts, wood}
+use Rattle.model.proofs.Step.{need, Step, legal-step, ends, moved-pebble}
 use Rattle.model.proofs.Runs.{after-append, run-one}
 use Rattle.model.proofs.Signed.{nextℤ, demand-node, demand-other}
+use Rattle.model.proofs.Choice.{Neediest}
 use Rattle.model.proofs.Calls.{length-bytes}
-use Rattle.serve.specs.Serving.{Kept, Made}
+use Rattle.serve.specs.Serving.{Last, lastAt, Kept, Made}
+use Rattle.serve.proofs.Looking.{last-here, last-there}
 
 -- bytes of two lists of moves
 pub bytes-append : (ms ns : List Move) → bytes (ms ++ ns) ≡ bytes ms ++ bytes ns
@@ -41,54 +44,109 @@ write-move : (ms : List Move) (plan : List ℕ) (a b : ℕ) → 2 * length ms + 
 unfolding bytes
 write-move ms plan a b h = rw (← (length-bytes ms), two-behind (bytes ms) plan a b (omega (arith, length-bytes ms)), bytes-append ms (push a b ∷ []), append-assoc, length-append (bytes ms) (a ∷ b ∷ []))
 
--- the state after a legal push: the demand of its node, and the two marks
-module _ (y : Yard) (m : Move) (g : Step y m) (s : List ℤ) (k : Kept y s) where
-  long : length s ≡ 512
-  long = k .long
+-- the places of the last children
+last-place : (b : Bool) (u : ℕ) → u < 256 → (512 ≤ lastAt b u) × (lastAt b u < 1024)
+last-place true u l = omega arith
+last-place false u l = omega arith
 
-  after-move : ℤ → List ℤ
-  after-move d = set (set (set s (g .node) d) (256 + m .from) (pos 0)) (256 + m .to) (pos 1)
+last-other : (b a : Bool) (u p : ℕ) → u < 256 → p < 256 → u ≢ p → lastAt b u ≢ lastAt a p
+last-other true true u p l h d e = d (omega arith)
+last-other true false u p l h d e = absurd (omega arith)
+last-other false true u p l h d e = absurd (omega arith)
+last-other false false u p l h d e = d (omega arith)
+
+-- the state after a legal push over the edge of the child that is chosen: the demand of its node, the child served last, and the two marks
+module _ (y : Yard) (m : Move) (g : Step y m) (n : Neediest (need y (g .away)) y (parent y (g .node)) (g .node)) (s : List ℤ) (k : Kept y s) (d : ℤ) (e : d ≡ nextℤ (g .away) (demand y (g .node))) where
+  long : length s ≡ 1024
+  long = k .long
 
   small : (v : ℕ) → v < size y → v < 256
   small v l = omega (arith, facts y (g .tree) .few)
 
-  kept-move : (d : ℤ) → d ≡ nextℤ (g .away) (demand y (g .node)) → Kept (moved y m) (set (set (set s (g .node) d) (256 + m .from) (pos 0)) (256 + m .to) (pos 1))
-  unfolding after-move
-  kept-move d e = record { long = simp length-set long; demands = λ v l. low v l ∙ at v l (ℕ-discrete v (g .node)); pebbles = λ v l. high v l (ℕ-discrete v (m .to)) (ℕ-discrete v (m .from)) }
+  up-small : parent y (g .node) < 256
+  up-small = small (parent y (g .node)) (wood y (g .tree) .parent-lt (g .node) (g .node-lt))
+
+  place : (512 ≤ lastAt (g .away) (parent y (g .node))) × (lastAt (g .away) (parent y (g .node)) < 1024)
+  place = last-place (g .away) (parent y (g .node)) up-small
+
+  abbrev after-demand : List ℤ
+  after-demand = set s (g .node) d
+
+  abbrev after-last : List ℤ
+  after-last = set after-demand (lastAt (g .away) (parent y (g .node))) (pos (g .node))
+
+  abbrev after-from : List ℤ
+  after-from = set after-last (256 + m .from) (pos 0)
+
+  abbrev after-move : List ℤ
+  after-move = set after-from (256 + m .to) (pos 1)
+
+  -- what is at other places than the marks
+  no-mark : (i : ℕ) → i ≢ 256 + m .from → i ≢ 256 + m .to → getD after-move i (pos 0) ≡ getD after-last i (pos 0)
+  no-mark i p q = getD-set-other after-from (256 + m .to) i (pos 1) (pos 0) q ∙ getD-set-other after-last (256 + m .from) i (pos 0) (pos 0) p
+
+  not-last : (i : ℕ) → i < 512 → getD after-last i (pos 0) ≡ getD after-demand i (pos 0)
+  not-last i l = getD-set-other after-demand (lastAt (g .away) (parent y (g .node))) i (pos (g .node)) (pos 0) (λ q. absurd (omega (arith, place)))
+
+  demand-at : (v : ℕ) → v < size y → Dec (v ≡ g .node) → getD after-demand v (pos 0) ≡ demand (moved y m) v
+  demand-at v l (yes q) = rw (q, getD-set-same s (g .node) d (pos 0) (omega (arith, long, small (g .node) (g .node-lt)))) (e ∙ sym (demand-node y m g))
+  demand-at v l (no q) = getD-set-other s (g .node) v d (pos 0) q ∙ k .demands v l ∙ sym (demand-other y m g v q)
+
+  mark-at : (v : ℕ) → v < size y → Dec (v ≡ m .to) → Dec (v ≡ m .from) → getD after-move (256 + v) (pos 0) ≡ pos (pebble (moved y m) v)
+  mark-at v l (yes q) _ =
+      let c : pebble (moved y m) v ≡ 1 = omega (arith, moved-pebble y m g v, g .room, ap (pebble y) q, ap one (eq-eqb v (m .to) q), ap one (ne-eqb v (m .from) (λ p. ends y m g .2 (sym p ∙ q)))) in
+      rw c (ap (λ (w : ℕ). getD after-move (256 + w) (pos 0)) q ∙ getD-set-same after-from (256 + m .to) (pos 1) (pos 0) (simp length-set (omega (arith, long, small (m .to) (ends y m g .1)))))
+  mark-at v l (no q) (yes p) =
+      let c : pebble (moved y m) v ≡ 0 = omega (arith, moved-pebble y m g v, facts y (g .tree) .pebble-le v l, ap one (ne-eqb v (m .to) q), ap one (eq-eqb v (m .from) p)) in
+      rw c (
+      getD-set-other after-from (256 + m .to) (256 + v) (pos 1) (pos 0) (omega arith)
+      ∙ ap (λ (w : ℕ). getD after-from (256 + w) (pos 0)) p ∙ getD-set-same after-last (256 + m .from) (pos 0) (pos 0) (simp length-set (omega (arith, long, small (m .from) (ends y m g .0))))
+      )
+  mark-at v l (no q) (no p) =
+      let c : pebble (moved y m) v ≡ pebble y v = omega (arith, moved-pebble y m g v, ap one (ne-eqb v (m .to) q), ap one (ne-eqb v (m .from) p)) in
+      rw c (
+      no-mark (256 + v) (omega arith) (omega arith) ∙ not-last (256 + v) (omega (arith, small v l))
+      ∙ getD-set-other s (g .node) (256 + v) d (pos 0) (omega (arith, small (g .node) (g .node-lt))) ∙ k .pebbles v l
+      )
+
+  -- the one served last, where it was chosen and elsewhere
+  last-new : (b : Bool) (u : ℕ) → b ≡ g .away → u ≡ parent y (g .node) → Last b (moved y m) u (getD after-last (lastAt b u) (pos 0))
+  last-new b u q p = rw (q, p) record {
+    node = g .node;
+    is = getD-set-same after-demand (lastAt (g .away) (parent y (g .node))) (pos (g .node)) (pos 0) (simp length-set (omega (arith, long, place)));
+    served = λ _. last-here g n;
+  }
+
+  last-old : (b : Bool) (u : ℕ) → u < size y → lastAt b u ≢ lastAt (g .away) (parent y (g .node)) → (u ≡ parent y (g .node) → b ≡ not (g .away)) → Last b (moved y m) u (getD after-last (lastAt b u) (pos 0))
+  last-old b u l p q =
+      let f = k .lasts b u l in
+      record {
+        node = f .node;
+        is =
+            getD-set-other after-demand (lastAt (g .away) (parent y (g .node))) (lastAt b u) (pos (g .node)) (pos 0) p
+            ∙ getD-set-other s (g .node) (lastAt b u) d (pos 0) (λ r. absurd (omega (arith, last-place b u (small u l), small (g .node) (g .node-lt)))) ∙ f .is;
+        served = λ o. last-there g n q (f .served o);
+      }
+
+  last-at : (b : Bool) (u : ℕ) → u < size y → Dec (u ≡ parent y (g .node)) → Last b (moved y m) u (getD after-last (lastAt b u) (pos 0))
+  last-at b u l (no q) = last-old b u l (last-other b (g .away) u (parent y (g .node)) (small u l) up-small q) (λ r. absurd (q r))
+  last-at b u l (yes q) = go b (g .away) refl refl
     where
-      n : ℕ
-      n = size y
+      go : (c a : Bool) → c ≡ b → a ≡ g .away → Last b (moved y m) u (getD after-last (lastAt b u) (pos 0))
+      go true true h i = last-new b u (sym h ∙ i) q
+      go false false h i = last-new b u (sym h ∙ i) q
+      go true false h i = last-old b u l (rw (← h, ← i) (λ r. absurd (omega (arith, small u l, up-small)))) (λ _. sym h ∙ ap not i)
+      go false true h i = last-old b u l (rw (← h, ← i) (λ r. absurd (omega (arith, small u l, up-small)))) (λ _. sym h ∙ ap not i)
 
-      low : (v : ℕ) → v < n → getD (after-move d) v (pos 0) ≡ getD (set s (g .node) d) v (pos 0)
-      low v l =
-          getD-set-other (set (set s (g .node) d) (256 + m .from) (pos 0)) (256 + m .to) v (pos 1) (pos 0) (omega (arith, small v l))
-          ∙ getD-set-other (set s (g .node) d) (256 + m .from) v (pos 0) (pos 0) (omega (arith, small v l))
-
-      at : (v : ℕ) → v < n → Dec (v ≡ g .node) → getD (set s (g .node) d) v (pos 0) ≡ demand (moved y m) v
-      at v l (yes q) = rw (q, getD-set-same s (g .node) d (pos 0) (omega (arith, long, small (g .node) (g .node-lt)))) (e ∙ sym (demand-node y m g))
-      at v l (no q) = getD-set-other s (g .node) v d (pos 0) q ∙ k .demands v l ∙ sym (demand-other y m g v q)
-
-      long-set : length (set (set s (g .node) d) (256 + m .from) (pos 0)) ≡ 512
-      long-set = simp length-set long
-
-      high : (v : ℕ) → v < n → Dec (v ≡ m .to) → Dec (v ≡ m .from) → getD (after-move d) (256 + v) (pos 0) ≡ pos (pebble (moved y m) v)
-      high v l (yes q) _ =
-          let c : pebble (moved y m) v ≡ 1 = omega (arith, moved-pebble y m g v, g .room, ap (pebble y) q, ap one (eq-eqb v (m .to) q), ap one (ne-eqb v (m .from) (λ p. ends y m g .2 (sym p ∙ q)))) in
-          rw c (ap (λ (w : ℕ). getD (after-move d) (256 + w) (pos 0)) q ∙ getD-set-same (set (set s (g .node) d) (256 + m .from) (pos 0)) (256 + m .to) (pos 1) (pos 0) (omega (arith, long-set, small (m .to) (ends y m g .1))))
-      high v l (no q) (yes p) =
-          let c : pebble (moved y m) v ≡ 0 = omega (arith, moved-pebble y m g v, facts y (g .tree) .pebble-le v l, ap one (ne-eqb v (m .to) q), ap one (eq-eqb v (m .from) p)) in
-          rw c (up-to v q ∙ ap (λ (w : ℕ). getD (set (set s (g .node) d) (256 + m .from) (pos 0)) (256 + w) (pos 0)) p ∙ getD-set-same (set s (g .node) d) (256 + m .from) (pos 0) (pos 0) (omega (arith, long, length-set s (g .node) d, small (m .from) (ends y m g .0))))
-        where
-          up-to : (v : ℕ) → v ≢ m .to → getD (after-move d) (256 + v) (pos 0) ≡ getD (set (set s (g .node) d) (256 + m .from) (pos 0)) (256 + v) (pos 0)
-          up-to v q = getD-set-other (set (set s (g .node) d) (256 + m .from) (pos 0)) (256 + m .to) (256 + v) (pos 1) (pos 0) (omega arith)
-      high v l (no q) (no p) =
-          let c : pebble (moved y m) v ≡ pebble y v = omega (arith, moved-pebble y m g v, ap one (ne-eqb v (m .to) q), ap one (ne-eqb v (m .from) p)) in
-          rw c (
-          getD-set-other (set (set s (g .node) d) (256 + m .from) (pos 0)) (256 + m .to) (256 + v) (pos 1) (pos 0) (omega arith)
-          ∙ getD-set-other (set s (g .node) d) (256 + m .from) (256 + v) (pos 0) (pos 0) (omega arith)
-          ∙ getD-set-other s (g .node) (256 + v) d (pos 0) (omega (arith, small (g .node) (g .node-lt)))
-          ∙ k .pebbles v l
-          )
+  kept-move : Kept (moved y m) after-move
+  kept-move = record {
+    long = simp length-set long;
+    demands = λ v l. no-mark v (omega (arith, small v l)) (omega (arith, small v l)) ∙ not-last v (omega (arith, small v l)) ∙ demand-at v l (ℕ-discrete v (g .node));
+    pebbles = λ v l. mark-at v l (ℕ-discrete v (m .to)) (ℕ-discrete v (m .from));
+    lasts = λ b u l.
+        let r = last-place b u (small u l) in
+        rw (no-mark (lastAt b u) (λ q. absurd (omega (arith, r, small (m .from) (ends y m g .0)))) (λ q. absurd (omega (arith, r, small (m .to) (ends y m g .1))))) (last-at b u l (ℕ-discrete u (parent y (g .node))));
+  }
 
 -- no move, and one more
 pub made-nil : (y : Yard) (s : List ℤ) (plan : List ℕ) → Kept y s → Made y [] s plan plan 0
@@ -96,10 +154,10 @@ unfolding after bytes
 made-nil y s plan k = record { kept = k; written = refl; counted = refl }
 
 pub made-move : (y : Yard) (ms : List Move) (m : Move) (s : List ℤ) (before after : List ℕ) (count : ℕ) → Made y ms s before after count → (g : Step (run y ms) m)
-    → 2 * length ms + 2 ≤ length before → (d : ℤ) → d ≡ nextℤ (g .away) (getD s (g .node) (pos 0))
-    → Made y (ms ++ (m ∷ [])) (set (set (set s (g .node) d) (256 + m .from) (pos 0)) (256 + m .to) (pos 1)) before (set (set after (2 * count) (m .from)) (2 * count + 1) (m .to)) (count + 1)
-made-move y ms m s before after count h g room d e = record {
-  kept = rw (after-append ms (m ∷ []) y, run-one (run y ms) m (legal-step (run y ms) m g) .0) (kept-move (run y ms) m g s (h .kept) d (e ∙ ap (nextℤ (g .away)) (h .kept .demands (g .node) (g .node-lt))));
+    → Neediest (need (run y ms) (g .away)) (run y ms) (parent y (g .node)) (g .node) → 2 * length ms + 2 ≤ length before → (d : ℤ) → d ≡ nextℤ (g .away) (getD s (g .node) (pos 0))
+    → Made y (ms ++ (m ∷ [])) (set (set (set (set s (g .node) d) (lastAt (g .away) (parent y (g .node))) (pos (g .node))) (256 + m .from) (pos 0)) (256 + m .to) (pos 1)) before (set (set after (2 * count) (m .from)) (2 * count + 1) (m .to)) (count + 1)
+made-move y ms m s before after count h g n room d e = record {
+  kept = rw (after-append ms (m ∷ []) y, run-one (run y ms) m (legal-step (run y ms) m g) .0) (kept-move (run y ms) m g n s (h .kept) d (e ∙ ap (nextℤ (g .away)) (h .kept .demands (g .node) (g .node-lt))));
   written = rw (h .written, h .counted) (write-move ms before (m .from) (m .to) room);
   counted = rw (h .counted, length-append ms (m ∷ []));
 }

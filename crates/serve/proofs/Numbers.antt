@@ -21,6 +21,9 @@ next-fits false (pos n) h = record { sfits = omega arith }
 next-fits false (negsuc zero) h = record { sfits = omega arith }
 next-fits false (negsuc (suc n)) h = record { sfits = omega arith }
 
+pub next-back : (b : Bool) (k : ℤ) → natAbs k ≤ 256 → toZ w16 (ofZ w16 (nextℤ b k)) ≡ nextℤ b k
+next-back b k h = toZ-ofZ w16 (nextℤ b k) (next-fits b k h)
+
 module _ (k : ℤ) (h : natAbs k ≤ 256) where
   less : toZ w16 (ofZ w16 k) -ℤ pos 1 ≡ nextℤ true k
   less = ap (λ (z : ℤ). z -ℤ pos 1) (small-back k h) ∙ -ℤ-one k
@@ -35,7 +38,7 @@ module _ (k : ℤ) (h : natAbs k ≤ 256) where
   more-fits = rw more (next-fits false k h)
 
   pub less-back : toZ w16 (ofZ w16 (toZ w16 (ofZ w16 k) -ℤ pos 1)) ≡ nextℤ true k
-  less-back = toZ-ofZ w16 _ less-fits ∙ less
+  less-back = rw less (next-back true k h)
 
   pub more-back : toZ w16 (ofZ w16 (toZ w16 (ofZ w16 k) +ℤ pos 1)) ≡ nextℤ false k
-  more-back = toZ-ofZ w16 _ more-fits ∙ more
+  more-back = rw more (next-back false k h)

@@ -21,8 +21,8 @@ use Rattle.model.proofs.Demands.{weight, weight-child}
 use Rattle.model.proofs.Step.{crossing, need}
 use Rattle.model.proofs.Shortest.{Good, good-nil, good-tree}
 use Rattle.model.proofs.Signed.{nextℤ, demand-range}
-use Rattle.model.proofs.Choice.{choice-sound}
-use Rattle.model.proofs.Serve.{Due, Shift, Serves, direct, behind, blocked, due-step, due-behind, able-behind, free-able, blocked-child, serves-shift}
+use Rattle.model.proofs.Choice.{Neediest, neediest-some, choice-sound}
+use Rattle.model.proofs.Serve.{Due, Shift, Serves, direct, behind, blocked, due-step, due-behind, able-behind, need-behind, free-able, blocked-child, serves-shift}
 use Rattle.serve.specs.Serving.{Tables, Kept, Describes, movedState, movedPlan, AskedStart, Chain, at-top, down, Start, AskedMoves, Made, Served}
 use Rattle.serve.proofs.Moving.{made-nil, made-move}
 use Rattle.serve.proofs.Stretches.{made-length}
@@ -82,11 +82,25 @@ module _ {b : Bool} {y : Yard} where
   chain-due t u at-top = u
   chain-due t u (down {u = w} c e) = blocked-child choice choice-sound y t b w (chain-due t u c) e .1
 
+  -- no sibling of one of them needs more
+  chain-neediest : {top v : ℕ} → Tree y → Due y b top → Neediest (need y b) y (up (y .parents) top) top → Chain b y top v → Neediest (need y b) y (up (y .parents) v) v
+  unfolding choice
+  chain-neediest t u n at-top = n
+  chain-neediest t u n (down {u = w} c e) =
+      let q = blocked-child choice choice-sound y t b w (chain-due t u c) e in
+      rw (q .0 .up) (neediest-some (need y b) y w _ (q .0, q .1 .needs))
+
   -- and its nodes are each the child chosen of the one above, which is blocked
   climb : {top v : ℕ} → Tree y → Due y b top → Chain b y top v → v ≢ top
       → Chain b y top (up (y .parents) v) × (blocked y b (up (y .parents) v) ≡ true) × (v ≡ choice (need y b) y (up (y .parents) v))
   climb t u at-top d = absurd (d refl)
   climb t u (down {u = w} c e) d = rw (blocked-child choice choice-sound y t b w (chain-due t u c) e .0 .up) (c, e, refl)
+
+-- where a node's children need as much as before, the neediest is the same
+neediest-same : {need then : ℕ → ℕ} {y : Yard} {u r : ℕ} (ms : List Move) → ((v : ℕ) → Child (y .parents) u v → then v ≡ need v) → Neediest need y u r → Neediest then (run y ms) u r
+neediest-same ms h n =
+    let e = h _ (n .needy .0) in
+    record { needy = (n .needy .0, omega (arith, n .needy .1, e)); most = λ v k. omega (arith, n .most v k, h v k, e); first = λ v k l. omega (arith, n .first v k l, h v k, e) }
 
 -- the moves that make way for the one over the edge of v
 pub data Way (b : Bool) (y : Yard) (v : ℕ) : List Move → Type 0 where
@@ -130,20 +144,24 @@ module _ {b : Bool} {y : Yard} {t : List ℕ} {s₀ : List ℤ} {before : List �
     pub climb-range : natAbs (getD s v (pos 0)) ≤ 256
     climb-range = rw (c .made .kept .demands v climb-node) (demand-range (run y (c .moves)) (good-tree y (a .described .tree) (c .moves) (way-good (c .way))) v)
 
+    neediest : Neediest (need y b) y (up (y .parents) v) v
+    neediest = chain-neediest (a .described .tree) (a .due) (a .chosen) (c .chain)
+
     made-more : {ms : List Move} → Way b y v ms → Made y ms s before plan k → 2 * length ms + 2 ≤ length before
         → Made y (ms ++ (crossing (y .parents) b v ∷ [])) (movedState (y .parents) b v s) before (movedPlan (y .parents) b v k plan) (k + 1)
     unfolding due-step after
-    made-more (at-once e) d l = made-move y [] (crossing (y .parents) b v) s before plan k d (due-step y (a .described .tree) b v due (free-able y b v e)) l (nextℤ b (getD s v (pos 0))) refl
+    made-more (at-once e) d l = made-move y [] (crossing (y .parents) b v) s before plan k d (due-step y (a .described .tree) b v due (free-able y b v e)) neediest l (nextℤ b (getD s v (pos 0))) refl
     made-more (cleared {ms = ms} e r) d l =
         let f = blocked-child choice choice-sound y (a .described .tree) b v due e .0 in
         let p = shift e r in
         made-move y ms (crossing (y .parents) b v) s before plan k d
         (due-step (run y ms) (good-tree y (a .described .tree) ms (p .good)) b v
         (due-behind y (a .described .tree) b v (choice (need y b) y v) ms due f p)
-        (able-behind y (a .described .tree) b v (choice (need y b) y v) ms due f p)) l (nextℤ b (getD s v (pos 0))) refl
+        (able-behind y (a .described .tree) b v (choice (need y b) y v) ms due f p))
+        (neediest-same ms (λ w j. need-behind y (a .described .tree) b v (choice (need y b) y v) ms due f p (neediest .needy .0) j) neediest) l (nextℤ b (getD s v (pos 0))) refl
 
     climb-made : Made y (c .moves ++ (crossing (y .parents) b v ∷ [])) (movedState t b v s) before (movedPlan t b v k plan) (k + 1)
-    climb-made = rw (crossing-table (a .described .tables) b v climb-node) (made-more (c .way) (c .made) (omega (arith, climb-room, c .made .counted)))
+    climb-made = rw (crossing-table (a .described .tables) b v climb-node, a .described .tables .parent v climb-node) (made-more (c .way) (c .made) (omega (arith, climb-room, c .made .counted)))
 
     -- the last one, or up to the next
     pub climb-last : v ≡ top → Served b y top (movedState t b v s) before (movedPlan t b v k plan) (k + 1)

@@ -19,6 +19,7 @@ use Rattle.model.proofs.Trees.{Child}
 use Rattle.model.proofs.Demands.{weight}
 use Rattle.model.proofs.Step.{crossing, need}
 use Rattle.model.proofs.Signed.{nextℤ}
+use Rattle.model.proofs.Choice.{Neediest}
 use Rattle.model.proofs.Serve.{Due, Serves, blocked}
 
 -- the children of u from number i on, rising; and the lowest of them, or u itself if there is none
@@ -47,16 +48,33 @@ Tables ps t = Linked 0 ps t
 abbrev pub linkedTo : List ℕ → ℕ → ℕ → List ℕ
 linkedTo t v p = set (set t (512 + v) (getD t (256 + p) 0)) (256 + p) v
 
--- two tables of 256 entries in a row: a node's demand, and its pebbles
+-- c is the child of u that was served last for a sign: it needs one less since, so no child needs more than one more, and none with a lower number more
+pub record LastServed (b : Bool) (y : Yard) (u c : ℕ) : Type 0 where
+  pub child : Child (y .parents) u c
+  pub side : need y (not b) c ≡ 0
+  pub most : (v : ℕ) → Child (y .parents) u v → need y b v ≤ need y b c + 1
+  pub first : (v : ℕ) → Child (y .parents) u v → v < c → need y b v ≤ need y b c
+
+-- an entry for the child of u that was served last: u itself before there is one
+pub record Last (b : Bool) (y : Yard) (u : ℕ) (entry : ℤ) : Type 0 where
+  pub node : ℕ
+  pub is : entry ≡ pos node
+  pub served : node ≢ u → LastServed b y u node
+
+-- four tables of 256 entries in a row: a node's demand; its pebbles; the child of it that was filled last; the one that was drawn from last
+abbrev pub lastAt : Bool → ℕ → ℕ
+lastAt b u = cond b 512 768 + u
+
 pub record Kept (y : Yard) (s : List ℤ) : Type 0 where
-  pub long : length s ≡ 512
+  pub long : length s ≡ 1024
   pub demands : (v : ℕ) → v < size y → getD s v (pos 0) ≡ demand y v
   pub pebbles : (v : ℕ) → v < size y → getD s (256 + v) (pos 0) ≡ pos (pebble y v)
+  pub lasts : (b : Bool) (u : ℕ) → u < size y → Last b y u (getD s (lastAt b u) (pos 0))
 
 -- the state after a move over the edge of v, away from the root (true) or towards it, and the list with it at place k
 abbrev pub movedState : List ℕ → Bool → ℕ → List ℤ → List ℤ
 movedState t b v s =
-    set (set (set s v (nextℤ b (getD s v (pos 0)))) (256 + crossing t b v .from) (pos 0)) (256 + crossing t b v .to) (pos 1)
+    set (set (set (set s v (nextℤ b (getD s v (pos 0)))) (lastAt b (up t v)) (pos v)) (256 + crossing t b v .from) (pos 0)) (256 + crossing t b v .to) (pos 1)
 
 abbrev pub movedPlan : List ℕ → Bool → ℕ → ℕ → List ℕ → List ℕ
 movedPlan t b v k plan = set (set plan (2 * k) (crossing t b v .from)) (2 * k + 1) (crossing t b v .to)
@@ -77,18 +95,11 @@ pub record NextBeyond (b : Bool) (y : Yard) (u low : ℕ) (most : ℤ) (r : ℕ)
   pub passed : (v : ℕ) → Child (y .parents) u v → low ≤ v → (r ≢ u → v < r) → beyond b (demand y v) most ≡ false
   pub found : r ≢ u → Child (y .parents) u r × (low ≤ r) × (beyond b (demand y r) most ≡ true)
 
--- c is the child of u that was served last for a sign: it needs one less since, so no child needs more than one more, and none with a lower number more
-pub record LastServed (b : Bool) (y : Yard) (u c : ℕ) : Type 0 where
-  pub child : Child (y .parents) u c
-  pub side : need y (not b) c ≡ 0
-  pub most : (v : ℕ) → Child (y .parents) u v → need y b v ≤ need y b c + 1
-  pub first : (v : ℕ) → Child (y .parents) u v → v < c → need y b v ≤ need y b c
-
--- what the choice of a child of u asks, after c was served, or u itself for none
-pub record AskedChoice (b : Bool) (y : Yard) (t : List ℕ) (s : List ℤ) (u c : ℕ) : Type 0 where
+-- what the choice of a child of u asks, after c was served
+pub record AskedAfter (b : Bool) (y : Yard) (t : List ℕ) (s : List ℤ) (u c : ℕ) : Type 0 where
   pub described : Describes y t s
   pub node : u < size y
-  pub last : c ≢ u → LastServed b y u c
+  pub last : LastServed b y u c
 
 -- what filling v (true) or drawing from it (false) asks: that a pebble is due over its edge, and a height that bounds the nodes inside v
 pub record AskedStart (b : Bool) (y : Yard) (t : List ℕ) (s : List ℤ) (v height : ℕ) : Type 0 where
@@ -106,10 +117,11 @@ pub record Start (b : Bool) (y : Yard) (top low : ℕ) : Type 0 where
   pub chain : Chain b y top low
   pub unblocked : blocked y b low ≡ false
 
--- what the moves ask, from there up to top: room in the list too
+-- what the moves ask, from there up to top: that no sibling of top needs more, and room in the list too
 pub record AskedMoves (b : Bool) (y : Yard) (t : List ℕ) (s : List ℤ) (plan : List ℕ) (low top : ℕ) : Type 0 where
   pub described : Describes y t s
   pub due : Due y b top
+  pub chosen : Neediest (need y b) y (up (y .parents) top) top
   pub start : Start b y top low
   pub room : 2 * shortest y ≤ length plan
 

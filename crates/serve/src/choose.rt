@@ -1,11 +1,14 @@
 // The choice of a child: the one whose demand, of the sign wanted, is farthest from 0, the lowest-numbered among equals.
 ghost use mathlib.Core.Path.{_≡_};
-ghost use Prim.Native.Nat.{ℕ, _<_};
+ghost use Prim.Native.Nat.{ℕ, _≤_, _<_};
+ghost use lib.ListN.{getD};
+ghost use lib.IntN.{pos, natAbs};
 ghost use Rattle.model.specs.Yard.{Yard, size};
 ghost use Rattle.model.specs.Given.{was};
 ghost use Rattle.model.specs.Plan.{choice};
 ghost use Rattle.model.proofs.Step.{need};
-ghost use Rattle.serve.specs.Serving.{beyond, Describes, Lowest, NextBeyond, AskedChoice};
+ghost use Rattle.model.proofs.Signed.{nextℤ};
+ghost use Rattle.serve.specs.Serving.{beyond, lastAt, Describes, Lowest, NextBeyond, AskedAfter};
 
 // A byte as a number.
 pub fn wide(x: u8) -> usize
@@ -26,7 +29,14 @@ fn passes(demand: i16, other: i16, away: bool) -> bool
 
 // The first child of u, from one on, whose demand lies beyond `most`; u itself if there is none. It ends at that child, so that a processor need not wait for
 // the demands to foresee where the way leads.
-fn next_beyond(t: &[u8; 768], s: &[i16; 512], u: usize, from: usize, most: i16, away: bool) -> usize
+fn next_beyond(
+    t: &[u8; 768],
+    s: &[i16; 1024],
+    u: usize,
+    from: usize,
+    most: i16,
+    away: bool,
+) -> usize
     requires { ⌜ ((y : Yard) × Describes y (now t) (now s) × ((low : ℕ) × Lowest (y .parents) u low from)) ⌝ }
     ensures { λ r. ⌜ ((y : Yard) → Describes y (was t) (was s) → (low : ℕ) → Lowest (y .parents) u low from → NextBeyond away y u low most r) ⌝ }
 {
@@ -40,36 +50,71 @@ fn next_beyond(t: &[u8; 768], s: &[i16; 512], u: usize, from: usize, most: i16, 
     u
 }
 
-// The child of u that is served wherever one is chosen, or u itself if no child has a demand of the sign wanted. From each that is farther from 0 than those
-// before it on to the next, through all children of u.
-pub fn choose(t: &[u8; 768], s: &[i16; 512], u: usize, away: bool) -> usize
+// The child that is served before any other was: from each that is farther from 0 than those before it on to the next, through all children of u.
+fn choose_of_all(t: &[u8; 768], s: &[i16; 1024], u: usize, away: bool) -> usize
     requires { ⌜ ((y : Yard) × Describes y (now t) (now s) × (u < size y)) ⌝ }
     ensures { λ r. ⌜ ((y : Yard) → Describes y (was t) (was s) → u < size y → r ≡ choice (need y away) y u) ⌝ }
 {
-    let mut best = next_beyond(t, s, u, wide(t[256 + u]), 0, away);
-    if best == u {
-        return u;
-    }
+    let mut best = u;
+    let mut from = wide(t[256 + u]);
+    let mut most = 0;
     loop {
-        let c = next_beyond(t, s, u, wide(t[512 + best]), s[best], away);
+        let c = next_beyond(t, s, u, from, most, away);
         if c == u {
             return best;
         }
         best = c;
+        from = wide(t[512 + c]);
+        most = s[c];
     }
 }
 
-// The same, after the child `last` was served for that sign, or with u itself for it before one was. Children at the greatest size are served in rising
-// number, and no demand grows: so the next one lies behind it, by what its demand then is, or all children are looked at anew.
-pub fn choose_from(t: &[u8; 768], s: &[i16; 512], u: usize, last: usize, away: bool) -> usize
-    requires { ⌜ ((y : Yard) × AskedChoice away y (now t) (now s) u last) ⌝ }
-    ensures { λ r. ⌜ ((y : Yard) → AskedChoice away y (was t) (was s) u last → r ≡ choice (need y away) y u) ⌝ }
+// The child of u that was served last for a sign, or u itself before one was.
+fn last_served(s: &[i16; 1024], u: usize, away: bool) -> usize
+    requires { ⌜ (u < 256) × ((c : ℕ) × (c < 256) × (getD (now s) (lastAt away u) (pos 0) ≡ pos c)) ⌝ }
+    ensures { λ r. ⌜ getD (was s) (lastAt away u) (pos 0) ≡ pos r ⌝ }
 {
-    if last != u {
-        let c = next_beyond(t, s, u, wide(t[512 + last]), s[last], away);
-        if c != u {
-            return c;
-        }
+    if away {
+        return s[512 + u] as usize;
     }
-    choose(t, s, u, away)
+    s[768 + u] as usize
+}
+
+// A demand, one nearer to 0 on the side of the sign wanted.
+pub fn nearer(demand: i16, away: bool) -> i16
+    requires { ⌜ natAbs demand ≤ 256 ⌝ }
+    ensures { λ r. ⌜ r ≡ nextℤ away demand ⌝ }
+{
+    if away {
+        return demand - 1;
+    }
+    demand + 1
+}
+
+// The child that is served after `last`. Children at the greatest size are served in rising number, and no demand grows: so the next one lies behind it, by
+// what its demand then is; else it is the first that is as far from 0, at most `last` itself.
+fn choose_after(t: &[u8; 768], s: &[i16; 1024], u: usize, last: usize, away: bool) -> usize
+    requires { ⌜ ((y : Yard) × AskedAfter away y (now t) (now s) u last) ⌝ }
+    ensures { λ r. ⌜ ((y : Yard) → AskedAfter away y (was t) (was s) u last → r ≡ choice (need y away) y u) ⌝ }
+{
+    let c = next_beyond(t, s, u, wide(t[512 + last]), s[last], away);
+    if c != u {
+        return c;
+    }
+    if s[last] == 0 {
+        return u;
+    }
+    next_beyond(t, s, u, wide(t[256 + u]), nearer(s[last], away), away)
+}
+
+// The child of u that is served wherever one is chosen, or u itself if no child has a demand of the sign wanted.
+pub fn choose(t: &[u8; 768], s: &[i16; 1024], u: usize, away: bool) -> usize
+    requires { ⌜ ((y : Yard) × Describes y (now t) (now s) × (u < size y)) ⌝ }
+    ensures { λ r. ⌜ ((y : Yard) → Describes y (was t) (was s) → u < size y → r ≡ choice (need y away) y u) ⌝ }
+{
+    let last = last_served(s, u, away);
+    if last == u {
+        return choose_of_all(t, s, u, away);
+    }
+    choose_after(t, s, u, last, away)
 }

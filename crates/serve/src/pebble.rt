@@ -9,10 +9,11 @@ ghost use Rattle.model.specs.Given.{was, became};
 ghost use Rattle.model.proofs.Serve.{blocked};
 ghost use Rattle.serve.specs.Serving.{movedState, movedPlan, AskedStart, Start, AskedMoves, ServedAll};
 use crate::choose::choose;
+use crate::choose::nearer;
 use crate::choose::wide;
 
 // Writes a move at place k of the list, and the pebble's at the two nodes.
-fn record_move(s: &mut [i16; 512], plan: &mut [u8], k: usize, from: usize, to: usize)
+fn record_move(s: &mut [i16; 1024], plan: &mut [u8], k: usize, from: usize, to: usize)
     requires { ⌜ (from < 256) × (to < 256) × (2 * k + 2 ≤ length (now plan)) ⌝ }
     ensures { λ _. ⌜ became s ≡ set (set (was s) (256 + from) (pos 0)) (256 + to) (pos 1) ⌝ }
     ensures { λ _. ⌜ became plan ≡ set (set (was plan) (2 * k) from) (2 * k + 1) to ⌝ }
@@ -23,24 +24,25 @@ fn record_move(s: &mut [i16; 512], plan: &mut [u8], k: usize, from: usize, to: u
     plan[2 * k + 1] = to as u8;
 }
 
-// Algorithm 4: the pebble goes over the edge of v, away from the root or towards it, and the demand of v changes by one.
-fn move_pebble(t: &[u8; 768], s: &mut [i16; 512], plan: &mut [u8], k: usize, v: usize, away: bool)
+// Algorithm 4: the pebble goes over the edge of v, away from the root or towards it, the demand of v changes by one, and v is the child that was served last.
+fn move_pebble(t: &[u8; 768], s: &mut [i16; 1024], plan: &mut [u8], k: usize, v: usize, away: bool)
     requires { ⌜ (v < 256) × (2 * k + 2 ≤ length (now plan)) × (natAbs (getD (now s) v (pos 0)) ≤ 256) ⌝ }
     ensures { λ _. ⌜ became s ≡ movedState (was t) away v (was s) ⌝ }
     ensures { λ _. ⌜ became plan ≡ movedPlan (was t) away v k (was plan) ⌝ }
 {
     let p = wide(t[v]);
+    s[v] = nearer(s[v], away);
     if away {
-        s[v] -= 1;
+        s[512 + p] = v as i16;
         record_move(s, plan, k, p, v);
         return;
     }
-    s[v] += 1;
+    s[768 + p] = v as i16;
     record_move(s, plan, k, v, p);
 }
 
 // Algorithm 2: where filling v from its parent begins. A full v is cleared first.
-pub fn inject_start(t: &[u8; 768], s: &[i16; 512], v: usize, height: usize) -> usize
+pub fn inject_start(t: &[u8; 768], s: &[i16; 1024], v: usize, height: usize) -> usize
     requires { ⌜ ((y : Yard) × AskedStart true y (now t) (now s) v height) ⌝ }
     ensures { λ r. ⌜ ((y : Yard) → AskedStart true y (was t) (was s) v height → Start true y v r) ⌝ }
 {
@@ -51,7 +53,7 @@ pub fn inject_start(t: &[u8; 768], s: &[i16; 512], v: usize, height: usize) -> u
 }
 
 // Where clearing v begins, which is full: to clear it, fill the child that is chosen.
-fn clear_start(t: &[u8; 768], s: &[i16; 512], v: usize, height: usize) -> usize
+fn clear_start(t: &[u8; 768], s: &[i16; 1024], v: usize, height: usize) -> usize
     requires { ⌜ ((y : Yard) × AskedStart true y (now t) (now s) v height × (blocked y true v ≡ true)) ⌝ }
     ensures { λ r. ⌜ ((y : Yard) → AskedStart true y (was t) (was s) v height → blocked y true v ≡ true → Start true y v r) ⌝ }
 {
@@ -60,7 +62,7 @@ fn clear_start(t: &[u8; 768], s: &[i16; 512], v: usize, height: usize) -> usize
 }
 
 // Algorithm 3: where drawing from v into its parent begins. Into an empty v a pebble is drawn first.
-pub fn extract_start(t: &[u8; 768], s: &[i16; 512], v: usize, height: usize) -> usize
+pub fn extract_start(t: &[u8; 768], s: &[i16; 1024], v: usize, height: usize) -> usize
     requires { ⌜ ((y : Yard) × AskedStart false y (now t) (now s) v height) ⌝ }
     ensures { λ r. ⌜ ((y : Yard) → AskedStart false y (was t) (was s) v height → Start false y v r) ⌝ }
 {
@@ -75,7 +77,7 @@ pub fn extract_start(t: &[u8; 768], s: &[i16; 512], v: usize, height: usize) -> 
 // makes way for the next. They go to the front of the list; answers how many.
 pub fn move_pebbles(
     t: &[u8; 768],
-    s: &mut [i16; 512],
+    s: &mut [i16; 1024],
     plan: &mut [u8],
     low: usize,
     top: usize,

@@ -1,5 +1,5 @@
 -- `longest_plan` refuses an n outside 1 to 256, and else gives a quarter of n × n, which is at most 65,536.
-use Prim.Native.Nat.{ℕ, _≤_, _<_}
+use Prim.Native.Nat.{_≤_, _<_}
 use native.Mathlib.Nat.{mul-le-mul}
 use native.Mathlib.Omega.{arith}
 use borrow.Author.Tests.{lt-ltb, le-leb, lt-leb}

@@ -1,10 +1,9 @@
 -- `put_planned` writes the moves and behind them the report by what `fill` has written: the demands of all nodes, in the first n entries of an array of
 -- 256. That is the sheet of the plan.
-use mathlib.Core.Path.{_≡_, sym}
+use mathlib.Core.Path.{sym}
 use mathlib.Core.List.{List, _++_}
-use Prim.Native.Nat.{ℕ, _≤_}
 use native.Mathlib.Omega.{arith}
-use lib.ListN.{length, take, drop, replicate, length-append}
+use lib.ListN.{take, drop, replicate, length-append}
 use lib.IntN.{ℤ, pos}
 use lib.Seq.{length-take-le}
 use borrow.Author.Needs.{needs}

@@ -4,7 +4,7 @@ use Prim.Native.Nat.{_+_, _*_, _≤_}
 use native.Mathlib.Omega.{arith}
 use lib.ListN.{length}
 use borrow.Author.Needs.{needs}
-use Rattle.model.specs.Sheets.{text, line}
+use Rattle.model.specs.Sheets.{text}
 use Rattle.sheet.specs.Written.{Written}
 use Rattle.sheet.proofs.Writing.{written-append, written-length}
 use Rattle.moves.specs.Report.{edgeLines}

@@ -1,28 +1,29 @@
 -- `planner::balance::settle` meets its contract: after some turns the moves so far, each of which lowers the shortest length, leave a yard from which
 -- the loop goes on as from the first (the laws are in Stretches and Settle).
 use native.Mathlib.Omega.{arith}
-use borrow.Author.Needs.{needs}
-use Prim.Native.Nat.{_+_, _-_, _*_, _≤_, _<_}
+use Prim.Native.Nat.{_+_, _-_, _*_, _≤_}
 use mathlib.Core.Path.{_≡_}
 use lib.ListN.{length}
 use Rattle.model.specs.Yard.{Yard}
 use Rattle.model.specs.Push.{run}
-use Rattle.planner.specs.Balancing.{AskedEven}
-use Rattle.serve.specs.Serving.{AskedMoves}
+use Rattle.model.specs.Plan.{choice}
+use Rattle.model.proofs.Balance.{Settles}
+use Rattle.serve.specs.Serving.{Made}
+use Rattle.planner.specs.Balancing.{AskedEven, AskedTurn, TurnTaken}
 use Rattle.serve.proofs.Looking.{node-small}
-use Rattle.serve.proofs.Stretches.{rest, back, made-length, ended}
-use Rattle.planner.proofs.Settle.{readHeld, even-after, Turn, none-chosen, turn-asked, turn-moves, choice-asked, Turned, turn-none, turn-more}
+use Rattle.serve.proofs.Stretches.{rest, back, made-length}
+use Rattle.planner.proofs.Settle.{readHeld, read-held, even-after, Turned, turn-first, turn-last, turn-next}
 use Rattle.planner.proofs.balance.settle.Statement.{statement}
 use Rattle.planner.proofs.balance.settle.Tie as tie
 
 abbrev Inv-loop : tie.InvT-loop
-Inv-loop t s₀ plan₀ u height k₀ injected₀ extracted₀ s plan k injected extracted = (y : Yard) → AskedEven y t s₀ plan₀ u height → Turned y u s plan₀ plan k injected extracted
+Inv-loop t s₀ plan₀ u height k₀ s plan k = (y : Yard) → AskedEven y t s₀ plan₀ u height → Turned y u s plan₀ plan k
 
 abbrev μ-loop : tie.MeasureT-loop
-μ-loop t s₀ plan₀ u height k₀ injected₀ extracted₀ s plan k injected extracted = length plan₀ - 2 * k
+μ-loop t s₀ plan₀ u height k₀ s plan k = length plan₀ - 2 * k
 
 loop-holds : tie.Need-loop-holds Inv-loop μ-loop
-loop-holds c y a = turn-none a
+loop-holds c y a = turn-first a
 
 -- the call that a loop's head belongs to
 abbrev call : tie.At-loop Inv-loop μ-loop → tie.Start Inv-loop μ-loop
@@ -37,118 +38,96 @@ mul-away c = let a = call c .pre .1 in omega (arith, node-small (a .described) (
 element-copy-out-away : tie.Need-element-copy-out-away Inv-loop μ-loop
 element-copy-out-away c = let a = call c .pre .1 in omega (arith, node-small (a .described) (a .node))
 
--- what the loop asks, for a yard at its head, and what it has used of the list
-here : (c : tie.At-loop Inv-loop μ-loop) (y : Yard)
-    → let s = call c .args in
-    (a : AskedEven y (s .t .now) (s .s .now) (s .plan .now) (s .u) (s .height))
-    → AskedEven (run y (c .loop .inv y a .begun .moves)) (s .t .now) (c .loop .s) (rest (c .loop .plan) (c .loop .k)) (s .u) (s .height)
-here c y a = let b = c .loop .inv y a .begun in even-after a (b .good) (b .made)
-
+-- what the loop has used of the list, and what a turn asks, for a yard at its head
 used : (c : tie.At-loop Inv-loop μ-loop) → (length (c .loop .plan) ≡ length (call c .args .plan .now)) × (2 * c .loop .k ≤ length (call c .args .plan .now))
 used c =
     let p = call c .pre in
-    let b = c .loop .inv (p .0) (p .1) .begun in
+    let b = c .loop .inv (p .0) (p .1) in
     made-length (b .good) (p .1 .room) (b .made)
 
-choose-next-requires : tie.Need-choose-next-requires Inv-loop μ-loop
-choose-next-requires c κs =
-    let l = c .before .before in
-    let p = call l .pre in
-    (_, choice-asked _ (here l (p .0) (p .1)) (l .loop .inv (p .0) (p .1) .lasts))
+here : (c : tie.At-loop Inv-loop μ-loop) (y : Yard)
+    → let s = call c .args in
+    (a : AskedEven y (s .t .now) (s .s .now) (s .plan .now) (s .u) (s .height))
+    → AskedTurn (readHeld (c .loop .s) (s .u)) (run y (c .loop .inv y a .moves)) (s .t .now) (c .loop .s) (rest (c .loop .plan) (c .loop .k)) (s .u) (s .height)
+here c y a =
+    let b = c .loop .inv y a in
+    let e = even-after a (b .good) (b .made) in
+    record { asked = e; sign = read-held (e .described) (e .node) }
 
--- the turn that the choice of a child begins
-turn : (c : tie.After-choose-next Inv-loop μ-loop) (y : Yard)
-    → let l = c .before .before .before in
+mul-turn : tie.Need-mul-turn Inv-loop μ-loop
+mul-turn c = let l = c .before .before in omega (arith, used l, call l .good)
+
+sub-turn : tie.Need-sub-turn Inv-loop μ-loop
+sub-turn c = omega (arith, used (c .before .before))
+
+part-turn-start : tie.Need-part-turn-start Inv-loop μ-loop
+part-turn-start c = omega (arith, used (c .before .before))
+
+part-turn-end : tie.Need-part-turn-end Inv-loop μ-loop
+part-turn-end c = omega arith
+
+turn-requires : tie.Need-turn-requires Inv-loop μ-loop
+turn-requires c κs =
+    let l = c .before .before .before in
+    let p = call l .pre in
+    (_, here l (p .0) (p .1))
+
+-- the turn
+taken : (c : tie.After-turn Inv-loop μ-loop) (y : Yard)
+    → let l = c .before .before .before .before in
     let s = call l .args in
     (a : AskedEven y (s .t .now) (s .s .now) (s .plan .now) (s .u) (s .height))
-    → Turn (run y (l .loop .inv y a .begun .moves)) (s .t .now) (l .loop .s) (rest (l .loop .plan) (l .loop .k)) (s .u) (s .height) (c .choose-next .result)
-turn c y a =
-    let l = c .before .before .before in
-    let z = here l y a in
-    record { asked = z; chosen = c .choose-next .ensures _ (choice-asked _ z (l .loop .inv y a .lasts)) }
+    → TurnTaken (readHeld (l .loop .s) (s .u)) (run y (l .loop .inv y a .moves)) (s .u) (l .loop .s) (c .turn .last .1 .0) (rest (l .loop .plan) (l .loop .k)) (c .turn .last .1 .1 .0) (c .turn .result)
+taken c y a = c .turn .ensures _ (here (c .before .before .before .before) y a)
+
+-- no turn more
+last : (c : tie.Then1 Inv-loop μ-loop) (y : Yard)
+    → let d = c .before .before .before in
+    let l = d .before .before .before .before in
+    let s = call l .args in
+    (a : AskedEven y (s .t .now) (s .s .now) (s .plan .now) (s .u) (s .height))
+    → let ms = l .loop .inv y a .moves in
+    Settles choice y (s .u) ms × Made y ms (d .turn .last .1 .0) (s .plan .now) (back (l .loop .plan) (l .loop .k) (d .turn .last .1 .1 .0)) (l .loop .k)
+last c y a =
+    let d = c .before .before .before in
+    let l = d .before .before .before .before in
+    turn-last (l .loop .inv y a) (here l y a) (taken d y a) (c .if1 .taken)
 
 same-length : tie.Need-same-length Inv-loop μ-loop
-same-length c = used (c .before .before .before .before) .0
+same-length c =
+    let l = c .before .before .before .before .before .before .before in
+    let p = call l .pre in
+    made-length (l .loop .inv (p .0) (p .1) .good) (p .1 .room) (last c (p .0) (p .1) .1) .0
 
 returns : tie.Need-returns Inv-loop μ-loop
-returns c y a =
-    let b = c .before .before .before .before .loop .inv y a .begun in
-    record { moves = b .moves; settles = ended b (none-chosen (turn (c .before) y a) (omega (arith, c .if1 .taken))); made = b .made }
-
-either-requires : tie.Need-either-requires Inv-loop μ-loop
-either-requires c κs = search needs
-
-either-requires-2 : tie.Need-either-requires-2 Inv-loop μ-loop
-either-requires-2 c κs = search needs
-
-turn-start-requires : tie.Need-turn-start-requires Inv-loop μ-loop
-turn-start-requires c κs =
-    let d = c .before .before .before in
-    let p = call (d .before .before .before .before) .pre in
-    (_, turn-asked (turn (d .before) (p .0) (p .1)) (d .if1 .left))
-
--- the loop's head that a place after the start of the moves belongs to
-abbrev head : tie.After-turn-start Inv-loop μ-loop → tie.At-loop Inv-loop μ-loop
-head c = c .before .before .before .before .before .before .before .before
-
-mul-move-pebbles : tie.Need-mul-move-pebbles Inv-loop μ-loop
-mul-move-pebbles c = let l = head (c .before) in omega (arith, used l, call l .good)
-
-sub-move-pebbles : tie.Need-sub-move-pebbles Inv-loop μ-loop
-sub-move-pebbles c = omega (arith, used (head (c .before)))
-
-part-move-pebbles-start : tie.Need-part-move-pebbles-start Inv-loop μ-loop
-part-move-pebbles-start c = omega (arith, used (head (c .before)))
-
-part-move-pebbles-end : tie.Need-part-move-pebbles-end Inv-loop μ-loop
-part-move-pebbles-end c = omega arith
-
--- what the moves ask
-moves-asked : (c : tie.After-turn-start Inv-loop μ-loop) (y : Yard)
-    → let l = head c in
-    let s = call l .args in
-    (a : AskedEven y (s .t .now) (s .s .now) (s .plan .now) (s .u) (s .height))
-    → AskedMoves (readHeld (l .loop .s) (s .u)) (run y (l .loop .inv y a .begun .moves)) (s .t .now) (l .loop .s) (rest (l .loop .plan) (l .loop .k)) (c .turn-start .result) (c .before .before .before .before .before .choose-next .result)
-moves-asked c y a =
-    let d = c .before .before .before .before in
-    let r = turn (d .before) y a in
-    turn-moves r (d .if1 .left) (c .turn-start .ensures _ (turn-asked r (d .if1 .left)))
-
-move-pebbles-requires : tie.Need-move-pebbles-requires Inv-loop μ-loop
-move-pebbles-requires c κs =
-    let t = c .before .before in
-    let p = call (head t) .pre in
-    (_, moves-asked t (p .0) (p .1))
+returns c y a = let e = last c y a in record { moves = _; settles = e .0; made = e .1 }
 
 -- one turn more
-stepped : (c : tie.After-move-pebbles Inv-loop μ-loop) (y : Yard)
-    → let t = c .before .before .before in
-    let l = head t in
+next : (c : tie.Else1 Inv-loop μ-loop) (y : Yard)
+    → let d = c .before .before .before in
+    let l = d .before .before .before .before in
     let s = call l .args in
     AskedEven y (s .t .now) (s .s .now) (s .plan .now) (s .u) (s .height)
-    → Turned y (s .u) (c .move-pebbles .last .1 .0) (s .plan .now) (back (l .loop .plan) (l .loop .k) (c .move-pebbles .last .1 .1 .0)) (l .loop .k + c .move-pebbles .result) (t .before .before .before .either .result) (t .before .before .either2 .result)
-    × (0 < c .move-pebbles .result)
-stepped c y a =
-    let t = c .before .before .before in
-    let d = t .before .before .before .before in
-    turn-more (head t .loop .inv y a) (turn (d .before) y a) (d .if1 .left) (c .move-pebbles .ensures _ (moves-asked t y a)) (t .before .before .before .either .ensures) (t .before .before .either2 .ensures)
+    → Turned y (s .u) (d .turn .last .1 .0) (s .plan .now) (back (l .loop .plan) (l .loop .k) (d .turn .last .1 .1 .0)) (l .loop .k + d .turn .result)
+next c y a =
+    let d = c .before .before .before in
+    let l = d .before .before .before .before in
+    turn-next (l .loop .inv y a) (here l y a) (taken d y a) (c .if1 .left)
 
 add-k : tie.Need-add-k Inv-loop μ-loop
 add-k c =
-    let m = c .before .before in
-    let p = call (head (m .before .before .before)) in
-    let b = stepped m (p .pre .0) (p .pre .1) .0 .begun in
+    let p = call (c .before .before .before .before .before .before .before) in
+    let b = next c (p .pre .0) (p .pre .1) in
     omega (arith, made-length (b .good) (p .pre .1 .room) (b .made), p .good)
 
 loop-less : tie.Need-loop-less Inv-loop μ-loop
 loop-less c =
-    let m = c .before .before in
-    let p = call (head (m .before .before .before)) .pre in
-    let b = stepped m (p .0) (p .1) in
-    omega (arith, b .1, made-length (b .0 .begun .good) (p .1 .room) (b .0 .begun .made))
+    let p = call (c .before .before .before .before .before .before .before) .pre in
+    let b = next c (p .0) (p .1) in
+    omega (arith, c .if1 .left, made-length (b .good) (p .1 .room) (b .made))
 
 loop-again : tie.Need-loop-again Inv-loop μ-loop
-loop-again c y a = stepped (c .before .before) y a .0
+loop-again c y a = next c y a
 
 pub settle-spec : {M : Type 1} → statement M
 settle-spec =
@@ -160,17 +139,13 @@ settle-spec =
     add-away
     mul-away
     element-copy-out-away
-    choose-next-requires
+    mul-turn
+    sub-turn
+    part-turn-start
+    part-turn-end
+    turn-requires
     same-length
     returns
-    either-requires
-    either-requires-2
-    turn-start-requires
-    mul-move-pebbles
-    sub-move-pebbles
-    part-move-pebbles-start
-    part-move-pebbles-end
-    move-pebbles-requires
     add-k
     loop-less
     loop-again)

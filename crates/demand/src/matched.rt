@@ -1,21 +1,22 @@
-// The demands of a yard that the figures are told by.
+// The demands of a yard with a plan, or the refusal of one without.
 ghost use mathlib.Core.Path.{_≡_};
+ghost use Prim.Native.Nat.{_≤_};
 ghost use lib.ListN.{length};
 ghost use Rattle.model.specs.Given.{given, became};
 ghost use Rattle.model.specs.Judge.{matchedFault};
 ghost use Rattle.model.specs.Paper.{paperDone};
-ghost use Rattle.figures.specs.Leaving.{Told};
-use demand::fill::gather;
+ghost use Rattle.demand.specs.Filling.{Told};
+use crate::fill::gather;
 use judge::test::test_lists;
 use judge::test::test_shape;
 use lists::find::first_own;
 use model::Done;
 use model::Refusal;
 
-// Refusals 1 to 7; and the demands of a yard that meets none of them, into the front of a list of 256. Linear work: that the parents are a tree's is
+// Refusals 1 to 7; and the demands of a yard that meets none of them, into the front of a list of 256 at least. Linear work: that the parents are a tree's is
 // seen while the demands are gathered, and the root's demand tells whether the totals differ.
 pub fn matched_demands(parents: &[u8], pebbles: &[u8], targets: &[u8], list: &mut [i16]) -> Done
-    requires { ⌜ length (now list) ≡ 256 ⌝ }
+    requires { ⌜ 256 ≤ length (now list) ⌝ }
     ensures { λ r. ⌜ paperDone r ≡ matchedFault (given parents pebbles targets) ⌝ }
     ensures { λ _. ⌜ Told (given parents pebbles targets) (became list) ⌝ }
 {

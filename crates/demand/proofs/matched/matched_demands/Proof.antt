@@ -2,7 +2,7 @@
 -- else what is gathered are the demands.
 use borrow.Author.Needs.{needs}
 use native.Mathlib.Omega.{arith}
-use Prim.Native.Nat.{ℕ, _≤_, _<_}
+use Prim.Native.Nat.{ℕ, _<_}
 use mathlib.Core.Path.{_≡_, sym, ap, _∙_}
 use mathlib.Core.Option.{none, some}
 use mathlib.Core.List.{List, _++_}
@@ -12,7 +12,7 @@ use mir.Syntax.{w16}
 use mir.Val.{toZ, ofZ}
 use mir.ValLaws.{toZ-ofZ}
 use lib.Seq.{length-take-le}
-use Rattle.model.specs.Yard.{Yard, yardOf, size, root, demand, Matched}
+use Rattle.model.specs.Yard.{Yard, yardOf, root, demand, Matched}
 use Rattle.model.specs.Judge.{Fault, firstOf, listTests, Tree, matchedFault}
 use Rattle.model.specs.Calls.Demands.{demandsOf}
 use Rattle.model.proofs.Tests.{judge-lists, judge-shape}
@@ -21,12 +21,12 @@ use Rattle.model.proofs.Calls.{sees, matched-refused, matched-totals, matched-n
 use Rattle.model.proofs.Signed.{demand-range}
 use Rattle.model.proofs.Equation2.{only-demands}
 use Rattle.lists.proofs.Root.{root-found}
 use Rattle.demand.proofs.Numbers.{small-fits}
 use Rattle.demand.proofs.Answers.{demands-front, demands-at}
-use Rattle.figures.specs.Leaving.{Told}
-use Rattle.figures.proofs.Refused.{shape-refused, root-demand}
-use Rattle.figures.proofs.matched.matched_demands.Statement.{statement}
-use Rattle.figures.proofs.matched.matched_demands.Tie as tie
+use Rattle.demand.specs.Filling.{Told}
+use Rattle.demand.proofs.Refused.{shape-refused, root-demand}
+use Rattle.demand.proofs.matched.matched_demands.Statement.{statement}
+use Rattle.demand.proofs.matched.matched_demands.Tie as tie
 
 abbrev start : tie.After-enum-told → tie.Start
 start e = e .before .before .before .before .before .before

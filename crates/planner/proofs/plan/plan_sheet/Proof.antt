@@ -1,0 +1,135 @@
+-- `planner::plan::plan_sheet` meets its contract: refused as a yard with no plan is; else the sizes of the demands are the shortest length, which is the
+-- plan's, and balancing the root gives the plan (the laws are in Planning).
+use mathlib.Core.Path.{_≡_, refl, sym, _∙_}
+use mathlib.Core.Option.{none}
+use Prim.Native.Nat.{_/_, _≤_}
+use native.Mathlib.Omega.{arith}
+use lib.ListN.{length}
+use Rattle.model.specs.Yard.{Yard, yardOf, root, shortest, Matched}
+use Rattle.model.specs.Judge.{Tree, matchedFault}
+use Rattle.model.proofs.Judged.{facts, wood}
+use Rattle.model.proofs.Calls.{sees, matched-tree, plan-matched}
+use Rattle.lists.proofs.Root.{root-found}
+use Rattle.serve.specs.Serving.{Kept}
+use Rattle.planner.proofs.Planning.{placed-kept, front-length, front-long, sizes-range, sizes-shortest, plan-refused, root-asked, plan-accepted, plan-written}
+use borrow.Author.Needs.{needs}
+use Rattle.planner.proofs.plan.plan_sheet.Statement.{statement}
+use Rattle.planner.proofs.plan.plan_sheet.Tie as tie
+
+abbrev yard : tie.Start → Yard
+yard s = yardOf (s .args .parents .now) (s .args .pebbles .now) (s .args .targets .now)
+
+slice-aggregate-matched-demands : tie.Need-slice-aggregate-matched-demands
+slice-aggregate-matched-demands c = search needs
+
+matched-demands-requires : tie.Need-matched-demands-requires
+matched-demands-requires c κs = search needs
+
+enum-known-tested : tie.Need-enum-known-tested
+enum-known-tested c = search needs
+
+returns : tie.Need-returns
+returns c =
+    let f = plan-matched (yard (c .before .before .before .before .before .before .before .before .before .before)) _ (sees (c .before .before .before .before .matched-demands .ensures .0) (c .before .tested .given .1)) (length (c .before .before .before .before .before .before .before .before .before .before .args .plan .now)) in
+    (rw f, rw f)
+
+enum-told : tie.Need-enum-told
+enum-told c = search needs
+
+-- a tree with as many pebbles as targets
+abbrev start : tie.After-enum-told → tie.Start
+start e = e .before .before .before .before .before .before .before .before .before
+
+accepted : (e : tie.After-enum-told) → matchedFault (yard (start e)) ≡ none
+accepted e = sees (e .before .before .before .matched-demands .ensures .0) (e .enum-told .given .1)
+
+tree : (e : tie.After-enum-told) → Tree (yard (start e))
+tree e = matched-tree (yard (start e)) (accepted e) .0
+
+matched : (e : tie.After-enum-told) → Matched (yard (start e))
+matched e = matched-tree (yard (start e)) (accepted e) .1
+
+slice-aggregate-place : tie.Need-slice-aggregate-place
+slice-aggregate-place c = search needs
+
+place-requires : tie.Need-place-requires
+place-requires c κs = (omega (arith, facts _ (tree (c .before)) .few, facts _ (tree (c .before)) .pebbles-size), c .before .before .before .before .matched-demands .kept .1 .1 .1 .0)
+
+-- the state
+kept : (c : tie.After-place) → Kept (yard (start (c .before .before))) (c .place .last .1 .0)
+kept c = let e = c .before .before in placed-kept _ (tree e) _ _ (e .before .before .before .matched-demands .ensures .1 (accepted e)) (c .place .ensures)
+
+array-share-prefix-s : tie.Need-array-share-prefix-s
+array-share-prefix-s c = let p = c .before in front-long _ (tree (p .before .before)) _ (kept p)
+
+slice-aggregate-sizes : tie.Need-slice-aggregate-sizes
+slice-aggregate-sizes c = let p = c .before .before in sym (front-length _ (tree (p .before .before)) _ (kept p))
+
+sizes-requires : tie.Need-sizes-requires
+sizes-requires c κs =
+    let p = c .before .before in
+    let t = tree (p .before .before) in
+    (omega (arith, front-length _ t _ (kept p), facts _ t .few), sizes-range _ t _ (kept p))
+
+-- the plan's length
+shortest-is : (c : tie.After-sizes) → c .sizes .result ≡ shortest (yard (start (c .before .before .before .before .before)))
+shortest-is c = c .sizes .ensures ∙ sizes-shortest _ (tree (c .before .before .before .before .before)) _ (kept (c .before .before .before))
+
+returns-2 : tie.Need-returns-2
+returns-2 c = let z = c .before in let e = z .before .before .before .before .before in plan-refused _ (tree e) (matched e) _ _ (shortest-is z) (omega (arith, c .if1 .taken))
+
+tables-requires : tie.Need-tables-requires
+tables-requires c κs = let t = tree (c .before .before .before .before .before .before) in record { few = facts _ t .few .1; node = wood _ t .parent-lt }
+
+first-own-requires : tie.Need-first-own-requires
+first-own-requires c κs = search needs
+
+-- what balancing the root asks
+fits : (c : tie.Else1) → c .before .sizes .result ≤ length (start (c .before .before .before .before .before .before) .args .plan .now) / 2
+fits c = omega (arith, c .if1 .left)
+
+found : (c : tie.After-first-own) → c .first-own .result ≡ root (yard (start (c .before .before .before .before .before .before .before .before)))
+found c = let e = c .before .before .before .before .before .before .before .before in root-found (yard (start e)) (tree e) _ (c .first-own .ensures)
+
+balance-subtrees-requires : tie.Need-balance-subtrees-requires
+balance-subtrees-requires c κs =
+    let f = c .before .before .before in
+    let o = f .before .before in
+    let e = f .before .before .before .before .before .before .before .before in
+    let y = yard (start e) in
+    (y, root-asked y (tree e) (matched e) _ _ (shortest-is (o .before)) (fits o) _ _ (f .before .tables .ensures) (kept (o .before .before .before .before)) _ (found f))
+
+same-length : tie.Need-same-length
+same-length c = search needs
+
+returns-3 : tie.Need-returns-3
+returns-3 c =
+    let a = c .before .before in
+    let f = a .before .before .before .before in
+    let o = f .before .before in
+    let e = f .before .before .before .before .before .before .before .before in
+    let y = yard (start e) in
+    let l = shortest-is (o .before) in
+    let p = plan-written y (tree e) (matched e) _ _ l (fits o) _ (found f) _ _ _ (a .balance-subtrees .ensures y (root-asked y (tree e) (matched e) _ _ l (fits o) _ _ (f .before .tables .ensures) (kept (o .before .before .before .before)) _ (found f))) in
+    rw (plan-accepted y (tree e) (matched e) _ _ l (fits o), ← (p .0)) (refl, p .1)
+
+pub plan-sheet-spec : {M : Type 1} → statement M
+plan-sheet-spec =
+    tie.close
+    (tie.spec
+    slice-aggregate-matched-demands
+    matched-demands-requires
+    enum-known-tested
+    returns
+    enum-told
+    slice-aggregate-place
+    place-requires
+    array-share-prefix-s
+    slice-aggregate-sizes
+    sizes-requires
+    returns-2
+    tables-requires
+    first-own-requires
+    balance-subtrees-requires
+    same-length
+    returns-3)
