@@ -8,7 +8,7 @@ static const char *text(uint32_t number, uint32_t place) { return javendriky_ref
 
 int main(void)
 {
-    const uint32_t last = JAVENDRIKY_DEMAND_RANGE;
+    const uint32_t last = JAVENDRIKY_NO_PEBBLE;
     uint32_t a, b;
 
     for (a = 1; a <= last; a++)

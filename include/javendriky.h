@@ -25,7 +25,7 @@
  *
  * Answers. Each call answers one number a:
  *   a < 1,000,000     accepted: a is the value, or 0 where the call has none
- *   a >= 1,000,000    refused: JAVENDRIKY_REFUSAL(a) is the refusal's number, 1 to 21, and JAVENDRIKY_PLACE(a) its place
+ *   a >= 1,000,000    refused: JAVENDRIKY_REFUSAL(a) is the refusal's number, 1 to 22, and JAVENDRIKY_PLACE(a) its place
  * A refused call alters nothing that was lent to it. Every content of the lists is allowed: what is wrong with them is refused. Where several
  * refusals are due, the first in the order that the call gives is answered. */
 #ifndef JAVENDRIKY_H
@@ -40,7 +40,7 @@ extern "C" {
 
 /* The version of these calls, which the library answers too. It is raised whenever a call is added, or gets further arguments or another
  * meaning under the same name, which requests to come will do: a program built with another header would still link. So compare the two once, before any other call. */
-#define JAVENDRIKY_VERSION 5
+#define JAVENDRIKY_VERSION 6
 
 /* The most nodes that a yard can have. */
 #define JAVENDRIKY_MAX_NODES 256
@@ -85,6 +85,7 @@ extern "C" {
 #define JAVENDRIKY_NODE_OUTSIDE 19   /* the node asked for is no node of the yard; place 0 */
 #define JAVENDRIKY_ALREADY_SO 20     /* an event finds its mark already so: a pebble where one arrives, none where one leaves, targets likewise; place 0 */
 #define JAVENDRIKY_DEMAND_RANGE 21   /* an entry of the demand list is outside -256 to 256, or would be after the event; the lowest such node */
+#define JAVENDRIKY_NO_PEBBLE 22      /* the yard holds no pebble; place 0 */
 
 /* Refusal text: a refusal as a sentence, without its full stop, that says what is wrong and what to mend. It is in the words of those who mend it
  * (berth for node, car for pebble). 'The named berth' (line, move) is the one whose number is the place, so print the place beside it; moves count from 0.
@@ -121,6 +122,7 @@ static inline const char *javendriky_refusal_text(uint32_t answer)
     case 19: return "the berth asked for is no berth of this yard: name one of those that are, which count from 0";
     case 20: return "the berth already is as the event would make it: tell an arrival or a set target only where there is none, and the others only where there is one";
     case 21: return "the account of the named berth is not from -256 to 256, or would leave that range, so the account list is not this yard's: work it out anew";
+    case 22: return "the yard holds no car: ask for the nearest one where there is one";
     default: return "this refusal has no sentence in the header that the program was built with: build it with the library's own header";
     }
 }
@@ -197,6 +199,23 @@ uint32_t javendriky_target_cleared(const uint8_t *parents, size_t parents_len,
                                    uint8_t *targets, size_t targets_len,
                                    int16_t *demands, size_t demands_len,
                                    size_t node);
+
+/* Nearest: the pebble nearest to `node`, by the edges between, whichever way they lead; the lowest-numbered among equals, `node` itself if it holds one.
+ * Answers its node, and writes through `distance` how many edges away it is, from 0. The totals may differ.
+ * Refused with 1 to 6, then with 19, then with 22; then the number behind `distance` is as before. */
+uint32_t javendriky_nearest(const uint8_t *parents, size_t parents_len,
+                            const uint8_t *pebbles, size_t pebbles_len,
+                            const uint8_t *targets, size_t targets_len,
+                            size_t node, uint32_t *distance);
+
+/* Reach: the pebbles at most `reach` edges away from `node`.
+ * Answers how many they are, which may be 0, and writes all n entries of `list`: 1 for each node that holds one of them, 0 for the others. The totals may differ.
+ * Refused with 1 to 6, then with 2 if `list` has not exactly n entries, then with 19. */
+uint32_t javendriky_reach(const uint8_t *parents, size_t parents_len,
+                          const uint8_t *pebbles, size_t pebbles_len,
+                          const uint8_t *targets, size_t targets_len,
+                          uint8_t *list, size_t list_len,
+                          size_t node, uint16_t reach);
 
 /* Push: one move, of the pebble at node `from` to the adjacent empty node `to`.
  * Answers 0, and writes into `pebbles`: entry `from` becomes 0 and entry `to` 1; the others stay.

@@ -53,6 +53,16 @@ pub fn value(digits: &[u8]) -> usize {
     n
 }
 
+// The same, up to 65,535.
+pub fn short(digits: &[u8]) -> u16 {
+    let n = value(digits);
+    if n <= 65535 {
+        return n as u16;
+    }
+    bad(digits);
+    0
+}
+
 pub fn before(item: &[u8], sign: u8) -> &[u8] {
     let at = find(item, 0, sign);
     &item[..at]

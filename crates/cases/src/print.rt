@@ -2,6 +2,7 @@
 use model::Checked;
 use model::Counted;
 use model::Done;
+use model::Located;
 use model::Measured;
 use model::Refusal;
 use model::Tried;
@@ -112,5 +113,15 @@ pub fn measured(answer: Measured) {
             figure(b" bytes ", bytes);
         }
         Measured::Refused(r) => refused(r),
+    }
+}
+
+pub fn located(answer: Located) {
+    match answer {
+        Located::Node(node, distance) => {
+            figure(b"node ", node);
+            figure(b" distance ", distance);
+        }
+        Located::Refused(r) => refused(r),
     }
 }

@@ -3,6 +3,7 @@
 mod answers;
 pub mod checks;
 pub mod demands;
+pub mod distances;
 pub mod events;
 pub mod plans;
 pub mod sheets;

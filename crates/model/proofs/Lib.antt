@@ -25,6 +25,8 @@ pub mod Yards
 pub mod Way
 pub mod Events
 pub mod EventRuns
+pub mod Distance
+pub mod Nearest
 pub mod Demand3
 pub mod Outgoing
 pub mod Displaced

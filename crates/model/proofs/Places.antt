@@ -12,7 +12,7 @@ use lib.ListN.{length, drop, length-take}
 use lib.IntN.{ℤ}
 use lib.Dec.{leb, ltb, eqb}
 use borrow.Author.Tests.{leb-true, lt-ltb, le-ltb}
-use Rattle.model.specs.Yard.{Yard, size, maxSize, parent, pebble, full, held, below, roots, pebbleCount, targetCount, Matched}
+use Rattle.model.specs.Yard.{Yard, size, maxSize, parent, pebble, full, held, one, below, roots, pebbleCount, targetCount, Matched}
 use Rattle.model.specs.Judge.{Fault, row, fault, firstOf, unless, atLowest, sizeFault, rootFault, tests, judge, Tree, totalsFault, matchedTests, matchedFault}
 use Rattle.model.specs.Push.{Move, adjacent, moveTests, moveFault, pushFault, pushed}
 use Rattle.model.specs.Plan.{plan}
@@ -20,14 +20,18 @@ use Rattle.model.specs.Calls.Answers.{Answer, answered, refused, rowUnit
 use Rattle.model.specs.Calls.Demands.{demandsTests, demandsFault, boundAnswer, displacedAnswer, longest, longestAnswer}
 use Rattle.model.specs.declared.Event.{Event}
 use Rattle.model.specs.Calls.Events.{possible, eventTests, eventFault}
+use Rattle.model.specs.Distance.{distance}
+use Rattle.model.specs.Calls.Distances.{nearest, Nearest, nearestOf, nearestTests, nearestFault, nearestAnswer, inReach, reachTests, reachFault, reachAnswer}
 use Rattle.model.specs.Calls.Plans.{planTests, planFault, movesOf}
 use Rattle.model.specs.Calls.Checks.{maxPlanBytes, bytesFault, movesFault, Verdict, checkTests, checkFault, checkAnswer, within, trialTests, trialFault, trialAnswer, trialInC}
 use Rattle.model.specs.Sheets.{maxSheetBytes, yardSheet, readYard, reader, readAnswer, writeTests, writeFault, writeAnswer}
-use Rattle.model.proofs.Basics.{All, all-below, none-all, unless-none}
+use Rattle.model.proofs.Basics.{All, one-le, all-below, none-all, unless-none}
 use Rattle.model.proofs.Sums.{sum-mono, sum-le}
 use Rattle.model.proofs.Judged.{facts}
 use Rattle.model.proofs.Signed.{shortest-small}
 use Rattle.model.proofs.Calls.{movesOf-half, totals-none, plan-none, matched-tree}
+use Rattle.model.proofs.Distance.{distance-lt}
+use Rattle.model.proofs.Nearest.{nearest-none, nearest-is}
 use Rattle.model.proofs.Demand3.{plan-length}
 use Rattle.model.proofs.Displaced.{displaced-le}
 use Rattle.model.proofs.Sheets.{Bytes, yardSheet-short, read-sizes, read-places}
@@ -146,6 +150,28 @@ module _ (y : Yard) where
             once (eqb (length list) (size y)) 2 0 (omega arith) (omega arith),
             (once (ltb v (size y)) 19 0 (omega arith) (omega arith), (once (possible y e v) 20 0 (omega arith) (omega arith), (lowest 21 (size y) (omega arith) (facts y t .few .1) _, tt))),
           ))
+
+  -- the nearest pebble's node and its distance are below n, and no more than n are in reach
+  module _ (a : ℕ) where
+    nearest-low : Low (nearestFault y a)
+    unfolding nearestFault
+    nearest-low = all (nearestTests y a) (judge-low y, (once (ltb a (size y)) 19 0 (omega arith) (omega arith), (once (ltb 0 (pebbleCount y)) 22 0 (omega arith) (omega arith), tt)))
+
+    pub nearest-small : (Small (mapAnswer (λ (r : Nearest). r .node) (nearestAnswer y a))) × (Small (mapAnswer (λ (r : Nearest). r .distance) (nearestAnswer y a)))
+    nearest-small = rw (map-answer (λ (r : Nearest). r .node), map-answer (λ (r : Nearest). r .distance)) (small _ nearest-low (λ e. few e .0), small _ nearest-low (λ e. few e .1))
+      where
+        few : nearestFault y a ≡ none → (nearest y a < rowUnit) × (distance y a (nearest y a) < rowUnit)
+        few e =
+            let h = nearest-none y a .0 e in
+            let l = nearest-is y a (nearestOf y a) (rw e) .node-lt in
+            omega (arith, l, distance-lt y (h .0) a (nearest y a) (h .1) l, facts y (h .0) .few .1)
+
+    pub reach-small : (list : List ℕ) (reach : ℕ) → Small (reachAnswer y list a reach)
+    unfolding reachFault
+    reach-small list reach = small _ low (λ e. omega (arith, facts y (none-all (reachTests y list a) e .0) .few, sum-le (size y) (λ v. one (inReach y a reach v)) (λ v. one-le (inReach y a reach v))))
+      where
+        low : Low (firstOf (reachTests y list a))
+        low = all (reachTests y list a) (judge-low y, (once (eqb (length list) (size y)) 2 0 (omega arith) (omega arith), (once (ltb a (size y)) 19 0 (omega arith) (omega arith), tt)))
 
   figure-low : Low (matchedFault y)
   unfolding matchedFault

@@ -7,7 +7,7 @@ use mathlib.Core.Option.{Option, none}
 use Prim.Native.Nat.{ℕ}
 use Prim.Native.String.{String}
 use native.Mathlib.Omega.{arith}
-use lib.ListN.{take, replicate}
+use lib.ListN.{length, take, replicate}
 use lib.IntN.{ℤ, pos, negsuc}
 use Rattle.model.specs.declared.Event.{Event}
 use Rattle.model.specs.declared.Event.the-variants.{PebbleArrives, PebbleLeaves, TargetSet, TargetCleared}
@@ -19,6 +19,8 @@ use Rattle.model.specs.Follow.{placed, starts, occurs, At, Follows, rout
 use Rattle.model.specs.Calls.Answers.{Answer, answered, refused, range}
 use Rattle.model.specs.Calls.Demands.{demandsFault, demandsList, Length, boundAnswer, displacedAnswer, longestAnswer}
 use Rattle.model.specs.Calls.Events.{demandsAfter, eventFault, eventPebbles, eventTargets, eventDemands, console, Happening, happens, leaves, runLeaves}
+use Rattle.model.specs.Distance.{anyOf, reaches, distance}
+use Rattle.model.specs.Calls.Distances.{Nearest, nearest, nearestFault, nearestAnswer, inReach, reachFault, reachList, reachAnswer}
 use Rattle.model.specs.Calls.Plans.{bytes, movesOf, planFault, planAnswer, planList}
 use Rattle.model.specs.Calls.Checks.{movesFault, Verdict, checkFault, checkAnswer, Trial, trialFault, trialAnswer, trialPebbles}
 use Rattle.model.specs.Sheets.{text, digits, decimal, stopBefore, line, lines, header, cut, same, value, field, readLine, readNodes, readYard, moveLines, edges, report, moveSheet, refusalSheet, program}
@@ -49,6 +51,10 @@ data Input : Type 0 where
   -- an event at a node, with a demand list; and events one after another
   eventOf : Event → ℕ → List ℤ → Yard → Input
   eventsOf : List Happening → List ℤ → Yard → Input
+  -- the distances from a node; the pebble nearest to it; those within reach of it, into a list
+  distancesOf : ℕ → Yard → Input
+  nearestOf : ℕ → Yard → Input
+  reachOf : List ℕ → ℕ → ℕ → Yard → Input
 
 data Outcome : Type 0 where
   demands : List ℤ → Outcome
@@ -65,6 +71,8 @@ data Outcome : Type 0 where
   -- the answer, and the pebbles, the targets and the demands then
   happened : Option Fault → List ℕ → List ℕ → List ℤ → Outcome
   console-left : List ℕ → List ℕ → List ℤ → Outcome
+  located : Answer Nearest → Outcome
+  reached : Answer ℕ → List ℕ → Outcome
 
 outcome : Input → Outcome
 outcome (demandsOf y) = demands (demandsList y (map (λ (_ : ℕ). pos 0) (y .parents)))
@@ -85,6 +93,9 @@ outcome (startsOf y) = left (starts y)
 outcome (takenOf ms y) = left (lifo y ms)
 outcome (eventOf e v list y) = happened (eventFault y list e v) (eventPebbles y list e v) (eventTargets y list e v) (eventDemands y list e v)
 outcome (eventsOf hs list y) = let c = runLeaves (console y list) hs in console-left (c .yard .pebbles) (c .yard .targets) (c .demands)
+outcome (distancesOf a y) = left (map (distance y a) (range 0 (length (y .parents))))
+outcome (nearestOf a y) = located (nearestAnswer y a)
+outcome (reachOf list a reach y) = reached (reachAnswer y list a reach) (reachList y list a reach)
 
 record Case : Type 0 where
   input : Input
@@ -101,6 +112,17 @@ siding = yardOf (0 ∷ 0 ∷ 0 ∷ []) (0 ∷ 2 ∷ 1 ∷ []) (1 ∷ 1 ∷ 1 ∷
 -- an event in yard A that is refused: the yard and the list stay
 keeps : Event → ℕ → List ℤ → ℕ → ℕ → Case
 keeps e v list n p = eventOf e v list yardA gives happened (fault n p) (yardA .pebbles) (yardA .targets) list
+
+-- a pebble at a node, so far away
+near : ℕ → ℕ → Outcome
+near v d = located (answered (record { node = v; distance = d }))
+
+-- the root is the highest node
+highRoot : Yard
+highRoot = yard (3 ∷ 3 ∷ 3 ∷ 4 ∷ 4 ∷ []) (1 ∷ 4 ∷ []) []
+
+nines : List ℕ
+nines = 9 ∷ 9 ∷ 9 ∷ 9 ∷ 9 ∷ []
 
 cases : List Case
 cases =
@@ -208,6 +230,30 @@ cases =
     -- a run in which some are refused (20, 19, and 20 for the pebble that has left)
     ∷ (eventsOf (happens PebbleArrives 1 ∷ happens PebbleArrives 0 ∷ happens PebbleLeaves 3 ∷ happens TargetSet 9 ∷ happens TargetCleared 4 ∷ happens PebbleLeaves 3 ∷ []) demandsA yardA
     gives console-left (1 ∷ 1 ∷ 0 ∷ 0 ∷ 0 ∷ []) (0 ∷ 0 ∷ 1 ∷ 0 ∷ 0 ∷ []) (negsuc 0 ∷ negsuc 0 ∷ pos 1 ∷ pos 0 ∷ pos 0 ∷ []))
+    -- request 2.7: down, up and over the root; from each node; of equals the lowest
+    ∷ (distancesOf 2 yardA gives left (1 ∷ 2 ∷ 0 ∷ 3 ∷ 3 ∷ []))
+    ∷ (distancesOf 3 yardA gives left (2 ∷ 1 ∷ 3 ∷ 0 ∷ 2 ∷ []))
+    ∷ (nearestOf 0 yardA gives near 1 1)
+    ∷ (nearestOf 1 yardA gives near 1 0)
+    ∷ (nearestOf 2 yardA gives near 1 2)
+    ∷ (nearestOf 3 yardA gives near 3 0)
+    ∷ (nearestOf 4 yardA gives near 1 1)
+    ∷ (nearestOf 0 highRoot gives near 1 2)
+    ∷ (nearestOf 3 highRoot gives near 1 1)
+    ∷ (nearestOf 4 highRoot gives near 4 0)
+    ∷ (nearestOf 0 (yard (0 ∷ []) (0 ∷ []) []) gives near 0 0)
+    -- a circle; 19, before 22; 22
+    ∷ (nearestOf 9 (yard (0 ∷ 2 ∷ 1 ∷ []) [] []) gives located (refused (row 6 1)))
+    ∷ (nearestOf 2 (yard (0 ∷ 0 ∷ []) [] (0 ∷ [])) gives located (refused (row 19 0)))
+    ∷ (nearestOf 1 (yard (0 ∷ 0 ∷ []) [] (0 ∷ [])) gives located (refused (row 22 0)))
+    -- none, one and both pebbles in reach; no pebble at all; a list that is too short, before 19; 19
+    ∷ (reachOf nines 4 0 yardA gives reached (answered 0) (0 ∷ 0 ∷ 0 ∷ 0 ∷ 0 ∷ []))
+    ∷ (reachOf nines 4 1 yardA gives reached (answered 1) (0 ∷ 1 ∷ 0 ∷ 0 ∷ 0 ∷ []))
+    ∷ (reachOf nines 4 2 yardA gives reached (answered 2) (0 ∷ 1 ∷ 0 ∷ 1 ∷ 0 ∷ []))
+    ∷ (reachOf nines 2 65_535 yardA gives reached (answered 2) (0 ∷ 1 ∷ 0 ∷ 1 ∷ 0 ∷ []))
+    ∷ (reachOf (9 ∷ []) 0 65_535 (yard (0 ∷ []) [] []) gives reached (answered 0) (0 ∷ []))
+    ∷ (reachOf (9 ∷ 9 ∷ []) 5 7 yardA gives reached (refused (row 2 0)) (9 ∷ 9 ∷ []))
+    ∷ (reachOf nines 5 7 yardA gives reached (refused (row 19 0)) nines)
     -- children are balanced in rising number
     ∷ (planOf (yard (0 ∷ 0 ∷ 0 ∷ 1 ∷ 1 ∷ 2 ∷ 2 ∷ []) (3 ∷ 5 ∷ []) (4 ∷ 6 ∷ [])) gives moves (push 3 1 ∷ push 1 4 ∷ push 5 2 ∷ push 2 6 ∷ []))
     -- of equals the lowest: clearing fills the lowest child, drawing draws from the lowest, and so does a turn
@@ -230,7 +276,7 @@ cases =
     ∷ []
 
 worked : map (λ (c : Case). outcome (c .input)) cases ≡ map (λ (c : Case). c .expected) cases
-unfolding demandsA siding placed occurs firstAt lastIn displaced demandsAfter eventFault leaves runLeaves keeps cases _gives_ outcome yard marks yardA yardB planB sum below roots climbs inside subtotal shortest judge moveFault pushFault legal shifted after accepted count needy lowestChild greatest neediestChild choice inject extract turn settle each balance planWithin planBy plan range demandsFault bytes movesOf planFault movesFault checkFault trialFault matchedFault text digits decimal stopBefore line lines header cut same value field readLine readNodes readYard moveLines edges report moveSheet refusalSheet program
+unfolding near highRoot nines anyOf reaches distance nearest nearestFault inReach reachFault demandsA siding placed occurs firstAt lastIn displaced demandsAfter eventFault leaves runLeaves keeps cases _gives_ outcome yard marks yardA yardB planB sum below roots climbs inside subtotal shortest judge moveFault pushFault legal shifted after accepted count needy lowestChild greatest neediestChild choice inject extract turn settle each balance planWithin planBy plan range demandsFault bytes movesOf planFault movesFault checkFault trialFault matchedFault text digits decimal stopBefore line lines header cut same value field readLine readNodes readYard moveLines edges report moveSheet refusalSheet program
 worked = refl
 
 -- two pebbles start at node 1, and one at node 2: whichever is taken, pebble 1 may go the second time, and each has its own route

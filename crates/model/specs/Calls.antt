@@ -2,5 +2,6 @@
 pub mod Answers
 pub mod Demands
 pub mod Events
+pub mod Distances
 pub mod Plans
 pub mod Checks

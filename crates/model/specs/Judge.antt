@@ -15,7 +15,7 @@ pub record Fault : Type 0 where
 
 -- the rows of the table
 abbrev pub rowCount : ℕ
-rowCount = 21
+rowCount = 22
 
 abbrev pub row : ℕ → ℕ → Fault
 row n p = record { number = n; place = p }
@@ -83,6 +83,10 @@ judge y = firstOf (tests y)
 -- a yard is a tree if none of refusals 1 to 6 meets it ('The words of demand 3')
 abbrev pub Tree : Yard → Type 0
 Tree y = judge y ≡ none
+
+-- 19: a number handed to a call for a node is n or more (requests 2.5 and 2.7)
+abbrev pub nodeFault : Yard → ℕ → Option Fault
+nodeFault y v = unless (ltb v (size y)) (fault 19 0)
 
 -- 7: the totals of pebbles and targets differ, so the yard has no plan
 abbrev pub totalsFault : Yard → Option Fault

@@ -4,6 +4,7 @@ pub mod Judge
 pub mod Push
 pub mod Plan
 pub mod Follow
+pub mod Distance
 pub mod Calls
 pub mod Sheets
 pub mod Paper

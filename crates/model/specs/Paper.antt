@@ -4,16 +4,18 @@ use mathlib.Core.Bool.{true, false}
 use mathlib.Core.Option.{Option, none, some}
 use Prim.Native.Nat.{ℕ}
 use Rattle.model.specs.declared.Refusal.{Refusal}
-use Rattle.model.specs.declared.Refusal.the-variants.{NodeCount, ListLength, Mark, ParentOutside, Roots, Circle, Totals, ListTooShort, PlanLength, NoSuchNode, NotAdjacent, FromEmpty, ToFull, TargetEmpty, Header, LineShape, NodeNumber, ReaderList, NodeOutside, EventImpossible, DemandRange}
+use Rattle.model.specs.declared.Refusal.the-variants.{NodeCount, ListLength, Mark, ParentOutside, Roots, Circle, Totals, ListTooShort, PlanLength, NoSuchNode, NotAdjacent, FromEmpty, ToFull, TargetEmpty, Header, LineShape, NodeNumber, ReaderList, NodeOutside, EventImpossible, DemandRange, NoPebble}
 use Rattle.model.specs.declared.Done.{Done}
 use Rattle.model.specs.declared.Counted.{Counted}
 use Rattle.model.specs.declared.Checked.{Checked}
 use Rattle.model.specs.declared.Tried.{Tried}
 use Rattle.model.specs.declared.Measured.{Measured}
+use Rattle.model.specs.declared.Located.{Located}
 use Rattle.model.specs.Judge.{Fault, row}
 use Rattle.model.specs.Calls.Answers.{Answer, answered, refused}
 use Rattle.model.specs.Calls.Checks.{Verdict, Trial}
 use Rattle.model.specs.Calls.Demands.{Length}
+use Rattle.model.specs.Calls.Distances.{Nearest}
 
 abbrev pub paper : Refusal → Fault
 paper (NodeCount p) = row 1 p
@@ -37,6 +39,7 @@ paper ReaderList = row 18 0
 paper NodeOutside = row 19 0
 paper EventImpossible = row 20 0
 paper (DemandRange v) = row 21 v
+paper NoPebble = row 22 0
 
 -- accepted, or the refusal
 abbrev pub paperDone : Done → Option Fault
@@ -63,3 +66,8 @@ paperTried (Tried.Refused r) = refused (paper r)
 abbrev pub paperMeasured : Measured → Answer Length
 paperMeasured (Measured.Length moves bytes) = answered (record { moves = moves; listBytes = bytes })
 paperMeasured (Measured.Refused r) = refused (paper r)
+
+-- a node and its distance, or the refusal
+abbrev pub paperLocated : Located → Answer Nearest
+paperLocated (Located.Node v d) = answered (record { node = v; distance = d })
+paperLocated (Located.Refused r) = refused (paper r)

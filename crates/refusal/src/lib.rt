@@ -28,6 +28,7 @@ pub fn number(r: Refusal) -> u32
         Refusal::NodeOutside => 19,
         Refusal::EventImpossible => 20,
         Refusal::DemandRange(_) => 21,
+        Refusal::NoPebble => 22,
     }
 }
 
@@ -56,5 +57,6 @@ pub fn place(r: Refusal) -> usize
         Refusal::NodeOutside => 0,
         Refusal::EventImpossible => 0,
         Refusal::DemandRange(v) => v,
+        Refusal::NoPebble => 0,
     }
 }

@@ -1,9 +1,8 @@
 // A plan checked or tried.
 use cases::kinds::kind;
-use cases::lines::bad;
 use cases::lines::field;
 use cases::lists::entries;
-use cases::lists::value;
+use cases::lists::short;
 use cases::print::checked;
 use cases::print::list;
 use cases::print::tried;
@@ -16,22 +15,13 @@ fn check_plan(line: &[u8], parents: &[u8], pebbles: &[u8], targets: &[u8]) {
     checked(check(parents, pebbles, targets, plan));
 }
 
-fn budget(line: &[u8]) -> u16 {
-    let n = value(field(line, 6));
-    if n <= 65535 {
-        return n as u16;
-    }
-    bad(line);
-    0
-}
-
 // The answer, and the pebble list after the trial.
 fn try_plan(line: &[u8], parents: &[u8], targets: &[u8]) {
     let mut pebbles = [0u8; 300];
     let pebbles = entries(field(line, 3), &mut pebbles);
     let mut plan = [0u8; 131072];
     let plan = entries(field(line, 5), &mut plan);
-    tried(trial(parents, pebbles, targets, plan, budget(line)));
+    tried(trial(parents, pebbles, targets, plan, short(field(line, 6))));
     list(b", marks", pebbles);
 }
 

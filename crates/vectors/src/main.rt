@@ -3,6 +3,7 @@
 // `case` answers whether the case was one of them.
 mod checks;
 mod demands;
+mod distances;
 mod events;
 mod plans;
 mod reads;
@@ -27,6 +28,7 @@ fn on_lists(line: &[u8], parents: &[u8], pebbles: &[u8], targets: &[u8]) {
     let known = yards::case(line, parents, pebbles, targets)
         | demands::case(line, parents, pebbles, targets)
         | events::case(line, parents)
+        | distances::case(line, parents, pebbles, targets)
         | plans::case(line, parents, pebbles, targets)
         | checks::case(line, parents, pebbles, targets)
         | writes::case(line, parents, pebbles, targets);

@@ -70,4 +70,4 @@ Small (refused f) = Row f
 
 -- the version of the calls for C: raised whenever one is added, or gets further arguments or another meaning under its name
 abbrev pub version : ℕ
-version = 5
+version = 6

@@ -10,7 +10,7 @@ use lib.IntN.{ℤ, natAbs, sucℤ, predℤ}
 use Rattle.model.specs.declared.Event.{Event}
 use Rattle.model.specs.declared.Event.the-variants.{PebbleArrives, PebbleLeaves, TargetSet, TargetCleared}
 use Rattle.model.specs.Yard.{Yard, yardOf, size, maxDemand, pebble, target, capacity, below, inside, entry}
-use Rattle.model.specs.Judge.{Fault, fault, firstOf, unless, atLowest, judge}
+use Rattle.model.specs.Judge.{Fault, fault, firstOf, unless, atLowest, judge, nodeFault}
 use Rattle.model.specs.Calls.Answers.{lent, range}
 use Rattle.model.specs.Calls.Demands.{demandsOf}
 
@@ -50,10 +50,6 @@ entryAfter y e v list u = cond (inside (y .parents) u v) (changed e (entry list 
 
 unfoldable pub demandsAfter : Yard → Event → ℕ → List ℤ → List ℤ
 demandsAfter y e v list = map (entryAfter y e v list) (range 0 (size y))
-
--- 19, the node is n or more
-abbrev pub nodeFault : Yard → ℕ → Option Fault
-nodeFault y v = unless (ltb v (size y)) (fault 19 0)
 
 -- 20, the event finds its mark already so: no room for the pebble or the target that comes, or none to take
 abbrev pub possible : Yard → Event → ℕ → Bool

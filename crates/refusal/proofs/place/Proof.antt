@@ -73,6 +73,9 @@ enum-told-7 c = search needs
 enum-known-r-14 : tie.Need-enum-known-r-14
 enum-known-r-14 c = search needs
 
+enum-told-8 : tie.Need-enum-told-8
+enum-told-8 c = search needs
+
 returns : tie.Need-returns
 returns c = sym (ap told (c .before .r .given .1))
 
@@ -136,6 +139,9 @@ returns-20 c = sym (ap told (c .enum-told7 .given .1))
 returns-21 : tie.Need-returns-21
 returns-21 c = sym (ap told (c .before .r14 .given .1))
 
+returns-22 : tie.Need-returns-22
+returns-22 c = sym (ap told (c .enum-told8 .given .1))
+
 pub place-spec : {M : Type 1} → statement M
 place-spec =
     tie.close
@@ -161,6 +167,7 @@ place-spec =
     enum-told-6
     enum-told-7
     enum-known-r-14
+    enum-told-8
     returns
     returns-2
     returns-3
@@ -181,4 +188,5 @@ place-spec =
     returns-18
     returns-19
     returns-20
-    returns-21)
+    returns-21
+    returns-22)

@@ -1,0 +1,57 @@
+-- Distances from a node that are known in part, and in full.
+use mathlib.Core.Path.{_≡_}
+use mathlib.Core.Logic.{_≢_}
+use mathlib.Core.Bool.{Bool, true, _&&_}
+use mathlib.Core.List.{List}
+use Prim.Native.Nat.{ℕ, _<_}
+use lib.ListN.{length, getD}
+use lib.Dec.{leb, ltb}
+use Rattle.model.specs.Yard.{Yard, size, inside}
+use Rattle.model.specs.Judge.{Tree}
+use Rattle.model.specs.Distance.{distance}
+use Rattle.model.specs.Calls.Answers.{Answer, answer}
+use Rattle.model.specs.Calls.Distances.{Nearest, nearestOf, emptyFault}
+
+-- a node of a tree with these parents
+pub record From (y : Yard) (parents : List ℕ) (a : ℕ) : Type 0 where
+  pub tree : Tree y
+  pub same : y .parents ≡ parents
+  pub node : a < size y
+
+-- an entry that is not known yet, and a list of nothing else
+abbrev pub unknown : ℕ
+unknown = 256
+
+abbrev pub Unknown : List ℕ → Type 0
+Unknown list = (v : ℕ) → v < length list → getD list v 0 ≡ unknown
+
+-- what is known is the distance from a, and it is known of the nodes on the way from a to the root
+pub record Partly (y : Yard) (a : ℕ) (list : List ℕ) : Type 0 where
+  pub long : length list ≡ size y
+  pub known : (v : ℕ) → v < size y → getD list v 0 ≢ unknown → getD list v 0 ≡ distance y a v
+  pub on-way : (v : ℕ) → v < size y → inside (y .parents) v a ≡ true → getD list v 0 ≢ unknown
+
+-- of v too, and of no node less than before
+pub record Further (y : Yard) (a v : ℕ) (before after : List ℕ) : Type 0 where
+  pub partly : Partly y a after
+  pub stays : (w : ℕ) → w < size y → getD before w 0 ≢ unknown → getD after w 0 ≢ unknown
+  pub met : getD after v 0 ≢ unknown
+
+-- of every node
+abbrev pub Distances : Yard → ℕ → List ℕ → Type 0
+Distances y a list = (v : ℕ) → v < size y → getD list v 0 ≡ distance y a v
+
+-- what looking for pebbles asks: the distances of all nodes of a tree from one of them
+pub record Asked (y : Yard) (a : ℕ) (pebbles far : List ℕ) : Type 0 where
+  pub tree : Tree y
+  pub node : a < size y
+  pub marks : y .pebbles ≡ pebbles
+  pub distances : Distances y a far
+
+-- v is not below a number, holds a pebble and is nearer than a distance
+abbrev pub isNearerFrom : List ℕ → List ℕ → ℕ → ℕ → ℕ → Bool
+isNearerFrom pebbles far from than v = (leb from v) && ((ltb 0 (getD pebbles v 0)) && (ltb (getD far v 0) than))
+
+-- what the nearest call answers to a node of a tree: 22 if the yard holds no pebble
+abbrev pub nearestOrNone : Yard → ℕ → Answer Nearest
+nearestOrNone y a = answer (emptyFault y) (nearestOf y a)
