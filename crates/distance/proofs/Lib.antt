@@ -1,3 +1,4 @@
 -- Laws that the proofs of the functions share.
+pub mod Climbing
 pub mod Marking
 pub mod Pebbles

@@ -1,6 +1,6 @@
 -- Distances from a node, known of more and more nodes: up from it to the root, then from each node up to the first that is known, and back.
 use mathlib.Core.Path.{_≡_, refl, sym, ap, _∙_}
-use mathlib.Core.Logic.{_≢_, _⊎_, inl, inr}
+use mathlib.Core.Logic.{_≢_}
 use mathlib.Core.Bool.{Bool, true, false, cond}
 use mathlib.Core.List.{List, map}
 use Prim.Native.Nat.{ℕ, suc, _+_, _-_, _≤_, _<_}
@@ -15,9 +15,9 @@ use Rattle.model.proofs.Basics.{not-so}
 use Rattle.model.proofs.Ranges.{length-range, getD-listed}
 use Rattle.model.proofs.Trees.{Wood}
 use Rattle.model.proofs.Judged.{facts, wood}
-use Rattle.model.proofs.Way.{wayLength, wayLength-parent, Climbed, climb-start, climb-next, climb-end}
+use Rattle.model.proofs.Way.{Climbed, climb-start, climb-next, climb-end}
 use Rattle.model.proofs.Distance.{distance-lt, distance-self, distance-climb, distance-off}
-use Rattle.distance.specs.Far.{From, unknown, Unknown, Partly, Further, Distances}
+use Rattle.distance.specs.Far.{From, unknown, Unknown, Partly}
 
 module _ {y : Yard} {parents : List ℕ} {a : ℕ} (f : From y parents a) where
   abbrev rails : Wood (y .parents) (root y)
@@ -39,10 +39,6 @@ module _ {y : Yard} {parents : List ℕ} {a : ℕ} (f : From y parents a) where
   pub root-own : (w : ℕ) → w ≡ root y → getD parents w 0 ≡ w
   root-own w e = up-is w ∙ rw e (rails .root-parent)
 
-  -- the way up is shorter from each node's parent
-  pub way-falls : (w : ℕ) → w < size y → w ≢ root y → wayLength parents (parent y w) < wayLength parents w
-  way-falls w l d = rw (← f .same) (omega (arith, wayLength-parent rails w l d))
-
   far-known : (v : ℕ) → v < size y → distance y a v ≢ unknown
   far-known v l e = absurd (omega (arith, distance-lt y (f .tree) a v (f .node) l, few))
 
@@ -56,8 +52,8 @@ module _ {y : Yard} {parents : List ℕ} {a : ℕ} (f : From y parents a) where
     mark-first e = record { climbed = climb-start rails (distance y a) 0 a (f .node) before e; far = sym (distance-self y (f .tree) a (f .node)) }
 
     module _ {list : List ℕ} {w steps : ℕ} (m : Marking before list w steps) where
-      pub mark-node : (w < size y) × (length list ≡ size y) × (steps < 256)
-      mark-node = omega (arith, m .climbed .node-lt, m .climbed .long, m .far, distance-lt y (f .tree) a w (f .node) (m .climbed .node-lt), few)
+      pub mark-few : steps < size y
+      mark-few = omega (arith, m .far, distance-lt y (f .tree) a w (f .node) (m .climbed .node-lt))
 
       pub mark-next : w ≢ root y → Marking before (set list w steps) (parent y w) (steps + 1)
       mark-next d = record {
@@ -82,11 +78,8 @@ module _ {y : Yard} {parents : List ℕ} {a : ℕ} (f : From y parents a) where
           go v k true n = refl
           go v k false n = absurd (n (u v (omega (arith, l))))
 
-  -- a node that is not known is not the root, and one farther away than its parent
+  -- a node that is not known is one farther away than its parent
   module _ {list : List ℕ} (p : Partly y a list) {u : ℕ} (l : u < size y) (n : getD list u 0 ≡ unknown) where
-    pub off-root : u ≢ root y
-    off-root e = p .on-way u l (rw e (rails .to-root a (f .node))) n
-
     pub farther : distance y a u ≡ suc (distance y a (parent y u))
     farther = distance-off y (f .tree) a (f .node) u l (not-so (inside (y .parents) u a) (λ i. p .on-way u l i n))
 
@@ -95,78 +88,35 @@ module _ {y : Yard} {parents : List ℕ} {a : ℕ} (f : From y parents a) where
     pub node : u < size y
     pub far : distance y a v ≡ distance y a u + steps
 
+  pub rise-few : {v u climbed : ℕ} → v < size y → Rising v u climbed → climbed < size y
+  rise-few {v} l r = omega (arith, r .far, distance-lt y (f .tree) a v (f .node) l)
+
   pub rise-next : {list : List ℕ} {v u steps : ℕ} → Partly y a list → Rising v u steps → getD list u 0 ≡ unknown → Rising v (parent y u) (steps + 1)
   rise-next {u = u} p r n = record { node = rails .parent-lt u (r .node); far = omega (arith, r .far, farther p (r .node) n) }
 
   -- and written: those below w
-  pub record Writing (v : ℕ) (before list : List ℕ) (w steps : ℕ) : Type 0 where
+  pub record Writing (list : List ℕ) (w steps : ℕ) : Type 0 where
     pub partly : Partly y a list
-    pub stays : (x : ℕ) → x < size y → getD before x 0 ≢ unknown → getD list x 0 ≢ unknown
     pub node : w < size y
     pub far : steps ≡ distance y a w
-    pub met : (v ≡ w) ⊎ (getD list v 0 ≢ unknown)
 
-  pub write-first : {before : List ℕ} {v steps : ℕ} → Partly y a before → v < size y → steps ≡ distance y a v → Writing v before before v steps
-  write-first p l e = record { partly = p; stays = λ x k n. n; node = l; far = e; met = inl refl }
-
-  module _ {before list : List ℕ} {v w steps : ℕ} (r : Writing v before list w steps) where
-    pub write-last : getD list w 0 ≢ unknown → Further y a v before list
-    write-last n = record { partly = r .partly; stays = r .stays; met = go (r .met) }
-      where
-        go : (v ≡ w) ⊎ (getD list v 0 ≢ unknown) → getD list v 0 ≢ unknown
-        go (inl e) = rw e n
-        go (inr k) = k
-
-    here : getD (set list w steps) w 0 ≡ distance y a w
-    here = getD-set-same list w steps 0 (omega (arith, r .node, r .partly .long)) ∙ r .far
-
-    there : (x : ℕ) → x ≢ w → getD (set list w steps) x 0 ≡ getD list x 0
-    there x d = getD-set-other list w x steps 0 d
-
-    -- no entry is lost
-    kept : (x : ℕ) → x < size y → getD list x 0 ≢ unknown → getD (set list w steps) x 0 ≢ unknown
-    kept x k n = go (ℕ-discrete x w)
-      where
-        go : Dec (x ≡ w) → getD (set list w steps) x 0 ≢ unknown
-        go (yes e) = rw (e, here) (far-known w (r .node))
-        go (no d) = rw (there x d) n
-
-    pub write-next : v < size y → getD list w 0 ≡ unknown → Writing v before (set list w steps) (parent y w) (steps - 1)
-    write-next lv n = record {
-      partly = record {
-        long = length-set list w steps ∙ r .partly .long;
-        known = λ x k. at x k (ℕ-discrete x w);
-        on-way = λ x k i. kept x k (r .partly .on-way x k i);
-      };
-      stays = λ x k m. kept x k (r .stays x k m);
-      node = rails .parent-lt w (r .node);
-      far = omega (arith, r .far, farther (r .partly) (r .node) n);
-      met = inr (go (r .met));
-    }
-      where
-        at : (x : ℕ) → x < size y → Dec (x ≡ w) → getD (set list w steps) x 0 ≢ unknown → getD (set list w steps) x 0 ≡ distance y a x
-        at x k (yes e) m = rw e here
-        at x k (no d) m = there x d ∙ r .partly .known x k (λ h. m (there x d ∙ h))
-
-        go : (v ≡ w) ⊎ (getD list v 0 ≢ unknown) → getD (set list w steps) v 0 ≢ unknown
-        go (inl e) = rw (e, here) (far-known w (r .node))
-        go (inr k) = kept v lv k
-
--- all nodes below v are known
-pub record Known (y : Yard) (a v : ℕ) (list : List ℕ) : Type 0 where
-  pub partly : Partly y a list
-  pub below : (w : ℕ) → w < size y → w < v → getD list w 0 ≢ unknown
-
-module _ {y : Yard} {a : ℕ} where
-  pub known-none : {list : List ℕ} → Partly y a list → Known y a 0 list
-  known-none p = record { partly = p; below = λ w l k. absurd (omega arith) }
-
-  pub known-next : {v : ℕ} {before list : List ℕ} → Known y a v before → Further y a v before list → Known y a (v + 1) list
-  known-next {v} {before} {list} k f = record { partly = f .partly; below = λ w l m. go w l m (ℕ-discrete w v) }
+  pub write-next : {list : List ℕ} {w steps : ℕ} → Writing list w steps → getD list w 0 ≡ unknown → Writing (set list w steps) (parent y w) (steps - 1)
+  write-next {list} {w} {steps} r n = record {
+    partly = record { long = length-set list w steps ∙ r .partly .long; known = λ x k. at x k (ℕ-discrete x w); on-way = λ x k i. kept x k i (ℕ-discrete x w) };
+    node = rails .parent-lt w (r .node);
+    far = omega (arith, r .far, farther (r .partly) (r .node) n);
+  }
     where
-      go : (w : ℕ) → w < size y → w < v + 1 → Dec (w ≡ v) → getD list w 0 ≢ unknown
-      go w l m (yes e) = rw e (f .met)
-      go w l m (no d) = f .stays w l (k .below w l (omega arith))
+      written : getD (set list w steps) w 0 ≡ distance y a w
+      written = getD-set-same list w steps 0 (omega (arith, r .node, r .partly .long)) ∙ r .far
 
-  pub known-all : {v : ℕ} {list : List ℕ} → Known y a v list → size y ≤ v → Distances y a list
-  known-all k m w l = k .partly .known w l (k .below w l (omega arith))
+      other : (x : ℕ) → x ≢ w → getD (set list w steps) x 0 ≡ getD list x 0
+      other x d = getD-set-other list w x steps 0 d
+
+      at : (x : ℕ) → x < size y → Dec (x ≡ w) → getD (set list w steps) x 0 ≢ unknown → getD (set list w steps) x 0 ≡ distance y a x
+      at x k (yes e) m = rw e written
+      at x k (no d) m = other x d ∙ r .partly .known x k (λ h. m (other x d ∙ h))
+
+      kept : (x : ℕ) → x < size y → inside (y .parents) x a ≡ true → Dec (x ≡ w) → getD (set list w steps) x 0 ≢ unknown
+      kept x k i (yes e) = rw (e, written) (far-known w (r .node))
+      kept x k i (no d) = rw (other x d) (r .partly .on-way x k i)

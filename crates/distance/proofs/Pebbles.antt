@@ -8,7 +8,7 @@ use Prim.Native.Nat.{ℕ, _+_, _≤_, _<_}
 use native.Mathlib.Numerals.{add-one}
 use native.Mathlib.Omega.{arith}
 use native.Mathlib.Decide.{ℕ-discrete, decLt}
-use lib.ListN.{length, getD, set, length-set}
+use lib.ListN.{length, getD, set, replicate, length-set, length-replicate, getD-replicate}
 use lib.Seq.{getD-set-same, getD-set-other}
 use lib.Dec.{leb, ltb}
 use borrow.Author.Tests.{ltb-true, ltb-false, leb-true, lt-ltb, le-ltb, le-leb}
@@ -24,7 +24,14 @@ use Rattle.model.proofs.Ranges.{listed}
 use Rattle.model.proofs.Judged.{facts}
 use Rattle.model.proofs.Distance.{distance-lt}
 use Rattle.model.proofs.Nearest.{is-nearest}
-use Rattle.distance.specs.Far.{Asked, isNearerFrom, nearestOrNone}
+use Rattle.distance.specs.Far.{Unknown, Asked, isNearerFrom, nearestOrNone}
+
+-- nothing is known at first
+abbrev pub blanks : List ℕ
+blanks = replicate 256 256
+
+pub blank : Unknown blanks
+blank v l = getD-replicate 256 v 256 0 (omega (arith, length-replicate {A = ℕ} 256 256))
 
 -- past refusals 1 to 6 and 19
 pub nearest-rest : (y : Yard) (a : ℕ) → Tree y → a < size y → nearestAnswer y a ≡ nearestOrNone y a

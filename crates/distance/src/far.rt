@@ -1,17 +1,27 @@
-// The distances of all nodes from one, in linear time: along the way from that node to the root they rise by one, and every other node is one farther away
-// than its parent. An entry of 256, which is no distance, is not known yet.
+// The distances of all nodes from one, in linear time, and on the way whether the parents are a tree's. Along the way from that node to the root the distances
+// rise by one, and every other node is one farther away than its parent. An entry of 256, which is no distance, is not known yet. No way to the root has n steps:
+// a climb of so many goes round in a circle.
 ghost use mathlib.Core.Path.{_≡_};
-ghost use Prim.Native.Nat.{ℕ, _<_};
+ghost use mathlib.Core.Bool.{true};
+ghost use mathlib.Core.Logic.{_≢_};
+ghost use mathlib.Core.List.{[]};
+ghost use Prim.Native.Nat.{ℕ, _≤_, _<_};
 ghost use lib.ListN.{length};
-ghost use Rattle.model.specs.Yard.{Yard, size};
+ghost use Rattle.model.specs.Yard.{Yard, yardOf};
+ghost use Rattle.model.specs.Judge.{Parents, firstOf, shapeTests};
 ghost use Rattle.model.specs.Distance.{distance};
 ghost use Rattle.model.specs.Given.{was, became};
-ghost use Rattle.distance.specs.Far.{From, Unknown, Partly, Further, Distances};
+ghost use Rattle.model.specs.Paper.{paperDone};
+ghost use Rattle.model.proofs.Trees.{Wood};
+ghost use Rattle.distance.specs.Far.{From, unknown, Unknown, Entries, Rooted, Climbs, Written, Partly, Distances};
+use judge::test::test_shape;
+use model::Done;
 
-// The node itself, and those on the way from it to the root, by the steps up to each.
-fn mark_way(parents: &[u8], list: &mut [u16], node: usize)
-    requires { ⌜ ((y : Yard) × From y (now parents) node × Unknown (now list) × (length (now list) ≡ size y)) ⌝ }
-    ensures { λ _. ⌜ ((y : Yard) → From y (was parents) node → Unknown (was list) → length (was list) ≡ size y → Partly y node (became list)) ⌝ }
+// The node itself, and those on the way from it to the root, by the steps up to each. False if there is no root within n steps.
+fn mark_way(parents: &[u8], list: &mut [u16], node: usize) -> bool
+    requires { ⌜ Parents (now parents) × Entries (now parents) (now list) × Unknown (now list) × (node < length (now parents)) ⌝ }
+    ensures { λ r. ⌜ Entries (was parents) (became list) × (r ≡ true → (root : ℕ) × Rooted (was parents) (became list) root) ⌝ }
+    ensures { λ r. ⌜ ((y : Yard) → From y (was parents) node → (r ≡ true) × Partly y node (became list)) ⌝ }
 {
     let mut w = node;
     let mut steps = 0;
@@ -19,31 +29,43 @@ fn mark_way(parents: &[u8], list: &mut [u16], node: usize)
         list[w] = steps;
         let p = parents[w] as usize;
         if p == w {
-            return;
+            return true;
+        }
+        steps += 1;
+        if steps as usize == parents.len() {
+            return false;
         }
         w = p;
-        steps += 1;
     }
 }
 
-// The distance of v: that of the first node up from it that is known, and the steps up to there.
+// The distance of v: that of the first node up from it that is known, and the steps up to there. 256 if there is none within n steps.
 fn far_away(parents: &[u8], list: &[u16], v: usize) -> u16
-    requires { ⌜ ((y : Yard) × ((a : ℕ) × From y (now parents) a × Partly y a (now list) × (v < size y))) ⌝ }
-    ensures { λ r. ⌜ ((y : Yard) (a : ℕ) → From y (was parents) a → Partly y a (was list) → v < size y → r ≡ distance y a v) ⌝ }
+    requires { ⌜ Parents (now parents) × Entries (now parents) (now list) × (v < length (now parents)) ⌝ }
+    ensures { λ r. ⌜ (r ≤ unknown) × (r ≢ unknown → Climbs (was parents) (was list) v r) ⌝ }
+    ensures { λ r. ⌜ ((y : Yard) (a : ℕ) → From y (was parents) a → Partly y a (was list) → r ≡ distance y a v) ⌝ }
 {
     let mut u = v;
     let mut climbed = 0;
     while list[u] == 256 {
         u = parents[u] as usize;
         climbed += 1;
+        if climbed as usize == parents.len() {
+            return 256;
+        }
     }
-    list[u] + climbed
+    let far = list[u] + climbed;
+    if far > 256 {
+        return 256;
+    }
+    far
 }
 
 // Writes the distance of v, and of the nodes up from it as far as they are not known.
 fn write_up(parents: &[u8], list: &mut [u16], v: usize, far: u16)
-    requires { ⌜ ((y : Yard) × ((a : ℕ) × From y (now parents) a × Partly y a (now list) × (v < size y) × (far ≡ distance y a v))) ⌝ }
-    ensures { λ _. ⌜ ((y : Yard) (a : ℕ) → From y (was parents) a → Partly y a (was list) → v < size y → far ≡ distance y a v → Further y a v (was list) (became list)) ⌝ }
+    requires { ⌜ Parents (now parents) × Entries (now parents) (now list) × (v < length (now parents)) × (far < unknown) × Climbs (now parents) (now list) v far ⌝ }
+    ensures { λ _. ⌜ Written (was parents) v (was list) (became list) ⌝ }
+    ensures { λ _. ⌜ ((y : Yard) (a : ℕ) → From y (was parents) a → Partly y a (was list) → far ≡ distance y a v → Partly y a (became list)) ⌝ }
 {
     let mut w = v;
     let mut steps = far;
@@ -54,26 +76,35 @@ fn write_up(parents: &[u8], list: &mut [u16], v: usize, far: u16)
     }
 }
 
-// All of them, into a list of one entry a node.
-fn fill(parents: &[u8], list: &mut [u16], node: usize)
-    requires { ⌜ ((y : Yard) × From y (now parents) node × Unknown (now list) × (length (now list) ≡ size y)) ⌝ }
-    ensures { λ _. ⌜ ((y : Yard) → From y (was parents) node → Unknown (was list) → length (was list) ≡ size y → Distances y node (became list)) ⌝ }
+// All of them, into a list of one entry a node. False if the parents are not a tree's.
+fn fill(parents: &[u8], list: &mut [u16], node: usize) -> bool
+    requires { ⌜ Parents (now parents) × Entries (now parents) (now list) × Unknown (now list) × (node < length (now parents)) ⌝ }
+    ensures { λ r. ⌜ (r ≡ true → (root : ℕ) × Wood (was parents) root) ⌝ }
+    ensures { λ r. ⌜ ((y : Yard) → From y (was parents) node → (r ≡ true) × Distances y node (became list)) ⌝ }
 {
-    mark_way(parents, list, node);
+    if !mark_way(parents, list, node) {
+        return false;
+    }
     let mut v = 0;
     while v < parents.len() {
         let far = far_away(parents, list, v);
+        if far == 256 {
+            return false;
+        }
         write_up(parents, list, v, far);
         v += 1;
     }
+    true
 }
 
-// The same, at the front of an array.
-pub fn distances(parents: &[u8], node: usize) -> [u16; 256]
-    requires { ⌜ ((y : Yard) × From y (now parents) node) ⌝ }
-    ensures { λ r. ⌜ ((y : Yard) → From y (was parents) node → Distances y node r) ⌝ }
+// Refusals 5 and 6, and of a tree the distances of all nodes from one, at the front of a list of 256.
+pub fn measure(parents: &[u8], list: &mut [u16], node: usize) -> Done
+    requires { ⌜ Parents (now parents) × Unknown (now list) × (length (now list) ≡ 256) × (node < length (now parents)) ⌝ }
+    ensures { λ r. ⌜ paperDone r ≡ firstOf (shapeTests (yardOf (was parents) [] [])) ⌝ }
+    ensures { λ r. ⌜ ((y : Yard) → From y (was parents) node → Distances y node (became list)) ⌝ }
 {
-    let mut list = [256u16; 256];
-    fill(parents, &mut list[..parents.len()], node);
-    list
+    if fill(parents, &mut list[..parents.len()], node) {
+        return Done::Accepted;
+    }
+    test_shape(parents)
 }

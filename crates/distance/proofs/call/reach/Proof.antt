@@ -2,55 +2,52 @@
 use borrow.Author.Needs.{needs}
 use native.Mathlib.Omega.{arith}
 use mathlib.Core.Path.{refl, ap}
-use Rattle.model.specs.Calls.Answers.{answered}
 use Rattle.model.specs.Yard.{Yard, yardOf}
 use Rattle.model.specs.Judge.{Tree}
+use Rattle.model.specs.Calls.Answers.{answered}
 use Rattle.model.proofs.Calls.{sees}
 use Rattle.model.proofs.Nearest.{reach-judge, reach-length, reach-node, reach-accepted}
-use Rattle.distance.specs.Far.{From, Asked}
+use Rattle.distance.specs.Far.{Asked}
+use Rattle.distance.proofs.Pebbles.{blank}
 use Rattle.distance.proofs.call.reach.Statement.{statement}
 use Rattle.distance.proofs.call.reach.Tie as tie
 
+abbrev yard : tie.Start → Yard
+yard s = let a = s .args in yardOf (a .parents .now) (a .pebbles .now) (a .targets .now)
+
 abbrev start : tie.After-enum-told → tie.Start
-start e = e .before .before .before .before .before .before .before
+start e = e .before .before .before .before .before .before .before .before .before
 
-abbrev yard : tie.After-enum-told → Yard
-yard e = let a = start e .args in yardOf (a .parents .now) (a .pebbles .now) (a .targets .now)
+tree : (e : tie.After-enum-told) → Tree (yard (start e))
+tree e = sees (e .before .before .before .test-from .ensures .0) (e .enum-told .given .1)
 
-tree : (e : tie.After-enum-told) → Tree (yard e)
-tree e = sees (e .before .before .test-yard .ensures) (e .enum-told .given .1)
+-- where the node is one its distances are known
+asked : (c : tie.Else2) → let e = c .before .before in Asked (yard (start e)) (start e .args .node) (start e .args .pebbles .now) (e .before .before .before .test-from .last .1 .1 .1 .0)
+asked c = let e = c .before .before in record { tree = tree e; node = omega (arith, c .if2 .left); marks = refl; distances = e .before .before .before .test-from .ensures .1 (tree e) (omega (arith, c .if2 .left)) }
 
--- where the node is one
-from : (c : tie.Else2) → let e = c .before .before in From (yard e) (start e .args .parents .now) (start e .args .node)
-from c = record { tree = tree (c .before .before); same = refl; node = omega (arith, c .if2 .left) }
+slice-aggregate-test-from : tie.Need-slice-aggregate-test-from
+slice-aggregate-test-from c = search needs
 
--- and its distances are known
-asked : (c : tie.After-distances) → let e = c .before .before .before in Asked (yard e) (start e .args .node) (start e .args .pebbles .now) (c .distances .result)
-asked c = let f = from (c .before) in record { tree = f .tree; node = f .node; marks = refl; distances = c .distances .ensures _ f }
-
-test-yard-requires : tie.Need-test-yard-requires
-test-yard-requires c κs = search needs
+test-from-requires : tie.Need-test-from-requires
+test-from-requires c κs = (blank, refl)
 
 enum-known-tested : tie.Need-enum-known-tested
 enum-known-tested c = search needs
 
 returns : tie.Need-returns
-returns c = let t = c .before .before .before in rw (← reach-judge _ (t .before .before .before .before .before .args .list .now) (t .before .before .before .before .before .args .node) _ (sees (t .test-yard .ensures) (c .before .tested .given .1))) (refl, refl)
+returns c = let t = c .before .before .before .before in let s = t .before .before .before .before .before .before .args in rw (← reach-judge _ (s .list .now) (s .node) _ (sees (t .test-from .ensures .0) (c .before .tested .given .1))) (refl, refl)
 
 enum-told : tie.Need-enum-told
 enum-told c = search needs
 
 returns-2 : tie.Need-returns-2
-returns-2 c = let e = c .before in let s = start e .args in rw (← reach-length (yard e) (s .list .now) (s .node) (tree e) (c .if1 .taken)) (refl, refl)
+returns-2 c = let e = c .before in let s = start e .args in rw (← reach-length (yard (start e)) (s .list .now) (s .node) (tree e) (c .if1 .taken)) (refl, refl)
 
 returns-3 : tie.Need-returns-3
-returns-3 c = let e = c .before .before in let s = start e .args in rw (← reach-node (yard e) (s .list .now) (s .node) (tree e) (c .before .if1 .left) (omega (arith, c .if2 .taken))) (refl, refl)
-
-distances-requires : tie.Need-distances-requires
-distances-requires c κs = (_, from c)
+returns-3 c = let e = c .before .before in let s = start e .args in rw (← reach-node (yard (start e)) (s .list .now) (s .node) (tree e) (c .before .if1 .left) (omega (arith, c .if2 .taken))) (refl, refl)
 
 reach-into-requires : tie.Need-reach-into-requires
-reach-into-requires c κs = let a = c .before .before in (_, (_, asked a, a .before .before .if1 .left))
+reach-into-requires c κs = let o = c .before .before in (_, (_, asked o, o .before .if1 .left))
 
 same-length : tie.Need-same-length
 same-length c = search needs
@@ -58,23 +55,24 @@ same-length c = search needs
 returns-4 : tie.Need-returns-4
 returns-4 c =
     let r = c .before .before in
-    let a = r .before .before .before in
-    let e = a .before .before .before in
+    let o = r .before .before .before in
+    let e = o .before .before in
     let s = start e .args in
-    let k = a .before .before .if1 .left in
-    rw (← reach-accepted (yard e) (s .list .now) (s .node) (tree e) k (from (a .before) .node)) (ap answered (r .reach-into .ensures .0 _ _ (asked a) k), r .reach-into .ensures .1 _ _ (asked a) k)
+    let k = o .before .if1 .left in
+    let a = asked o in
+    rw (← reach-accepted (yard (start e)) (s .list .now) (s .node) (tree e) k (a .node)) (ap answered (r .reach-into .ensures .0 _ _ a k), r .reach-into .ensures .1 _ _ a k)
 
 pub reach-spec : {M : Type 1} → statement M
 reach-spec =
     tie.close
     (tie.spec
-    test-yard-requires
+    slice-aggregate-test-from
+    test-from-requires
     enum-known-tested
     returns
     enum-told
     returns-2
     returns-3
-    distances-requires
     reach-into-requires
     same-length
     returns-4)

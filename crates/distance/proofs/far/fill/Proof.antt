@@ -1,17 +1,22 @@
--- `distance::far::fill` meets its contract: the way from the node is marked, then node by node what is not known yet (the laws are in Marking).
-use mathlib.Core.Path.{sym, _∙_}
-use Prim.Native.Nat.{_-_, _<_}
+-- `distance::far::fill` meets its contract: node by node what is not known yet is climbed for and written; where all are known the parents are a tree's (the laws are in
+-- Climbing and Marking).
+use mathlib.Core.Path.{refl, sym, _∙_}
+use mathlib.Core.Bool.{false≢true}
+use Prim.Native.Nat.{_-_}
 use native.Mathlib.Omega.{arith}
 use lib.ListN.{length}
 use borrow.Author.Needs.{needs}
-use Rattle.model.specs.Yard.{Yard, size}
+use borrow.Author.Tests.{not-true, not-false}
+use Rattle.model.specs.Yard.{Yard}
+use Rattle.model.proofs.Distance.{distance-lt}
 use Rattle.distance.specs.Far.{From, Partly}
-use Rattle.distance.proofs.Marking.{as-long, Known, known-none, known-next, known-all}
+use Rattle.distance.proofs.Climbing.{Filled, filled-next, all-wood}
+use Rattle.distance.proofs.Marking.{few, as-long}
 use Rattle.distance.proofs.far.fill.Statement.{statement}
 use Rattle.distance.proofs.far.fill.Tie as tie
 
 abbrev Inv-loop : tie.InvT-loop
-Inv-loop parents marked node v₀ list v = (y : Yard) → From y parents node → Partly y node marked → Known y node v list
+Inv-loop parents marked node v₀ list v = Filled parents list v × ((y : Yard) → From y parents node → Partly y node marked → Partly y node list)
 
 abbrev μ-loop : tie.MeasureT-loop
 μ-loop parents marked node v₀ list v = length parents - v
@@ -19,35 +24,50 @@ abbrev μ-loop : tie.MeasureT-loop
 mark-way-requires : tie.Need-mark-way-requires Inv-loop μ-loop
 mark-way-requires c κs = search needs
 
+same-length : tie.Need-same-length Inv-loop μ-loop
+same-length c = let m = c .before .before .before in m .mark-way .ensures .0 .0 .long ∙ sym (m .before .before .before .before .pre .1 .long)
+
+returns : tie.Need-returns Inv-loop μ-loop
+returns c =
+    let m = c .before .before .before .mark-way in
+    ((λ q. absurd (false≢true q)), (λ y f. absurd (false≢true (sym (not-true _ (c .if1 .taken)) ∙ m .ensures .1 y f .0))))
+
 loop-holds : tie.Need-loop-holds Inv-loop μ-loop
-loop-holds c y f p = known-none p
+loop-holds c =
+    let e = c .before .before .before .mark-way .ensures in
+    let r = e .0 .1 (not-false _ (c .if1 .left)) in
+    (record { entries = e .0 .0; root = r .0; rooted = r .1; below = λ w l. absurd (omega arith) }, λ y f p. p)
 
--- the call that a loop's head belongs to, what the marking gave, and what is known at the head, in the yard that is asked about
+-- the call that a loop's head belongs to
 abbrev call : tie.At-loop Inv-loop μ-loop → tie.Start Inv-loop μ-loop
-call c = c .before .before .before .before .before .before .before
+call c = c .before .before .before .before .before .before .before .before
 
-marked : (c : tie.At-loop Inv-loop μ-loop) → let p = call c .pre in Partly (p .0) (call c .args .node) (c .before .before .before .mark-way .last .1 .0)
-marked c = let p = call c .pre in c .before .before .before .mark-way .ensures (p .0) (p .1) (p .2) (p .3)
-
-here : (c : tie.At-loop Inv-loop μ-loop) → let p = call c .pre in Known (p .0) (call c .args .node) (c .loop .v) (c .loop .list)
-here c = let p = call c .pre in c .loop .inv (p .0) (p .1) (marked c)
-
-node : (c : tie.In-loop Inv-loop μ-loop) (y : Yard) → From y (call (c .before) .args .parents .now) (call (c .before) .args .node) → c .before .loop .v < size y
-node c y f = omega (arith, as-long f)
+-- what is known at the head, in a tree
+here : (c : tie.At-loop Inv-loop μ-loop) (y : Yard) → From y (call c .args .parents .now) (call c .args .node) → Partly y (call c .args .node) (c .loop .list)
+here c y f = c .loop .inv .1 y f (c .before .before .before .before .mark-way .ensures .1 y f .1)
 
 far-away-requires : tie.Need-far-away-requires Inv-loop μ-loop
-far-away-requires c κs =
-    let i = c .before in
-    let p = call (i .before) .pre in
-    (p .0, (_, p .1, here (i .before) .partly, node i (p .0) (p .1)))
+far-away-requires c κs = let i = c .before in let l = i .before in (call l .pre .0, l .loop .inv .0 .entries, i .loop-test .taken)
+
+same-length-2 : tie.Need-same-length-2 Inv-loop μ-loop
+same-length-2 c = let l = c .before .before .before .before in l .loop .inv .0 .entries .long ∙ sym (call l .pre .1 .long)
+
+returns-2 : tie.Need-returns-2 Inv-loop μ-loop
+returns-2 c =
+    let a = c .before in
+    let l = a .before .before .before in
+    let s = call l .args in (
+      (λ q. absurd (false≢true q)),
+      λ y f. absurd (omega (arith, c .if2 .taken, a .far-away .ensures .1 y (s .node) f (here l y f), distance-lt y (f .tree) (s .node) (l .loop .v) (f .node) (omega (arith, as-long f, a .before .before .loop-test .taken)), few f)),
+    )
 
 write-up-requires : tie.Need-write-up-requires Inv-loop μ-loop
 write-up-requires c κs =
-    let a = c .before in
+    let e = c .before in
+    let a = e .before in
     let i = a .before .before in
-    let p = call (i .before) .pre in
-    let k = here (i .before) .partly in
-    (p .0, (_, p .1, k, node i (p .0) (p .1), a .far-away .ensures (p .0) _ (p .1) k (node i (p .0) (p .1))))
+    let l = i .before in
+    (call l .pre .0, l .loop .inv .0 .entries, i .loop-test .taken, omega (arith, a .far-away .ensures .0 .0, e .if2 .left), a .far-away .ensures .0 .1 (e .if2 .left))
 
 add-v : tie.Need-add-v Inv-loop μ-loop
 add-v c = omega arith
@@ -56,19 +76,24 @@ loop-less : tie.Need-loop-less Inv-loop μ-loop
 loop-less c = omega arith
 
 loop-again : tie.Need-loop-again Inv-loop μ-loop
-loop-again c y f m =
+loop-again c =
     let w = c .before .before in
-    let a = w .before .before in
-    let i = a .before .before in
-    let k = i .before .loop .inv y f m in
-    let l = node i y f in
-    known-next k (w .write-up .ensures y _ f (k .partly) l (a .far-away .ensures y _ f (k .partly) l))
+    let a = w .before .before .before in
+    let l = a .before .before .before in (
+      filled-next (l .loop .inv .0) (w .write-up .ensures .0),
+      λ y f p. let k = l .loop .inv .1 y f p in w .write-up .ensures .1 y _ f k (a .far-away .ensures .1 y _ f k),
+    )
 
-same-length : tie.Need-same-length Inv-loop μ-loop
-same-length c = let l = c .before in here l .partly .long ∙ sym (call l .pre .3)
+same-length-3 : tie.Need-same-length-3 Inv-loop μ-loop
+same-length-3 c = let l = c .before in l .loop .inv .0 .entries .long ∙ sym (call l .pre .1 .long)
 
-returns : tie.Need-returns Inv-loop μ-loop
-returns c y f u e = known-all (c .before .loop .inv y f (c .before .before .before .before .mark-way .ensures y f u e)) (omega (arith, as-long f))
+returns-3 : tie.Need-returns-3 Inv-loop μ-loop
+returns-3 c =
+    let l = c .before in
+    let h = l .loop .inv .0 in (
+      (λ _. (h .root, all-wood (call l .pre .0) (h .rooted) (λ w k. h .below w (omega (arith, c .loop-test .left))))),
+      λ y f. (refl, λ w k. here l y f .known w k (h .below w (omega (arith, c .loop-test .left, as-long f)))),
+    )
 
 pub fill-spec : {M : Type 1} → statement M
 fill-spec =
@@ -77,11 +102,15 @@ fill-spec =
     Inv-loop
     μ-loop
     mark-way-requires
+    same-length
+    returns
     loop-holds
     far-away-requires
+    same-length-2
+    returns-2
     write-up-requires
     add-v
     loop-less
     loop-again
-    same-length
-    returns)
+    same-length-3
+    returns-3)

@@ -1,34 +1,28 @@
--- `distance::far::write_up` meets its contract: each node up from v that is not known is written with its distance, one less than the one before (the laws are in
--- Marking).
+-- `distance::far::write_up` meets its contract: what it writes leads to a node that was known (the laws are in Climbing), in a tree by its distance (Marking).
 use mathlib.Core.Path.{_≡_, sym, _∙_}
 use Prim.Native.Nat.{ℕ, _<_}
 use native.Mathlib.Omega.{arith}
 use lib.ListN.{length}
-use Rattle.model.specs.Yard.{Yard, size}
+use Rattle.model.specs.Yard.{Yard}
 use Rattle.model.specs.Distance.{distance}
-use Rattle.model.proofs.Way.{wayLength}
 use Rattle.distance.specs.Far.{From, Partly}
-use Rattle.distance.proofs.Marking.{few, as-long, up-is, way-falls, off-root, farther, Writing, write-first, write-next, write-last}
+use Rattle.distance.proofs.Climbing.{Writes, writes-first, steps-some, writes-next, writes-last}
+use Rattle.distance.proofs.Marking.{as-long, up-is, Writing, write-next}
 use Rattle.distance.proofs.far.write_up.Statement.{statement}
 use Rattle.distance.proofs.far.write_up.Tie as tie
 
 abbrev Inv-loop : tie.InvT-loop
-Inv-loop parents before v far w₀ steps₀ list w steps = (y : Yard) (a : ℕ) (f : From y parents a) → Partly y a before → v < size y → far ≡ distance y a v → Writing f v before list w steps
+Inv-loop parents before v far w₀ steps₀ list w steps = Writes parents v before list w steps × ((y : Yard) (a : ℕ) (f : From y parents a) → Partly y a before → far ≡ distance y a v → Writing f list w steps)
 
 abbrev μ-loop : tie.MeasureT-loop
-μ-loop parents before v far w₀ steps₀ list w steps = wayLength parents w
+μ-loop parents before v far w₀ steps₀ list w steps = steps
 
 loop-holds : tie.Need-loop-holds Inv-loop μ-loop
-loop-holds c y a f p l e = write-first f p l e
+loop-holds c = let p = c .pre in (writes-first (p .1) (p .2) (p .3) (p .4), λ y a f q e. record { partly = q; node = omega (arith, p .2, as-long f); far = e })
 
--- what is so at the loop's head, in the yard that is asked about
-here : (c : tie.At-loop Inv-loop μ-loop) → let p = c .before .pre in Writing (p .1 .1) (c .before .args .v) (c .before .args .list .now) (c .loop .list) (c .loop .w) (c .loop .steps)
-here c = let p = c .before .pre in c .loop .inv (p .0) (p .1 .0) (p .1 .1) (p .1 .2) (p .1 .3) (p .1 .4)
-
+-- the node at hand, of at most 256
 node : (c : tie.At-loop Inv-loop μ-loop) → (c .loop .w < 256) × (c .loop .w < length (c .loop .list)) × (c .loop .w < length (c .before .args .parents .now))
-node c =
-    let f = c .before .pre .1 .1 in
-    omega (arith, here c .node, few f, as-long f, here c .partly .long)
+node c = let h = c .loop .inv .0 in omega (arith, h .node, h .entries .long, c .before .pre .0 .few)
 
 mul-if1 : tie.Need-mul-if1 Inv-loop μ-loop
 mul-if1 c = omega (arith, node c)
@@ -43,10 +37,7 @@ slice-write-list : tie.Need-slice-write-list Inv-loop μ-loop
 slice-write-list c = omega (arith, node (c .before .before))
 
 sub-steps : tie.Need-sub-steps Inv-loop μ-loop
-sub-steps c =
-    let l = c .before .before in
-    let r = here l in
-    omega (arith, r .far, farther (l .before .pre .1 .1) (r .partly) (r .node) (c .if1 .taken))
+sub-steps c = omega (arith, steps-some (c .before .before .loop .inv .0) (c .if1 .taken))
 
 shared-slice-read-w : tie.Need-shared-slice-read-w Inv-loop μ-loop
 shared-slice-read-w c = omega (arith, node (c .before .before .before))
@@ -55,20 +46,22 @@ cast-w : tie.Need-cast-w Inv-loop μ-loop
 cast-w c = omega (arith, c .shared-slice-known .given (c .before .before .before .loop .w))
 
 loop-less : tie.Need-loop-less Inv-loop μ-loop
-loop-less c =
-    let l = c .before .before .before in
-    let f = l .before .pre .1 .1 in
-    let r = here l in
-    rw (up-is f (l .loop .w)) (way-falls f (l .loop .w) (r .node) (off-root f (r .partly) (r .node) (c .before .if1 .taken)))
+loop-less c = omega (arith, steps-some (c .before .before .before .loop .inv .0) (c .before .if1 .taken))
 
 loop-again : tie.Need-loop-again Inv-loop μ-loop
-loop-again c y a f p m e = let l = c .before .before .before in rw (up-is f (l .loop .w)) (write-next f (l .loop .inv y a f p m e) m (c .before .if1 .taken))
+loop-again c =
+    let l = c .before .before .before in
+    let i = l .loop .inv in
+    let p = l .before .pre in
+    (writes-next (i .0) (c .before .if1 .taken) (p .0), λ y a f q e. rw (up-is f (l .loop .w)) (write-next f (i .1 y a f q e) (c .before .if1 .taken)))
 
 same-length : tie.Need-same-length Inv-loop μ-loop
-same-length c = let l = c .before .before in here l .partly .long ∙ sym (l .before .pre .1 .2 .long)
+same-length c = let l = c .before .before in l .loop .inv .0 .entries .long ∙ sym (l .before .pre .1 .long)
 
 returns : tie.Need-returns Inv-loop μ-loop
-returns c y a f p m e = write-last f (c .before .before .loop .inv y a f p m e) (c .if1 .left)
+returns c =
+    let i = c .before .before .loop .inv in
+    (writes-last (i .0) (c .if1 .left), λ y a f q e. i .1 y a f q e .partly)
 
 pub write-up-spec : {M : Type 1} → statement M
 write-up-spec =
