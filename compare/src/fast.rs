@@ -1,8 +1,9 @@
-//! Test, bound, displaced, events, planner, checker and trial once more, written for speed: no list is asked for from the heap, each child
-//! names its next sibling, and each node keeps whose turn it is among its children. The benchmark sets the library beside these.
+//! Test, bound, displaced, events, nearest, reach, planner, checker and trial once more, written for speed: no list is asked for from the heap, each
+//! child names its next sibling, and each node keeps whose turn it is among its children. The benchmark sets the library beside these.
 
 use crate::checker::{Tried, MAX_PLAN_BYTES};
 use crate::demands::MAX_DEMAND;
+use crate::distance::Nearest;
 use crate::event::Event;
 use crate::figures::Length;
 use crate::yard::{refuse, Answer, Refusal, MAX_NODES};
@@ -57,6 +58,36 @@ pub fn event(parents: &[u8], pebbles: &mut [u8], targets: &mut [u8], demands: &m
     *mark = event.mark();
     climb(parents, node, |at| demands[at] += change);
     Ok(())
+}
+
+/// Refusals 1 to 6, 19 and 22; the least distance of a pebble, which many entries at a time can tell, then the first pebble that has it.
+pub fn nearest(parents: &[u8], pebbles: &[u8], targets: &[u8], node: usize) -> Answer<Nearest> {
+    let distances = distances(parents, pebbles, targets, node)?;
+    if node >= parents.len() {
+        return refuse(19, 0);
+    }
+    // Unknown where there is no pebble.
+    let of_pebbles = distances.iter().zip(pebbles).map(|(&distance, &pebble)| distance | u16::from(pebble).wrapping_sub(1));
+    let least = of_pebbles.fold(UNKNOWN, u16::min);
+    match distances.iter().zip(pebbles).position(|(&distance, &pebble)| pebble == 1 && distance == least) {
+        Some(pebble) => Ok(Nearest { node: pebble as u32, distance: u32::from(least) }),
+        None => refuse(22, 0),
+    }
+}
+
+/// Refusals 1 to 6, 2 for the list, 19; marks the pebbles within reach and answers how many they are.
+pub fn reach(parents: &[u8], pebbles: &[u8], targets: &[u8], list: &mut [u8], node: usize, reach: u16) -> Answer<u32> {
+    let distances = distances(parents, pebbles, targets, node)?;
+    if list.len() != parents.len() {
+        return refuse(2, 0);
+    }
+    if node >= parents.len() {
+        return refuse(19, 0);
+    }
+    for ((mark, &pebble), &distance) in list.iter_mut().zip(pebbles).zip(&distances) {
+        *mark = pebble & u8::from(distance <= reach);
+    }
+    Ok(list.iter().map(|&mark| u32::from(mark)).sum())
 }
 
 /// Refusals 1 to 8; writes the plan at the front of the list and answers its moves.
@@ -191,6 +222,66 @@ fn lowest_outside(parents: &[u8], demands: &[i16], node: usize, change: i16) -> 
     climb(parents, node, |at| changes[at] = change);
     let outside = |entry: i16| !(-MAX_DEMAND..=MAX_DEMAND).contains(&entry);
     demands.iter().zip(changes).position(|(&entry, change)| outside(entry) || outside(entry + change))
+}
+
+/// A distance that is not known yet.
+const UNKNOWN: u16 = u16::MAX;
+
+/// Refusals 1 to 6; the distance of each node from one of them, or from the last if it is none.
+///
+/// The way to the root comes first. Every other node is one edge farther than its parent; where the parent's distance is not known either, a climb finds
+/// the first that is, and a second one writes those on the way. So the yard is tested too: where there is no root or a second one, or a circle, some climb
+/// comes to no end.
+fn distances(parents: &[u8], pebbles: &[u8], targets: &[u8], node: usize) -> Answer<[u16; MAX_NODES]> {
+    let n = parents.len();
+    let below = |list: &[u8], end: usize| list.len() == n && list.iter().copied().max().is_some_and(|greatest| usize::from(greatest) < end);
+    if n > MAX_NODES || !below(parents, n) || !below(pebbles, 2) || !below(targets, 2) {
+        return refusal_due(parents, pebbles, targets);
+    }
+    let parent_of = copy(parents);
+    let mut distances = [UNKNOWN; MAX_NODES];
+    let (mut at, mut edges) = (node.min(n - 1), 0);
+    loop {
+        if distances[at] != UNKNOWN {
+            return refusal_due(parents, pebbles, targets);
+        }
+        distances[at] = edges;
+        let parent = usize::from(parent_of[at]);
+        if parent == at {
+            break;
+        }
+        (at, edges) = (parent, edges + 1);
+    }
+    for node in 0..n {
+        if distances[node] != UNKNOWN {
+            continue;
+        }
+        let parent = usize::from(parent_of[node]);
+        if distances[parent] != UNKNOWN {
+            distances[node] = distances[parent] + 1;
+            continue;
+        }
+        let (mut known, mut edges) = (parent, 1);
+        while distances[known] == UNKNOWN {
+            if edges == n as u16 {
+                return refusal_due(parents, pebbles, targets);
+            }
+            (known, edges) = (usize::from(parent_of[known]), edges + 1);
+        }
+        let (mut at, mut distance) = (node, distances[known] + edges);
+        while at != known {
+            distances[at] = distance;
+            (at, distance) = (usize::from(parent_of[at]), distance - 1);
+        }
+    }
+    Ok(distances)
+}
+
+/// Which of refusals 1 to 6 it is, where one is due.
+#[cold]
+fn refusal_due<T>(parents: &[u8], pebbles: &[u8], targets: &[u8]) -> Answer<T> {
+    test_yard(parents, pebbles, targets)?;
+    unreachable!("a tree")
 }
 
 /// Refusals 1 to 7; the demands of all nodes, and the root.

@@ -7,6 +7,7 @@
 pub mod checker;
 pub mod damage;
 pub mod demands;
+pub mod distance;
 pub mod event;
 pub mod fast;
 pub mod figures;

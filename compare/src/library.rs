@@ -1,12 +1,13 @@
 //! The proved library's calls, as include/javendriky.h tells them, with Rust's lists and answers.
 
 use crate::checker::Tried;
+use crate::distance::Nearest;
 use crate::event::Event;
 use crate::figures::Length;
 use crate::yard::{Answer, Refusal};
 
 /// The version of the calls that are declared here: JAVENDRIKY_VERSION of the header. A library of another version must not be called.
-pub const VERSION: u32 = 5;
+pub const VERSION: u32 = 6;
 
 /// What an accepted trial adds to the moves taken where the budget ended it.
 const BUDGET_ENDED: u32 = 500_000;
@@ -49,6 +50,14 @@ pub mod raw {
         pub fn javendriky_target_cleared(
             parents: *const u8, parents_len: usize, pebbles: *mut u8, pebbles_len: usize, targets: *mut u8, targets_len: usize,
             demands: *mut i16, demands_len: usize, node: usize,
+        ) -> u32;
+        pub fn javendriky_nearest(
+            parents: *const u8, parents_len: usize, pebbles: *const u8, pebbles_len: usize, targets: *const u8, targets_len: usize,
+            node: usize, distance: *mut u32,
+        ) -> u32;
+        pub fn javendriky_reach(
+            parents: *const u8, parents_len: usize, pebbles: *const u8, pebbles_len: usize, targets: *const u8, targets_len: usize,
+            list: *mut u8, list_len: usize, node: usize, reach: u16,
         ) -> u32;
         pub fn javendriky_push(
             parents: *const u8, parents_len: usize, pebbles: *mut u8, pebbles_len: usize, targets: *const u8, targets_len: usize,
@@ -156,6 +165,26 @@ pub fn event(parents: &[u8], pebbles: &mut [u8], targets: &mut [u8], demands: &m
         call(
             parents.as_ptr(), parents.len(), pebbles.as_mut_ptr(), pebbles.len(), targets.as_mut_ptr(), targets.len(),
             demands.as_mut_ptr(), demands.len(), node,
+        )
+    })
+}
+
+/// The distance is written through the pointer, and a refusal leaves what is there.
+pub fn nearest(parents: &[u8], pebbles: &[u8], targets: &[u8], node: usize, distance: &mut u32) -> Answer<Nearest> {
+    let nearest = answer(unsafe {
+        raw::javendriky_nearest(
+            parents.as_ptr(), parents.len(), pebbles.as_ptr(), pebbles.len(), targets.as_ptr(), targets.len(),
+            node, distance,
+        )
+    });
+    nearest.map(|node| Nearest { node, distance: *distance })
+}
+
+pub fn reach(parents: &[u8], pebbles: &[u8], targets: &[u8], list: &mut [u8], node: usize, reach: u16) -> Answer<u32> {
+    answer(unsafe {
+        raw::javendriky_reach(
+            parents.as_ptr(), parents.len(), pebbles.as_ptr(), pebbles.len(), targets.as_ptr(), targets.len(),
+            list.as_mut_ptr(), list.len(), node, reach,
         )
     })
 }

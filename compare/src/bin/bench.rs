@@ -4,11 +4,12 @@ use std::hint::black_box;
 use std::process::ExitCode;
 use std::time::Instant;
 use unrelated::checker::Tried;
+use unrelated::distance::{self, Nearest};
 use unrelated::event::{way, Event, Kept};
 use unrelated::figures::Length;
 use unrelated::random::Random;
 use unrelated::shapes::{far, Shape};
-use unrelated::yard::{Answer, Yard};
+use unrelated::yard::{marked, Answer, Yard};
 use unrelated::{fast, library, planner};
 
 const SAMPLES: usize = 301;
@@ -101,10 +102,15 @@ fn trials(yard: &Yard, plan: &[u8]) -> Option<Times> {
     Some(measure(|| call(library::trial, &mut marks), || call(fast::trial, &mut plain_marks)))
 }
 
+/// Of the nodes that are wanted the one farthest from the root, the last among equals.
+fn deepest(yard: &Yard, wanted: impl Fn(usize) -> bool) -> Option<usize> {
+    (0..yard.nodes()).filter(|&node| wanted(node)).max_by_key(|&node| way(yard, node).len())
+}
+
 /// A pebble arrives at the deepest empty node and leaves it, which brings back what was; the time of one of the two.
 fn events(yard: &Yard) -> Option<Times> {
     type Call = fn(&[u8], &mut [u8], &mut [u8], &mut [i16], Event, usize) -> Answer<()>;
-    let deepest = (0..yard.nodes()).filter(|&node| yard.pebbles[node] == 0).max_by_key(|&node| way(yard, node).len())?;
+    let deepest = deepest(yard, |node| yard.pebbles[node] == 0)?;
     let call = |call: Call, kept: &mut Kept, event: Event| {
         let Yard { parents, pebbles, targets } = &mut kept.yard;
         call(black_box(parents), black_box(pebbles), black_box(targets), black_box(&mut kept.demands), black_box(event), black_box(deepest))
@@ -125,6 +131,39 @@ fn events(yard: &Yard) -> Option<Times> {
         || there_and_back.map(|event| call(fast::event, &mut plain_kept, event)),
     );
     Some(Times { library: both.library / 2.0, plain: both.plain / 2.0 })
+}
+
+/// The nearest pebble of the deepest node.
+fn nearest(yard: &Yard) -> Option<Times> {
+    let Yard { parents, pebbles, targets } = yard;
+    type Call = fn(&[u8], &[u8], &[u8], usize) -> Answer<Nearest>;
+    let node = deepest(yard, |_| true)?;
+    let call = |call: Call| call(black_box(parents), black_box(pebbles), black_box(targets), black_box(node));
+    let library: Call = |parents, pebbles, targets, node| library::nearest(parents, pebbles, targets, node, &mut 0);
+    let answer = call(library);
+    if answer.is_err() || answer != call(fast::nearest) {
+        return None;
+    }
+    Some(measure(|| call(library), || call(fast::nearest)))
+}
+
+/// The pebbles within reach of the deepest node. The reach ends halfway between the nearest and the farthest, so that some are within it and some are not.
+fn reaches(yard: &Yard) -> Option<Times> {
+    let Yard { parents, pebbles, targets } = yard;
+    type Call = fn(&[u8], &[u8], &[u8], &mut [u8], usize, u16) -> Answer<u32>;
+    let node = deepest(yard, |_| true)?;
+    let distances = distance::from_node(yard, node);
+    let of_pebbles: Vec<usize> = marked(pebbles).into_iter().map(|pebble| distances[pebble]).collect();
+    let reach = ((of_pebbles.iter().min()? + of_pebbles.iter().max()?) / 2) as u16;
+    let call = |call: Call, list: &mut [u8]| {
+        call(black_box(parents), black_box(pebbles), black_box(targets), black_box(list), black_box(node), black_box(reach))
+    };
+    let (mut list, mut plain_list) = (vec![2; yard.nodes()], vec![2; yard.nodes()]);
+    let within = call(library::reach, &mut list);
+    if within != call(fast::reach, &mut plain_list) || list != plain_list || !(1..of_pebbles.len()).contains(&(within.ok()? as usize)) {
+        return None;
+    }
+    Some(measure(|| call(library::reach, &mut list), || call(fast::reach, &mut plain_list)))
 }
 
 type Figure<T> = fn(&[u8], &[u8], &[u8]) -> Answer<T>;
@@ -153,6 +192,7 @@ fn yard(shape: Shape, n: usize) -> Yard {
 fn run() -> Option<f64> {
     println!("Medians of {SAMPLES} samples in turn. Plan lists are not cleared before a call. A trial's pebbles are set anew before each one,");
     println!("on both sides and within the time (256 bytes copied). An event is a pebble's arrival at the deepest empty node, or its leaving it.");
+    println!("Nearest and reach are asked from the deepest node; the reach ends halfway between its nearest and its farthest pebble.");
     println!("'Plain' is the same algorithm in safe Rust, with the same tests first.\n");
     println!("256 nodes    call        moves  library µs    plain µs   ratio");
     let mut highest = 0.0;
@@ -166,6 +206,8 @@ fn run() -> Option<f64> {
             ("bound", figures(&yard, bound, fast::length_bound)?),
             ("displaced", figures(&yard, library::displaced, fast::displaced)?),
             ("event", events(&yard)?),
+            ("nearest", nearest(&yard)?),
+            ("reach", reaches(&yard)?),
             ("test_yard", figures(&yard, library::test_yard, fast::test_yard)?),
         ];
         for (call, times) in rows {

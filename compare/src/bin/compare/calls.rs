@@ -5,9 +5,10 @@ use std::cell::Cell;
 use std::fmt;
 use std::ptr;
 use std::sync::atomic::{AtomicPtr, Ordering};
+use unrelated::distance::Nearest;
 use unrelated::event::{happen, Event, Kept};
-use unrelated::yard::{Answer, Yard};
-use unrelated::{checker, demands, fast, figures, library, planner, sheet, yard};
+use unrelated::yard::{total, Answer, Yard};
+use unrelated::{checker, demands, distance, fast, figures, library, planner, sheet, yard};
 
 /// Nothing, or the difference found.
 pub type Same<T = ()> = Result<T, String>;
@@ -20,7 +21,7 @@ pub struct Inputs<'a> {
     pub bytes: &'a [u8],
     /// The list that an event brings up to date.
     pub demands: &'a [i16],
-    /// Lengths of lists to be written, budget, or nodes of a push or an event.
+    /// Lengths of lists to be written, budget, nodes that are asked for, or reach.
     pub numbers: &'a [usize],
 }
 
@@ -79,7 +80,7 @@ pub fn watch_pages() {
 }
 
 /// The number of the last refusal in the papers' tables.
-pub const LAST_REFUSAL: usize = 21;
+pub const LAST_REFUSAL: usize = 22;
 
 /// Calls both sides; counts the calls, and how often each refusal was met.
 pub struct Caller {
@@ -238,6 +239,41 @@ impl Caller {
         quick(&inputs, Ok(&quick_kept), &Ok(&after))?;
         self.same(&inputs, got, accepted, lent.wrong(&after.yard).or_else(|| list.wrong("demands", &after.demands)))?;
         Ok(after)
+    }
+
+    /// The nearest pebble. Gives back what both sides answer.
+    pub fn nearest(&self, yard: &Yard, node: usize) -> Same<Answer<Nearest>> {
+        let inputs = Inputs { numbers: &[node], ..Inputs::of("nearest", yard) };
+        // No distance that a tree can have.
+        let before = [1_234_567];
+        let lent = self.lend(yard);
+        let mut edges = self.lender.lend(&before);
+        let got = during(&inputs, || library::nearest(lent.parents.list(), lent.pebbles.list(), lent.targets.list(), node, &mut edges.list_mut()[0]));
+        let expected = distance::nearest(yard, node);
+        quick(&inputs, fast::nearest(&yard.parents, &yard.pebbles, &yard.targets, node), &expected)?;
+        let after = written(&before, &expected.map(|nearest| vec![nearest.distance]));
+        self.same(&inputs, got, expected, lent.wrong(yard).or_else(|| edges.wrong("distance", &after)))?;
+        Ok(expected)
+    }
+
+    /// The pebbles within reach, with a list of this length. Gives back what the list holds if both sides accept.
+    pub fn reach(&self, yard: &Yard, length: usize, node: usize, reach: u16) -> Same<Answer<Vec<u8>>> {
+        let inputs = Inputs { numbers: &[length, node, usize::from(reach)], ..Inputs::of("reach", yard) };
+        let before = unwritten(length);
+        let lent = self.lend(yard);
+        let mut list = self.lender.lend(&before);
+        let got = during(&inputs, || library::reach(lent.parents.list(), lent.pebbles.list(), lent.targets.list(), list.list_mut(), node, reach));
+        if got.is_ok_and(|count| count as usize != total(list.list())) {
+            return Err(format!("{inputs}the library answers {got:?}, but wrote {:?}", list.list()));
+        }
+        let expected = distance::reach(yard, length, node, reach);
+        let after = written(&before, &expected);
+        let count = expected.as_ref().map(|list| total(list) as u32).map_err(|refusal| *refusal);
+        let mut quick_list = before.clone();
+        quick(&inputs, fast::reach(&yard.parents, &yard.pebbles, &yard.targets, &mut quick_list, node, reach), &count)?;
+        quick(&inputs, Ok(&quick_list), &Ok(&after))?;
+        self.same(&inputs, got, count, lent.wrong(yard).or_else(|| list.wrong("reach", &after)))?;
+        Ok(expected)
     }
 
     pub fn push(&self, yard: &Yard, from: usize, to: usize) -> Same {

@@ -2,7 +2,7 @@
 
 use crate::calls::{Caller, Same, LAST_REFUSAL};
 use crate::worked::worked;
-use crate::{events, sheets};
+use crate::{distances, events, sheets};
 use std::ops::RangeInclusive;
 use unrelated::planner::Choice;
 use unrelated::random::Random;
@@ -13,7 +13,7 @@ use unrelated::{checker, damage, demands, figures, follow, library, planner, rep
 /// A family tries its cases and tells how many there were.
 pub type Family = fn(&Caller, Thin) -> Same<u64>;
 
-pub const FAMILIES: [(&str, Family); 25] = [
+pub const FAMILIES: [(&str, Family); 27] = [
     ("yards and examples of documents 01 and 02", |caller, _| worked(caller)),
     ("every tree up to 5 nodes with all marks, against the search", every_tree),
     ("every tree of 6 nodes, half held, the others wanted, by search", halves_of_six),
@@ -33,6 +33,8 @@ pub const FAMILIES: [(&str, Family); 25] = [
     ("runs of events on a list that stays right", events::runs),
     ("events at every node of 256, to both ends of the range", events::to_both_ends),
     ("events on lists that belong to no yard", events::any_demands),
+    ("nearest and reach at every node of every tree up to 5 nodes", distances::every_node),
+    ("nearest and reach on up to 256 nodes, about the distances met", distances::all_shapes),
     ("sheets written and read, any room", sheets::written),
     ("sheets altered in one to three places", sheets::damaged),
     ("a small sheet with every byte changed, left out, put in", sheets::every_byte),
@@ -286,7 +288,8 @@ fn any_lists(caller: &Caller, yard: &Yard, random: &mut Random) -> Same {
     caller.trial(yard, &plan, random.below(4) as u16)?;
     let [from, to] = damage::any_move(yard, random);
     caller.push(yard, usize::from(from), usize::from(to))?;
-    events::any_lists(caller, yard, random)
+    events::any_lists(caller, yard, random)?;
+    distances::any_lists(caller, yard, random)
 }
 
 fn every_list(caller: &Caller, thin: Thin) -> Same<u64> {
@@ -419,7 +422,7 @@ fn pushes(caller: &Caller, thin: Thin) -> Same<u64> {
 fn no_address(_: &Caller, _: Thin) -> Same<u64> {
     use std::ptr::{null, null_mut};
     let (parents, one, zero) = ([0u8], [1u8], [0u8]);
-    let (mut pebbles, mut targets, mut bytes) = (one, zero, 0);
+    let (mut pebbles, mut targets, mut bytes, mut distance) = (one, zero, 0, 0);
     // SAFETY: lengths are 0 where there is no address, else those of the arrays.
     let answers = unsafe {
         use library::raw::*;
@@ -433,6 +436,8 @@ fn no_address(_: &Caller, _: Thin) -> Same<u64> {
             ("pebble_leaves", javendriky_pebble_leaves(null(), 0, null_mut(), 0, null_mut(), 0, null_mut(), 0, 0), 1_000_000),
             ("target_set", javendriky_target_set(null(), 0, null_mut(), 0, null_mut(), 0, null_mut(), 0, 0), 1_000_000),
             ("target_cleared", javendriky_target_cleared(null(), 0, null_mut(), 0, null_mut(), 0, null_mut(), 0, 0), 1_000_000),
+            ("nearest", javendriky_nearest(null(), 0, null(), 0, null(), 0, 0, &mut distance), 1_000_000),
+            ("reach", javendriky_reach(null(), 0, null(), 0, null(), 0, null_mut(), 0, 0, 0), 1_000_000),
             ("push", javendriky_push(null(), 0, null_mut(), 0, null(), 0, 0, 0), 1_000_000),
             ("check", javendriky_check(null(), 0, null(), 0, null(), 0, null(), 0), 1_000_000),
             ("excess", javendriky_excess(null(), 0, null(), 0, null(), 0, null(), 0), 1_000_000),
@@ -441,6 +446,7 @@ fn no_address(_: &Caller, _: Thin) -> Same<u64> {
             ("plan", javendriky_plan(parents.as_ptr(), 1, one.as_ptr(), 1, one.as_ptr(), 1, null_mut(), 0), 0),
             ("demands", javendriky_demands(parents.as_ptr(), 1, one.as_ptr(), 1, one.as_ptr(), 1, null_mut(), 0), 2_000_000),
             ("target_set", javendriky_target_set(parents.as_ptr(), 1, pebbles.as_mut_ptr(), 1, targets.as_mut_ptr(), 1, null_mut(), 0, 0), 2_000_000),
+            ("reach", javendriky_reach(parents.as_ptr(), 1, one.as_ptr(), 1, one.as_ptr(), 1, null_mut(), 0, 0, 0), 2_000_000),
             ("check", javendriky_check(parents.as_ptr(), 1, one.as_ptr(), 1, one.as_ptr(), 1, null(), 0), 0),
             ("excess", javendriky_excess(parents.as_ptr(), 1, one.as_ptr(), 1, one.as_ptr(), 1, null(), 0), 0),
             ("read_sheet", javendriky_read_sheet(null(), 0, null_mut(), 0, null_mut(), 0, null_mut(), 0), 18_000_000),

@@ -5,6 +5,7 @@
 //! `--lists` says how the lists lent to the library are placed (see `lent`); `--thin N` takes one case of N.
 
 mod calls;
+mod distances;
 mod events;
 mod families;
 mod lent;

@@ -4,6 +4,7 @@
 use crate::calls::{Caller, Same};
 use std::fmt::Debug;
 use unrelated::checker::{check, push, trial, Checked, Tried};
+use unrelated::distance::{nearest, reach, Nearest};
 use unrelated::event::{happen, Event, Kept};
 use unrelated::planner::{plan, plan_by, Choice};
 use unrelated::random::Random;
@@ -68,6 +69,18 @@ impl Worked<'_> {
     fn event(&mut self, name: &str, kept: &Kept, event: Event, node: usize, expected: Answer<Kept>) -> Same {
         self.is(name, happen(kept, event, node), expected)?;
         self.caller.event(kept, event, node).map(drop)
+    }
+
+    /// The node and the distance that the nearest call gives.
+    fn nearest(&mut self, name: &str, yard: &Yard, node: usize, expected: Answer<(u32, u32)>) -> Same {
+        self.is(name, nearest(yard, node), expected.map(|(node, distance)| Nearest { node, distance }))?;
+        self.caller.nearest(yard, node).map(drop)
+    }
+
+    /// The marks that the reach call gives for a list of so many.
+    fn reach(&mut self, name: &str, yard: &Yard, length: usize, node: usize, within: u16, expected: Answer<&[u8]>) -> Same {
+        self.is(name, reach(yard, length, node, within), expected.map(<[u8]>::to_vec))?;
+        self.caller.reach(yard, length, node, within).map(drop)
     }
 }
 
@@ -135,6 +148,9 @@ pub fn worked(caller: &Caller) -> Same<u64> {
 
     events_on_a(&mut w, &a)?;
     longest_way(&mut w)?;
+    distances_on_a(&mut w, &a)?;
+    equally_near(&mut w)?;
+    farthest(&mut w)?;
 
     // The table of refusals, with H among them.
     let two = |pebbles: &[u8], targets: &[u8]| yard(&[0, 0], pebbles, targets);
@@ -227,6 +243,80 @@ fn longest_way(w: &mut Worked) -> Same {
         w.event("the longest way", &kept, Event::TargetSet, end, Ok(after))?;
         kept.demands[root] = 256;
         w.event("the longest way, to an end of the range", &kept, Event::TargetSet, end, refuse(21, root))?;
+    }
+    Ok(())
+}
+
+/// Request 2.7 on yard A: from node 4 its parent 1 is one edge away, its sibling 3 two.
+fn distances_on_a(w: &mut Worked, a: &Yard) -> Same {
+    for (node, expected) in [(0, (1, 1)), (1, (1, 0)), (2, (1, 2)), (3, (3, 0)), (4, (1, 1))] {
+        w.nearest(&format!("A, the nearest of {node}"), a, node, Ok(expected))?;
+    }
+    for (node, within, expected) in [
+        (4, 0, [0, 0, 0, 0, 0]),
+        (4, 1, [0, 1, 0, 0, 0]),
+        (4, 2, [0, 1, 0, 1, 0]),
+        (3, 0, [0, 0, 0, 1, 0]),
+        (2, 1, [0, 0, 0, 0, 0]),
+        (2, 2, [0, 1, 0, 0, 0]),
+        (2, 3, [0, 1, 0, 1, 0]),
+        // 0 once the high byte is lost.
+        (2, 256, [0, 1, 0, 1, 0]),
+        (2, 65_535, [0, 1, 0, 1, 0]),
+    ] {
+        w.reach(&format!("A, within {within} of {node}"), a, 5, node, within, Ok(&expected))?;
+    }
+
+    // Each refusal before the next: a circle, a list of another length, a node outside, no pebble.
+    let empty = yard(&a.parents, &[0; 5], &a.targets);
+    let circle = yard(&[0, 0, 0, 4, 3], &[0; 5], &a.targets);
+    w.nearest("A, 6 before 19", &circle, 5, refuse(6, 3))?;
+    w.nearest("A, 6 before 22", &circle, 4, refuse(6, 3))?;
+    w.nearest("A, 19", a, 5, refuse(19, 0))?;
+    w.nearest("A, 19 before 22", &empty, 5, refuse(19, 0))?;
+    w.nearest("A, 22", &empty, 4, refuse(22, 0))?;
+    w.reach("A, 6 before 2", &circle, 4, 5, 9, refuse(6, 3))?;
+    w.reach("A, 2 before 19", a, 4, 5, 9, refuse(2, 0))?;
+    w.reach("A, 2 of a list too long", a, 6, 4, 9, refuse(2, 0))?;
+    // As many entries as nodes once the high bytes are lost.
+    w.reach("A, 2 of a long list", a, 65_541, 4, 9, refuse(2, 0))?;
+    w.reach("A, 19 of a list", a, 5, 5, 9, refuse(19, 0))?;
+    // Nodes once the high bytes are lost.
+    for node in [256 + 4, 65_536 + 4, usize::MAX - 255 + 4] {
+        w.nearest("A, 19 of a large number", a, node, refuse(19, 0))?;
+        w.reach("A, 19 of a large number", a, 5, node, 9, refuse(19, 0))?;
+    }
+    // No pebble is no fault there.
+    w.reach("A, nothing within reach", &empty, 5, 4, 65_535, Ok(&[0; 5]))
+}
+
+/// Of pebbles that are equally near the lowest-numbered: two children, then the parent and a child, each of them the lower one in its turn.
+fn equally_near(w: &mut Worked) -> Same {
+    w.nearest("of two children the lower", &yard(&[3, 3, 3, 3], &[0, 1, 1, 0], &[0; 4]), 3, Ok((1, 1)))?;
+    w.nearest("the parent below the child", &yard(&[0, 0, 1], &[1, 0, 1], &[0; 3]), 1, Ok((0, 1)))?;
+    w.nearest("the child below the parent", &yard(&[1, 2, 2], &[1, 0, 1], &[0; 3]), 1, Ok((0, 1)))?;
+    // Over the root, and below: nodes 4 and 1 are both two edges from 2.
+    w.nearest("far above and far below", &yard(&[2, 0, 3, 3, 3], &[0, 1, 0, 0, 1], &[0; 5]), 2, Ok((1, 2)))?;
+    w.nearest("a lower one that is farther", &yard(&[0, 0, 1], &[1, 0, 1], &[0; 3]), 2, Ok((2, 0)))
+}
+
+/// A line of 256 nodes, its root the first or the last of them, from one end to the other; then all of them held, more than a byte counts.
+fn farthest(w: &mut Worked) -> Same {
+    let first = Vec::from_iter((0..=255u8).map(|node| node.saturating_sub(1)));
+    let last = Vec::from_iter((0..=255u8).map(|node| node.saturating_add(1)));
+    for parents in [first, last] {
+        for (from, to) in [(0, 255), (255, 0)] {
+            let mut held = [0; 256];
+            held[to] = 1;
+            let line = yard(&parents, &held, &[0; 256]);
+            w.nearest("from end to end", &line, from, Ok((to as u32, 255)))?;
+            w.reach("from end to end, not quite", &line, 256, from, 254, Ok(&[0; 256]))?;
+            w.reach("from end to end", &line, 256, from, 255, Ok(&held))?;
+            w.nearest("256 is no node", &line, 256, refuse(19, 0))?;
+        }
+        let full = yard(&parents, &[1; 256], &[0; 256]);
+        w.reach("all of 256", &full, 256, 255, 255, Ok(&[1; 256]))?;
+        w.reach("all of 256 but one", &full, 256, 255, 254, Ok(&Vec::from_iter((0..256).map(|node| u8::from(node > 0)))))?;
     }
     Ok(())
 }
