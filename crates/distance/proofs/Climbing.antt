@@ -145,6 +145,14 @@ module _ {parents before : List ℕ} where
         led : (r : ℕ) → Rooted parents before r → (k : ℕ) × Up parents w k r
         led r q = let c = h .climbs in let p = q .leads (c .to) (c .lt) (c .known) in (_, up-trans (c .up) (p .1))
 
+-- a node is written whose parent is known
+pub write-beside : {parents list : List ℕ} {v : ℕ} → Parents parents → Entries parents list → v < length parents → getD list v 0 ≡ unknown → getD list (up parents v) 0 < 255
+    → Written parents v list (set list v (getD list (up parents v) 0 + 1))
+write-beside {parents} {list} {v} n e l m k =
+    let b : getD list (up parents v) 0 ≢ unknown = omega arith in
+    let w = writes-next {steps = getD list (up parents v) 0 + 1} (writes-first e l (omega arith) (record { to = up parents v; steps = 1; up = on here; lt = n .node v l; known = b; few = omega arith })) m n in
+    writes-last w (w .stays (up parents v) b)
+
 -- where all are known the parents are a tree's
 pub all-wood : {parents list : List ℕ} {r : ℕ} → Parents parents → Rooted parents list r → ((v : ℕ) → v < length parents → getD list v 0 ≢ unknown) → Wood parents r
 all-wood {parents} {list} {r} n q h = record {

@@ -120,3 +120,11 @@ module _ {y : Yard} {parents : List ℕ} {a : ℕ} (f : From y parents a) where
       kept : (x : ℕ) → x < size y → inside (y .parents) x a ≡ true → Dec (x ≡ w) → getD (set list w steps) x 0 ≢ unknown
       kept x k i (yes e) = rw (e, written) (far-known w (r .node))
       kept x k i (no d) = rw (other x d) (r .partly .on-way x k i)
+
+  -- a node whose parent is known
+  pub partly-beside : {list : List ℕ} {v : ℕ} → Partly y a list → v < size y → getD list v 0 ≡ unknown → getD list (getD parents v 0) 0 < 255
+      → Partly y a (set list v (getD list (getD parents v 0) 0 + 1))
+  partly-beside {list} {v} p l n k =
+      let b : getD list (parent y v) 0 < 255 = rw (sym (up-is v)) k in
+      let h = p .known (parent y v) (rails .parent-lt v l) (omega arith) in
+      rw (up-is v) (write-next {steps = getD list (parent y v) 0 + 1} (record { partly = p; node = l; far = omega (arith, h, farther p l n) }) n .partly)

@@ -1,17 +1,17 @@
--- The pebbles of a yard by their distances from a node: the nearest, come to from each that is nearer than those before it, and those within reach.
+-- The pebbles of a yard by their distances from a node: the nearest, the first within the least distance, and those within reach.
 use mathlib.Core.Path.{_≡_, refl, sym, ap, _∙_}
 use mathlib.Core.Logic.{_≢_}
-use mathlib.Core.Bool.{Bool, true, false, _&&_, false≢true}
+use mathlib.Core.Bool.{true, false, and-eq-true-iff, false≢true}
 use mathlib.Core.List.{List, [], _∷_, map}
 use mathlib.Core.Option.{Option, none, some}
-use Prim.Native.Nat.{ℕ, _+_, _≤_, _<_}
+use Prim.Native.Nat.{ℕ, _+_, min, _≤_, _<_}
 use native.Mathlib.Numerals.{add-one}
 use native.Mathlib.Omega.{arith}
 use native.Mathlib.Decide.{ℕ-discrete, decLt}
 use lib.ListN.{length, getD, set, replicate, length-set, length-replicate, getD-replicate}
 use lib.Seq.{getD-set-same, getD-set-other}
 use lib.Dec.{leb, ltb}
-use borrow.Author.Tests.{ltb-true, ltb-false, leb-true, lt-ltb, le-ltb, le-leb}
+use borrow.Author.Tests.{ltb-true, leb-true, lt-ltb, le-ltb, le-leb}
 use Rattle.model.specs.Yard.{Yard, size, held, one, sum, lowest, pebbleCount, pebble}
 use Rattle.model.specs.Judge.{Fault, fault, firstOf, Tree}
 use Rattle.model.specs.Calls.Answers.{answered, answer, range}
@@ -24,7 +24,7 @@ use Rattle.model.proofs.Ranges.{listed}
 use Rattle.model.proofs.Judged.{facts}
 use Rattle.model.proofs.Distance.{distance-lt}
 use Rattle.model.proofs.Nearest.{is-nearest}
-use Rattle.distance.specs.Far.{Unknown, Asked, isNearerFrom, nearestOrNone}
+use Rattle.distance.specs.Far.{unknown, Unknown, Asked, Least, isWithin, nearestOrNone}
 
 -- nothing is known at first
 abbrev pub blanks : List ℕ
@@ -42,6 +42,27 @@ nearest-rest y a t l = rw (t, lt-ltb a (size y) l) (go (emptyFault y))
     go none = refl
     go (some f) = refl
 
+-- the least distance so far, none seen
+pub least-start : {pebbles far : List ℕ} → Least pebbles far 0 unknown
+least-start = record { few = omega arith; least = λ v l. absurd (omega arith); met = λ d. absurd (d refl) }
+
+-- and one node more
+pub least-next : {pebbles far : List ℕ} {v r c : ℕ} → Least pebbles far v r → (0 < getD pebbles v 0 → c ≡ getD far v 0) → (getD pebbles v 0 ≡ 0 → c ≡ unknown) → Least pebbles far (v + 1) (min r c)
+least-next {pebbles} {far} {v} {r} {c} h p q = record {
+  few = omega (arith, h .few);
+  least = λ w l k. at w l k (ℕ-discrete w v);
+  met = λ d. from d (decLt c r) (decLt 0 (getD pebbles v 0));
+}
+  where
+    at : (w : ℕ) → w < v + 1 → 0 < getD pebbles w 0 → Dec (w ≡ v) → min r c ≤ getD far w 0
+    at w l k (yes e) = rw e (omega (arith, p (rw (sym e) k)))
+    at w l k (no e) = omega (arith, h .least w (omega arith) k)
+
+    from : min r c ≢ unknown → Dec (c < r) → Dec (0 < getD pebbles v 0) → (w : ℕ) × (w < v + 1) × (0 < getD pebbles w 0) × (getD far w 0 ≡ min r c)
+    from d (yes l) (yes k) = (v, omega arith, k, omega (arith, p k))
+    from d (yes l) (no k) = absurd (omega (arith, d, l, q (omega arith), h .few))
+    from d (no l) _ = let m = h .met (λ e. d (omega (arith, e))) in (m .0, omega (arith, m .1), m .2, omega (arith, m .3))
+
 module _ {y : Yard} {a : ℕ} {pebbles far : List ℕ} (q : Asked y a pebbles far) where
   pub as-many : (length pebbles ≡ size y) × (size y ≤ 256)
   as-many = omega (arith, ap length (q .marks), facts y (q .tree) .pebbles-size, facts y (q .tree) .few)
@@ -52,82 +73,43 @@ module _ {y : Yard} {a : ℕ} {pebbles far : List ℕ} (q : Asked y a pebbles fa
   pub far-is : (v : ℕ) → v < size y → (getD far v 0 ≡ distance y a v) × (getD far v 0 < 256)
   far-is v l = (q .distances v l, omega (arith, q .distances v l, distance-lt y (q .tree) a v (q .node) l, as-many))
 
-  -- a node that looking for nearer ones passes
-  passed : (from than v : ℕ) → isNearerFrom pebbles far from than v ≡ false → from ≤ v → held y v ≡ true → than ≤ getD far v 0
-  passed from than v e m h = ltb-false (getD far v 0) than (rw (le-leb from v m, sym (held-is v) ∙ h) at e)
-
-  -- and one that it comes to
-  met : (from than v : ℕ) → isNearerFrom pebbles far from than v ≡ true → (from ≤ v) × (held y v ≡ true) × (getD far v 0 < than)
-  met from than v e = go (leb from v) refl (ltb 0 (getD pebbles v 0)) refl e
-    where
-      go : (b : Bool) → leb from v ≡ b → (c : Bool) → ltb 0 (getD pebbles v 0) ≡ c → (b && (c && (ltb (getD far v 0) than))) ≡ true → (from ≤ v) × (held y v ≡ true) × (getD far v 0 < than)
-      go true p true h e = (leb-true from v p, held-is v ∙ h, ltb-true (getD far v 0) than e)
-      go true p false h e = absurd (false≢true e)
-      go false p c h e = absurd (false≢true e)
-
-  -- r holds a pebble, and is nearer than all with a lower number that do
-  pub record Leads (r : ℕ) : Type 0 where
-    pub node : r < size y
-    pub holds : held y r ≡ true
-    pub before : (w : ℕ) → w < r → held y w ≡ true → getD far r 0 < getD far w 0
-
-  module _ (from than : ℕ) {r : ℕ} (e : r ≡ lowest (length pebbles) (isNearerFrom pebbles far from than)) where
-    -- none is nearer, from there on
-    none-from : r ≡ length pebbles → (v : ℕ) → v < size y → from ≤ v → held y v ≡ true → than ≤ getD far v 0
-    none-from p v l = passed from than v (below-none (length pebbles) (isNearerFrom pebbles far from than) (lowest-none (length pebbles) (isNearerFrom pebbles far from than) r e (omega (arith, p))) v (omega (arith, as-many)))
-
-    next-is : r ≢ length pebbles → (r < length pebbles) × (isNearerFrom pebbles far from than r ≡ true) × ((v : ℕ) → v < r → isNearerFrom pebbles far from than v ≡ false)
-    next-is d = lowest-is (length pebbles) (length pebbles) r (isNearerFrom pebbles far from than) e d
-
-  module _ {r : ℕ} (e : r ≡ lowest (length pebbles) (isNearerFrom pebbles far 0 256)) where
-    pub leads-none : r ≡ length pebbles → emptyFault y ≡ fault 22 0
-    leads-none p = rw (le-ltb 0 (pebbleCount y) (omega (arith, sum-zero (size y) (pebble y) (λ v l. zero-if v l))))
+  -- the least distance of a pebble
+  module _ {r : ℕ} (h : Least pebbles far (length pebbles) r) where
+    pub least-none : r ≡ unknown → emptyFault y ≡ fault 22 0
+    least-none p = rw (le-ltb 0 (pebbleCount y) (omega (arith, sum-zero (size y) (pebble y) (λ v l. zero-if v l (decLt 0 (pebble y v))))))
       where
-        zero-if : (v : ℕ) → v < size y → pebble y v ≡ 0
-        zero-if v l = go (decLt 0 (pebble y v))
-          where
-            go : Dec (0 < pebble y v) → pebble y v ≡ 0
-            go (yes h) = absurd (omega (arith, none-from 0 256 e p v l (omega arith) (lt-ltb 0 (pebble y v) h), far-is v l .1))
-            go (no h) = omega arith
+        zero-if : (v : ℕ) → v < size y → Dec (0 < pebble y v) → pebble y v ≡ 0
+        zero-if v l (yes k) = absurd (omega (arith, p, h .least v (omega (arith, as-many)) (ltb-true 0 (getD pebbles v 0) (sym (held-is v) ∙ lt-ltb 0 (pebble y v) k)), far-is v l .1))
+        zero-if v l (no k) = omega arith
 
-    pub leads-first : r ≢ length pebbles → Leads r
-    leads-first d =
-        let n = next-is 0 256 e d in
-        record {
-          node = omega (arith, n .0, as-many);
-          holds = met 0 256 r (n .1) .1;
-          before = λ w l h. absurd (omega (arith, passed 0 256 w (n .2 w l) (omega arith) h, far-is w (omega (arith, n .0, as-many)) .1));
-        }
+    -- and the first pebble within that
+    module _ {at : ℕ} (d : r ≢ unknown) (e : at ≡ lowest (length pebbles) (isWithin pebbles far r)) where
+      within : (v : ℕ) → held y v ≡ true → getD far v 0 ≤ r → isWithin pebbles far r v ≡ true
+      within v k m = rw (sym (held-is v) ∙ k, le-leb (getD far v 0) r m) refl
 
-  module _ {at r : ℕ} (h : Leads at) (e : r ≡ lowest (length pebbles) (isNearerFrom pebbles far (at + 1) (getD far at 0))) where
-    pub leads-next : r ≢ length pebbles → Leads r × (at < r)
-    leads-next d =
-        let n = next-is (at + 1) (getD far at 0) e d in
-        let m = met (at + 1) (getD far at 0) r (n .1) in
-        (record { node = omega (arith, n .0, as-many); holds = m .1; before = λ w l k. go w l k (n .2 w l) (m .2) (decLt w at) (ℕ-discrete w at) }, omega (arith, m .0))
-      where
-        go : (w : ℕ) → w < r → held y w ≡ true → isNearerFrom pebbles far (at + 1) (getD far at 0) w ≡ false → getD far r 0 < getD far at 0 → Dec (w < at) → Dec (w ≡ at) → getD far r 0 < getD far w 0
-        go w l k p m (yes b) _ = omega (arith, h .before w b k)
-        go w l k p m (no _) (yes b) = rw b m
-        go w l k p m (no b) (no c) = omega (arith, passed (at + 1) (getD far at 0) w p (omega arith) k)
+      -- there is one
+      is-one : at ≢ length pebbles
+      is-one p =
+          let m = h .met d in
+          let none = below-none (length pebbles) (isWithin pebbles far r) (lowest-none (length pebbles) (isWithin pebbles far r) at e (omega (arith, p))) (m .0) (m .1) in
+          false≢true (sym none ∙ within (m .0) (held-is (m .0) ∙ lt-ltb 0 (getD pebbles (m .0) 0) (m .2)) (omega (arith, m .3)))
 
-    pub leads-last : r ≡ length pebbles → answered (record { node = at; distance = getD far at 0 }) ≡ nearestOrNone y a
-    leads-last p = sym (is-nearest y a (record { node = at; distance = getD far at 0 }) (q .tree) (q .node) record {
-      node-lt = h .node;
-      holds = h .holds;
-      far = far-is at (h .node) .0;
-      least = λ w l k. least w l k (decLt w at) (ℕ-discrete w at);
-      lowest = λ w l k d. low w l k d (decLt w at);
-    }) ∙ nearest-rest y a (q .tree) (q .node)
-      where
-        least : (w : ℕ) → w < size y → held y w ≡ true → Dec (w < at) → Dec (w ≡ at) → getD far at 0 ≤ distance y a w
-        least w l k (yes b) _ = omega (arith, h .before w b k, far-is w l)
-        least w l k (no _) (yes b) = rw b (omega (arith, far-is at (h .node)))
-        least w l k (no b) (no c) = omega (arith, none-from (at + 1) (getD far at 0) e p w l (omega arith) k, far-is w l)
-
-        low : (w : ℕ) → w < size y → held y w ≡ true → distance y a w ≡ getD far at 0 → Dec (w < at) → at ≤ w
-        low w l k d (yes b) = absurd (omega (arith, h .before w b k, far-is w l))
-        low w l k d (no b) = omega arith
+      pub least-first : answered (record { node = at; distance = r }) ≡ nearestOrNone y a
+      least-first =
+          let n = lowest-is (length pebbles) (length pebbles) at (isWithin pebbles far r) e is-one in
+          let m = and-eq-true-iff (ltb 0 (getD pebbles at 0)) (leb (getD far at 0) r) .0 (n .1) in
+          let l : at < size y = omega (arith, n .0, as-many) in
+          sym (is-nearest y a (record { node = at; distance = r }) (q .tree) (q .node) record {
+            node-lt = l;
+            holds = held-is at ∙ m .0;
+            far = omega (arith, far-is at l, leb-true (getD far at 0) r (m .1), h .least at (n .0) (ltb-true 0 (getD pebbles at 0) (m .0)));
+            least = λ w k p. omega (arith, far-is w k, h .least w (omega (arith, as-many)) (ltb-true 0 (getD pebbles w 0) (sym (held-is w) ∙ p)));
+            lowest = λ w k p f. low w k p f (n .2) (decLt w at);
+          }) ∙ nearest-rest y a (q .tree) (q .node)
+        where
+          low : (w : ℕ) → w < size y → held y w ≡ true → distance y a w ≡ r → ((v : ℕ) → v < at → isWithin pebbles far r v ≡ false) → Dec (w < at) → at ≤ w
+          low w k p f n (yes b) = absurd (false≢true (sym (n w b) ∙ within w p (omega (arith, f, far-is w k))))
+          low w k p f n (no b) = omega arith
 
   -- the nodes below v are written, and counted
   pub record Reached (reach v : ℕ) (list : List ℕ) (count : ℕ) : Type 0 where
@@ -140,7 +122,7 @@ module _ {y : Yard} {a : ℕ} {pebbles far : List ℕ} (q : Asked y a pebbles fa
     unfolding sum
     reach-none e = record { long = e; entries = λ w l. absurd (omega arith); counted = refl }
 
-    pub reach-next : {list : List ℕ} {v count mark : ℕ} → Reached reach v list count → v < size y → mark ≡ one ((ltb 0 (getD pebbles v 0)) && (leb (getD far v 0) reach))
+    pub reach-next : {list : List ℕ} {v count mark : ℕ} → Reached reach v list count → v < size y → mark ≡ one (isWithin pebbles far reach v)
         → Reached reach (v + 1) (set list v mark) (count + mark)
     unfolding sum inReach
     reach-next {list} {v} {count} {mark} r l e = record {

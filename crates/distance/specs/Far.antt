@@ -74,9 +74,15 @@ pub record Asked (y : Yard) (a : ℕ) (pebbles far : List ℕ) : Type 0 where
   pub marks : y .pebbles ≡ pebbles
   pub distances : Distances y a far
 
--- v is not below a number, holds a pebble and is nearer than a distance
-abbrev pub isNearerFrom : List ℕ → List ℕ → ℕ → ℕ → ℕ → Bool
-isNearerFrom pebbles far from than v = (leb from v) && ((ltb 0 (getD pebbles v 0)) && (ltb (getD far v 0) than))
+-- r is the least distance of the pebbles on the first n nodes, unknown if there are none
+pub record Least (pebbles far : List ℕ) (n r : ℕ) : Type 0 where
+  pub few : r ≤ unknown
+  pub least : (v : ℕ) → v < n → 0 < getD pebbles v 0 → r ≤ getD far v 0
+  pub met : r ≢ unknown → (v : ℕ) × (v < n) × (0 < getD pebbles v 0) × (getD far v 0 ≡ r)
+
+-- v holds a pebble at most so far away
+abbrev pub isWithin : List ℕ → List ℕ → ℕ → ℕ → Bool
+isWithin pebbles far reach v = (ltb 0 (getD pebbles v 0)) && (leb (getD far v 0) reach)
 
 -- what the nearest call answers to a node of a tree: 22 if the yard holds no pebble
 abbrev pub nearestOrNone : Yard → ℕ → Answer Nearest

@@ -76,6 +76,28 @@ fn write_up(parents: &[u8], list: &mut [u16], v: usize, far: u16)
     }
 }
 
+// The distance of v, if it is not known: at once where its parent's is, else by climbs. False if no climb from v comes to a node that is known.
+fn know(parents: &[u8], list: &mut [u16], v: usize) -> bool
+    requires { ⌜ Parents (now parents) × Entries (now parents) (now list) × (v < length (now parents)) ⌝ }
+    ensures { λ r. ⌜ (length (became list) ≡ length (was parents)) × (r ≡ true → Written (was parents) v (was list) (became list)) ⌝ }
+    ensures { λ r. ⌜ ((y : Yard) (a : ℕ) → From y (was parents) a → Partly y a (was list) → (r ≡ true) × Partly y a (became list)) ⌝ }
+{
+    if list[v] != 256 {
+        return true;
+    }
+    let above = list[parents[v] as usize];
+    if above < 255 {
+        list[v] = above + 1;
+        return true;
+    }
+    let far = far_away(parents, list, v);
+    if far == 256 {
+        return false;
+    }
+    write_up(parents, list, v, far);
+    true
+}
+
 // All of them, into a list of one entry a node. False if the parents are not a tree's.
 fn fill(parents: &[u8], list: &mut [u16], node: usize) -> bool
     requires { ⌜ Parents (now parents) × Entries (now parents) (now list) × Unknown (now list) × (node < length (now parents)) ⌝ }
@@ -87,11 +109,9 @@ fn fill(parents: &[u8], list: &mut [u16], node: usize) -> bool
     }
     let mut v = 0;
     while v < parents.len() {
-        let far = far_away(parents, list, v);
-        if far == 256 {
+        if !know(parents, list, v) {
             return false;
         }
-        write_up(parents, list, v, far);
         v += 1;
     }
     true

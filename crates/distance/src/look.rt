@@ -2,7 +2,7 @@
 ghost use mathlib.Core.Path.{_≡_};
 ghost use mathlib.Core.Bool.{_&&_};
 ghost use mathlib.Core.List.{map};
-ghost use Prim.Native.Nat.{ℕ, _≤_, _<_};
+ghost use Prim.Native.Nat.{ℕ, min, _≤_, _<_};
 ghost use lib.ListN.{length};
 ghost use lib.Dec.{leb, ltb};
 ghost use Rattle.model.specs.Yard.{Yard, size, one, lowest};
@@ -10,52 +10,41 @@ ghost use Rattle.model.specs.Given.{was, became};
 ghost use Rattle.model.specs.Calls.Answers.{range};
 ghost use Rattle.model.specs.Calls.Distances.{inReach, reachCount};
 ghost use Rattle.model.specs.Paper.{paperLocated};
-ghost use Rattle.distance.specs.Far.{Asked, isNearerFrom, nearestOrNone};
+ghost use Rattle.distance.specs.Far.{unknown, Asked, Least, isWithin, nearestOrNone};
 use model::Located;
 use model::Refusal;
 
-// Whether a node with such a mark, so far away, is a pebble's that is nearer than another distance.
-fn is_nearer(pebble: u8, far: u16, than: u16) -> bool
-    ensures { λ r. ⌜ r ≡ ((ltb 0 pebble) && (ltb far than)) ⌝ }
+// The distance of a node with such a mark, so far away, if it holds a pebble; else 256, which is no distance.
+fn if_held(pebble: u8, far: u16) -> u16
+    ensures { λ r. ⌜ (0 < pebble → r ≡ far) × (pebble ≡ 0 → r ≡ unknown) ⌝ }
 {
     if pebble == 0 {
-        return false;
+        return 256;
     }
-    far < than
+    far
 }
 
-// The first node from one on that holds a pebble nearer than a distance, or n.
-fn next_nearer(pebbles: &[u8], far: &[u16; 256], from: usize, than: u16) -> usize
-    requires { ⌜ (from ≤ length (now pebbles)) × (length (now pebbles) ≤ 256) ⌝ }
-    ensures { λ r. ⌜ r ≡ lowest (length (was pebbles)) (isNearerFrom (was pebbles) (was far) from than) ⌝ }
+fn smaller(a: u16, b: u16) -> u16
+    ensures { λ r. ⌜ r ≡ min a b ⌝ }
 {
-    let mut v = from;
+    if a <= b {
+        return a;
+    }
+    b
+}
+
+// The least distance of a pebble, 256 if there is none.
+fn least(pebbles: &[u8], far: &[u16; 256]) -> u16
+    requires { ⌜ length (now pebbles) ≤ 256 ⌝ }
+    ensures { λ r. ⌜ Least (was pebbles) (was far) (length (was pebbles)) r ⌝ }
+{
+    let mut nearest = 256;
+    let mut v = 0;
     while v < pebbles.len() {
-        if is_nearer(pebbles[v], far[v], than) {
-            return v;
-        }
+        nearest = smaller(nearest, if_held(pebbles[v], far[v]));
         v += 1;
     }
-    v
-}
-
-// The nearest pebble: from each that is nearer than those before it on to the next.
-pub fn nearest_of(pebbles: &[u8], far: &[u16; 256]) -> Located
-    requires { ⌜ ((y : Yard) × ((a : ℕ) × Asked y a (now pebbles) (now far))) ⌝ }
-    ensures { λ r. ⌜ ((y : Yard) (a : ℕ) → Asked y a (was pebbles) (was far) → paperLocated r ≡ nearestOrNone y a) ⌝ }
-{
-    let n = pebbles.len();
-    let mut at = next_nearer(pebbles, far, 0, 256);
-    if at == n {
-        return Located::Refused(Refusal::NoPebble);
-    }
-    loop {
-        let v = next_nearer(pebbles, far, at + 1, far[at]);
-        if v == n {
-            return Located::Node(at, far[at] as usize);
-        }
-        at = v;
-    }
+    nearest
 }
 
 // 1 for a node with such a mark, so far away, if it holds a pebble within reach.
@@ -69,6 +58,33 @@ fn in_reach(pebble: u8, far: u16, reach: u16) -> u8
         return 0;
     }
     1
+}
+
+// The first node that holds one, or n.
+fn first_within(pebbles: &[u8], far: &[u16; 256], reach: u16) -> usize
+    requires { ⌜ length (now pebbles) ≤ 256 ⌝ }
+    ensures { λ r. ⌜ r ≡ lowest (length (was pebbles)) (isWithin (was pebbles) (was far) reach) ⌝ }
+{
+    let mut v = 0;
+    while v < pebbles.len() {
+        if in_reach(pebbles[v], far[v], reach) == 1 {
+            return v;
+        }
+        v += 1;
+    }
+    v
+}
+
+// The nearest pebble: the first that is as near as the nearest.
+pub fn nearest_of(pebbles: &[u8], far: &[u16; 256]) -> Located
+    requires { ⌜ ((y : Yard) × ((a : ℕ) × Asked y a (now pebbles) (now far))) ⌝ }
+    ensures { λ r. ⌜ ((y : Yard) (a : ℕ) → Asked y a (was pebbles) (was far) → paperLocated r ≡ nearestOrNone y a) ⌝ }
+{
+    let distance = least(pebbles, far);
+    if distance == 256 {
+        return Located::Refused(Refusal::NoPebble);
+    }
+    Located::Node(first_within(pebbles, far, distance), distance as usize)
 }
 
 // Writes that for each node, and answers the count of 1s.

@@ -18,9 +18,9 @@ use Rattle.model.proofs.Basics.{All, all-below, below-all, not-so, one-
 use Rattle.model.proofs.Sums.{sum-cong, sum-add, sum-zero, sum-pick, sum-le}
 use Rattle.model.proofs.Found.{found}
 use Rattle.model.proofs.Climb.{inside-step}
-use Rattle.model.proofs.Trees.{Wood, down-ind, inside-self, parent-outside, child-off-root}
+use Rattle.model.proofs.Trees.{Wood, inside-self, parent-outside, child-off-root}
 use Rattle.model.proofs.Judged.{wood}
-use Rattle.model.proofs.Demands.{inside-child, weight, weight-le, weight-pos, weight-child}
+use Rattle.model.proofs.Demands.{inside-child}
 
 -- just one of two
 abbrev pub differ : Bool → Bool → Bool
@@ -262,34 +262,3 @@ module _ (y : Yard) (t : Tree y) where
       distance-gap a (parent y v) la (w .parent-lt v l),
       rw i at (between-parent w a v l (λ e. false≢true (sym i ∙ ap (λ (u : ℕ). inside (y .parents) u a) e ∙ w .to-root a la))),
     )
-
-    -- no other numbers meet these laws
-    pub distance-only : (d : ℕ → ℕ) → d a ≡ 0
-        → ((v : ℕ) → v < size y → v ≢ root y → inside (y .parents) v a ≡ true → d (parent y v) ≡ suc (d v))
-        → ((v : ℕ) → v < size y → inside (y .parents) v a ≡ false → d v ≡ suc (d (parent y v)))
-        → (v : ℕ) → v < size y → d v ≡ distance y a v
-    distance-only d start climb off = down-ind w (λ v. d v ≡ distance y a v) (on-way (size y) (root y) (w .root-lt) (weight-le (y .parents) (root y)) (w .to-root a la)) next
-      where
-        on-way : (k v : ℕ) → v < size y → weight (y .parents) v ≤ k → inside (y .parents) v a ≡ true → d v ≡ distance y a v
-        on-way zero v l h i = absurd (omega (arith, weight-pos w v l))
-        on-way (suc k) v l h i = go (ℕ-discrete v a) (on-way k)
-          where
-            go : Dec (v ≡ a) → ((c : ℕ) → c < size y → weight (y .parents) c ≤ k → inside (y .parents) c a ≡ true → d c ≡ distance y a c) → d v ≡ distance y a v
-            go (yes e) ih = rw e (start ∙ sym (distance-self a la))
-            go (no n) ih =
-                let q = inside-child w v a la i (λ e. n (sym e)) in
-                let c = q .0 in
-                let o = child-off-root w v c (q .1) in
-                omega (
-                  arith,
-                  rw (q .1 .up) at (climb c (q .1 .lt) o (q .2)),
-                  rw (q .1 .up) at (distance-climb c (q .1 .lt) o (q .2)),
-                  ih c (q .1 .lt) (omega (arith, weight-child w v c l (q .1))) (q .2),
-                )
-
-        next : (v : ℕ) → v < size y → v ≢ root y → d (parent y v) ≡ distance y a (parent y v) → d v ≡ distance y a v
-        next v l n ih = go (inside (y .parents) v a) refl
-          where
-            go : (b : Bool) → inside (y .parents) v a ≡ b → d v ≡ distance y a v
-            go true i = on-way (size y) v l (weight-le (y .parents) v) i
-            go false i = omega (arith, off v l i, distance-off v l i)

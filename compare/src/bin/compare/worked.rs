@@ -293,8 +293,8 @@ fn distances_on_a(w: &mut Worked, a: &Yard) -> Same {
 /// Of pebbles that are equally near the lowest-numbered: two children, then the parent and a child, each of them the lower one in its turn.
 fn equally_near(w: &mut Worked) -> Same {
     w.nearest("of two children the lower", &yard(&[3, 3, 3, 3], &[0, 1, 1, 0], &[0; 4]), 3, Ok((1, 1)))?;
-    w.nearest("the parent below the child", &yard(&[0, 0, 1], &[1, 0, 1], &[0; 3]), 1, Ok((0, 1)))?;
-    w.nearest("the child below the parent", &yard(&[1, 2, 2], &[1, 0, 1], &[0; 3]), 1, Ok((0, 1)))?;
+    w.nearest("of parent and child the parent", &yard(&[0, 0, 1], &[1, 0, 1], &[0; 3]), 1, Ok((0, 1)))?;
+    w.nearest("of parent and child the child", &yard(&[1, 2, 2], &[1, 0, 1], &[0; 3]), 1, Ok((0, 1)))?;
     // Over the root, and below: nodes 4 and 1 are both two edges from 2.
     w.nearest("far above and far below", &yard(&[2, 0, 3, 3, 3], &[0, 1, 0, 0, 1], &[0; 5]), 2, Ok((1, 2)))?;
     w.nearest("a lower one that is farther", &yard(&[0, 0, 1], &[1, 0, 1], &[0; 3]), 2, Ok((2, 0)))

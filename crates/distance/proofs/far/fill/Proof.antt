@@ -8,10 +8,9 @@ use lib.ListN.{length}
 use borrow.Author.Needs.{needs}
 use borrow.Author.Tests.{not-true, not-false}
 use Rattle.model.specs.Yard.{Yard}
-use Rattle.model.proofs.Distance.{distance-lt}
 use Rattle.distance.specs.Far.{From, Partly}
 use Rattle.distance.proofs.Climbing.{Filled, filled-next, all-wood}
-use Rattle.distance.proofs.Marking.{few, as-long}
+use Rattle.distance.proofs.Marking.{as-long}
 use Rattle.distance.proofs.far.fill.Statement.{statement}
 use Rattle.distance.proofs.far.fill.Tie as tie
 
@@ -46,28 +45,19 @@ call c = c .before .before .before .before .before .before .before .before
 here : (c : tie.At-loop Inv-loop μ-loop) (y : Yard) → From y (call c .args .parents .now) (call c .args .node) → Partly y (call c .args .node) (c .loop .list)
 here c y f = c .loop .inv .1 y f (c .before .before .before .before .mark-way .ensures .1 y f .1)
 
-far-away-requires : tie.Need-far-away-requires Inv-loop μ-loop
-far-away-requires c κs = let i = c .before in let l = i .before in (call l .pre .0, l .loop .inv .0 .entries, i .loop-test .taken)
+know-requires : tie.Need-know-requires Inv-loop μ-loop
+know-requires c κs = let i = c .before in let l = i .before in (call l .pre .0, l .loop .inv .0 .entries, i .loop-test .taken)
 
 same-length-2 : tie.Need-same-length-2 Inv-loop μ-loop
-same-length-2 c = let l = c .before .before .before .before in l .loop .inv .0 .entries .long ∙ sym (call l .pre .1 .long)
+same-length-2 c =
+    let k = c .before .before .before in
+    k .know .ensures .0 .0 ∙ sym (call (k .before .before .before) .pre .1 .long)
 
 returns-2 : tie.Need-returns-2 Inv-loop μ-loop
 returns-2 c =
-    let a = c .before in
-    let l = a .before .before .before in
-    let s = call l .args in (
-      (λ q. absurd (false≢true q)),
-      λ y f. absurd (omega (arith, c .if2 .taken, a .far-away .ensures .1 y (s .node) f (here l y f), distance-lt y (f .tree) (s .node) (l .loop .v) (f .node) (omega (arith, as-long f, a .before .before .loop-test .taken)), few f)),
-    )
-
-write-up-requires : tie.Need-write-up-requires Inv-loop μ-loop
-write-up-requires c κs =
-    let e = c .before in
-    let a = e .before in
-    let i = a .before .before in
-    let l = i .before in
-    (call l .pre .0, l .loop .inv .0 .entries, i .loop-test .taken, omega (arith, a .far-away .ensures .0 .0, e .if2 .left), a .far-away .ensures .0 .1 (e .if2 .left))
+    let k = c .before .before .before in
+    let l = k .before .before .before in
+    ((λ q. absurd (false≢true q)), λ y f. absurd (false≢true (sym (not-true _ (c .if2 .taken)) ∙ k .know .ensures .1 y _ f (here l y f) .0)))
 
 add-v : tie.Need-add-v Inv-loop μ-loop
 add-v c = omega arith
@@ -77,12 +67,9 @@ loop-less c = omega arith
 
 loop-again : tie.Need-loop-again Inv-loop μ-loop
 loop-again c =
-    let w = c .before .before in
-    let a = w .before .before .before in
-    let l = a .before .before .before in (
-      filled-next (l .loop .inv .0) (w .write-up .ensures .0),
-      λ y f p. let k = l .loop .inv .1 y f p in w .write-up .ensures .1 y _ f k (a .far-away .ensures .1 y _ f k),
-    )
+    let k = c .before .before .before in
+    let l = k .before .before .before in
+    (filled-next (l .loop .inv .0) (k .know .ensures .0 .1 (not-false _ (c .if2 .left))), λ y f p. k .know .ensures .1 y _ f (l .loop .inv .1 y f p) .1)
 
 same-length-3 : tie.Need-same-length-3 Inv-loop μ-loop
 same-length-3 c = let l = c .before in l .loop .inv .0 .entries .long ∙ sym (call l .pre .1 .long)
@@ -105,10 +92,9 @@ fill-spec =
     same-length
     returns
     loop-holds
-    far-away-requires
+    know-requires
     same-length-2
     returns-2
-    write-up-requires
     add-v
     loop-less
     loop-again
