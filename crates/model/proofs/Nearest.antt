@@ -15,7 +15,7 @@ use Rattle.model.specs.Yard.{Yard, size, pebble, held, one, sum, lowest,
 use Rattle.model.specs.Judge.{Fault, fault, judge, Tree}
 use Rattle.model.specs.Calls.Answers.{answered}
 use Rattle.model.specs.Distance.{distance}
-use Rattle.model.specs.Calls.Distances.{nearerThan, nearest, Nearest, nearestOf, nearestTests, nearestFault, nearestAnswer, inReach, reachFault, reachList, reachCount}
+use Rattle.model.specs.Calls.Distances.{isNearer, nearerThan, nearest, Nearest, nearestOf, nearestTests, nearestFault, nearestAnswer, inReach, reachFault, reachList, reachCount}
 use Rattle.model.proofs.Basics.{not-so, All, all-below, none-below, below-none, none-all, all-none, unless-none}
 use Rattle.model.proofs.Sums.{sum-cong, sum-zero, sum-some, sum-term}
 use Rattle.model.proofs.Found.{lowest-is, lowest-none}
@@ -80,9 +80,6 @@ module _ (y : Yard) (a : ℕ) where
   held-count : (v : ℕ) → v < size y → held y v ≡ true → 0 < pebbleCount y
   held-count v l h = omega (arith, ltb-true 0 (pebble y v) h, sum-term (size y) v (pebble y) l)
 
-  abbrev isNearer : ℕ → ℕ → Bool
-  isNearer v u = (held y u) && (ltb (distance y a u) (distance y a v))
-
   -- a pebble that has none nearer
   abbrev first : ℕ → Bool
   first v = (held y v) && (eqb (length (nearerThan y a v)) 0)
@@ -93,14 +90,14 @@ module _ (y : Yard) (a : ℕ) where
 
   first-least : (v : ℕ) → first v ≡ true → (held y v ≡ true) × ((w : ℕ) → w < size y → held y w ≡ true → distance y a v ≤ distance y a w)
   first-least v e = let b = and-eq-true-iff (held y v) (eqb (length (nearerThan y a v)) 0) .0 e in
-      (b .0, λ w l h. ltb-false (distance y a w) (distance y a v) (tail (held y w) _ h (below-none (size y) (isNearer v) (empty-is (nearerThan y a v) (b .1)) w l)))
+      (b .0, λ w l h. ltb-false (distance y a w) (distance y a v) (tail (held y w) _ h (below-none (size y) (isNearer y a v) (empty-is (nearerThan y a v) (b .1)) w l)))
     where
       tail : (b c : Bool) → b ≡ true → (b && c) ≡ false → c ≡ false
       tail true c h e = e
       tail false c h e = absurd (false≢true h)
 
   least-first : (v : ℕ) → held y v ≡ true → ((w : ℕ) → w < size y → held y w ≡ true → distance y a v ≤ distance y a w) → first v ≡ true
-  least-first v h m = rw (h, none-below (size y) (isNearer v) (λ w l. go w l (held y w) refl))
+  least-first v h m = rw (h, none-below (size y) (isNearer y a v) (λ w l. go w l (held y w) refl))
     where
       go : (w : ℕ) → w < size y → (b : Bool) → held y w ≡ b → (b && (ltb (distance y a w) (distance y a v))) ≡ false
       go w l true e = le-ltb (distance y a w) (distance y a v) (m w l e)
@@ -114,7 +111,7 @@ module _ (y : Yard) (a : ℕ) where
       go : (us : List ℕ) → nearerThan y a v ≡ us → ((v : ℕ) → v < size y → held y v ≡ true → distance y a v ≤ k → (m : ℕ) × (m < size y) × (first m ≡ true)) → (m : ℕ) × (m < size y) × (first m ≡ true)
       go [] q ih = (v, l, rw (h, q))
       go (u ∷ us) q ih =
-          let n : All (λ u. (u < size y) × (isNearer v u ≡ true)) (u ∷ us) = rw q at (all-below (λ u. (u < size y) × (isNearer v u ≡ true)) (isNearer v) (size y) (λ u m e. (m, e))) in
+          let n : All (λ u. (u < size y) × (isNearer y a v u ≡ true)) (u ∷ us) = rw q at (all-below (λ u. (u < size y) × (isNearer y a v u ≡ true)) (isNearer y a v) (size y) (λ u m e. (m, e))) in
           let b = and-eq-true-iff (held y u) (ltb (distance y a u) (distance y a v)) .0 (n .0 .1) in
           ih u (n .0 .0) (b .0) (omega (arith, ltb-true (distance y a u) (distance y a v) (b .1)))
 

@@ -10,9 +10,12 @@ use Rattle.model.specs.Judge.{Fault, fault, firstOf, unless, judge, node
 use Rattle.model.specs.Calls.Answers.{Answer, answer, lent, range}
 use Rattle.model.specs.Distance.{distance}
 
--- the nodes that hold a pebble and are nearer to a than v is
+-- w holds a pebble and is nearer to a than v is; the nodes of which that holds
+abbrev pub isNearer : Yard → ℕ → ℕ → ℕ → Bool
+isNearer y a v w = (held y w) && (ltb (distance y a w) (distance y a v))
+
 abbrev pub nearerThan : Yard → ℕ → ℕ → List ℕ
-nearerThan y a v = below (size y) (λ w. (held y w) && (ltb (distance y a w) (distance y a v)))
+nearerThan y a v = below (size y) (isNearer y a v)
 
 -- the pebble nearest to a: the lowest node that holds one and than which no other that does is nearer
 unfoldable pub nearest : Yard → ℕ → ℕ
