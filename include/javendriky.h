@@ -40,7 +40,7 @@ extern "C" {
 
 /* The version of these calls, which the library answers too. It is raised whenever a call is added, or gets further arguments or another
  * meaning under the same name, which requests to come will do: a program built with another header would still link. So compare the two once, before any other call. */
-#define JAVENDRIKY_VERSION 6
+#define JAVENDRIKY_VERSION 7
 
 /* The most nodes that a yard can have. */
 #define JAVENDRIKY_MAX_NODES 256
@@ -63,7 +63,7 @@ extern "C" {
 #define JAVENDRIKY_REFUSAL(a) ((uint32_t)(a) / 1000000u)
 #define JAVENDRIKY_PLACE(a) ((uint32_t)(a) % 1000000u)
 
-/* The refusals, with their places. Each call tells below which it answers, and in what order. */
+/* The refusals, with their places. Each call tells below which it answers, and in what order. No call answers 21. */
 #define JAVENDRIKY_NODE_COUNT 1      /* the parent list has no entry, or more than 256; place 0 (of a sheet: the line) */
 #define JAVENDRIKY_LIST_LENGTH 2     /* a list has another number of entries than the parent list; place 0 */
 #define JAVENDRIKY_MARK 3            /* an entry of pebbles, or else of targets, is above 1; the lowest such node */
@@ -84,8 +84,8 @@ extern "C" {
 #define JAVENDRIKY_READER_LIST 18    /* a list lent for reading a sheet has fewer than 256 entries; place 0 */
 #define JAVENDRIKY_NODE_OUTSIDE 19   /* the node asked for is no node of the yard; place 0 */
 #define JAVENDRIKY_ALREADY_SO 20     /* an event finds its mark already so: a pebble where one arrives, none where one leaves, targets likewise; place 0 */
-#define JAVENDRIKY_DEMAND_RANGE 21   /* an entry of the demand list is outside -256 to 256, or would be after the event; the lowest such node */
 #define JAVENDRIKY_NO_PEBBLE 22      /* the yard holds no pebble; place 0 */
+#define JAVENDRIKY_STALE_DEMANDS 23  /* an entry of the demand list handed to an event is not the demand of its node; the lowest such node */
 
 /* Refusal text: a refusal as a sentence, without its full stop, that says what is wrong and what to mend. It is in the words of those who mend it
  * (berth for node, car for pebble). 'The named berth' (line, move) is the one whose number is the place, so print the place beside it; moves count from 0.
@@ -121,8 +121,8 @@ static inline const char *javendriky_refusal_text(uint32_t answer)
     case 18: return "a list lent for reading a sheet has fewer than 256 entries: lend three of at least 256";
     case 19: return "the berth asked for is no berth of this yard: name one of those that are, which count from 0";
     case 20: return "the berth already is as the event would make it: tell an arrival or a set target only where there is none, and the others only where there is one";
-    case 21: return "the account of the named berth is not from -256 to 256, or would leave that range, so the account list is not this yard's: work it out anew";
     case 22: return "the yard holds no car: ask for the nearest one where there is one";
+    case 23: return "the account of the named berth is not this yard's, so the account list is an old one or another yard's: work it out anew before the next event";
     default: return "this refusal has no sentence in the header that the program was built with: build it with the library's own header";
     }
 }
@@ -175,10 +175,11 @@ uint32_t javendriky_displaced(const uint8_t *parents, size_t parents_len,
                               const uint8_t *targets, size_t targets_len);
 
 /* Events, while cars come and go and targets are redrawn: a pebble arrives at `node` or leaves it, a target is set there or cleared. Four calls alike.
- * Answers 0, and writes: the one mark in `pebbles` or in `targets`, and in `demands` each entry on the way from `node` to the root, by one. So `demands` must
- * be the yard's before the call, as javendriky_demands or the last of these calls left it; then it is the altered yard's after it. The totals may differ.
- * Refused with 1 to 6, then with 2 if `demands` has not exactly n entries, then with 19, 20 and 21, of which a list that is the yard's never meets 21; then
- * all three lists are as before. */
+ * Answers 0, and writes: the one mark in `pebbles` or in `targets`, and in `demands` each entry on the way from `node` to the root, by one. `demands` must be
+ * the yard's before the call, as javendriky_demands or the last of these calls left it, which the call tests; then it is the altered yard's after it. The
+ * totals may differ.
+ * Refused with 1 to 6, then with 2 if `demands` has not exactly n entries, then with 19, 20 and 23, of which a list that is the yard's never meets 23; then
+ * all three lists are as before. After 23 have javendriky_demands write the list anew. */
 uint32_t javendriky_pebble_arrives(const uint8_t *parents, size_t parents_len,
                                    uint8_t *pebbles, size_t pebbles_len,
                                    uint8_t *targets, size_t targets_len,

@@ -1,9 +1,10 @@
 //! Lists, plans, demands and sheets spoilt in one place or several: what a hand, a bad wire or an attacker makes of legal ones.
 
 use crate::checker::MAX_PLAN_BYTES;
-use crate::demands::MAX_DEMAND;
-use crate::event::{way, Kept};
+use crate::demands::{of_tree, MAX_DEMAND};
+use crate::event::{way, Event};
 use crate::random::Random;
+use crate::shapes::{self, Shape};
 use crate::yard::{Yard, MAX_NODES};
 
 /// A number of nodes that the library does not take, or at its edge.
@@ -139,19 +140,51 @@ pub fn entry(random: &mut Random) -> i16 {
     size.wrapping_mul(random.pick(&[1, -1]))
 }
 
-/// A list beside a tree that need not be its own: its own, any within the range or all at one end; then up to three of any kind, half of them on the way
-/// from the node to the root.
-pub fn demands(kept: &mut Kept, node: usize, random: &mut Random) {
-    match random.below(4) {
-        0 => kept.demands.fill(random.pick(&[-MAX_DEMAND, MAX_DEMAND])),
-        1 => kept.demands.fill_with(|| random.within(0, 510) as i16 - 255),
-        _ => {}
+/// A list that may lie beside a tree when an event at one of its nodes is told: stale, another yard's, spoilt, at times its own.
+pub fn demands(yard: &Yard, event: Event, node: usize, random: &mut Random) -> Vec<i16> {
+    let n = yard.nodes();
+    let mut list = of_tree(yard);
+    match random.below(8) {
+        0 => {}
+        // From before one event, two or several: each altered a mark, some perhaps back.
+        1 | 2 => {
+            let mut before = yard.clone();
+            for _ in 0..random.pick(&[1, 1, 2, 2, 3, 30]) {
+                let marks = if random.once_in(2) { &mut before.pebbles } else { &mut before.targets };
+                marks[random.below(n)] ^= 1;
+            }
+            list = of_tree(&before);
+        }
+        // From after the event, as if it had been told already.
+        3 => {
+            let mut after = yard.clone();
+            event.of(&mut after.pebbles, &mut after.targets)[node] = event.mark();
+            list = of_tree(&after);
+        }
+        // Of other marks on this tree, of another tree, of none.
+        4 => match random.below(4) {
+            0 => list = of_tree(&Yard { parents: yard.parents.clone(), ..shapes::yard(Shape::Random, n, random) }),
+            1 => list = of_tree(&shapes::yard(random.pick(&Shape::ALL), n, random)),
+            2 => list.fill(0),
+            _ => list.fill(random.pick(&[-MAX_DEMAND, MAX_DEMAND])),
+        },
+        // Two entries change places, so that the sum stays.
+        5 => list.swap(random.below(n), random.below(n)),
+        // One or two altered, half of them on the way from the node to the root.
+        _ => {
+            let way = way(yard, node);
+            for _ in 0..random.within(1, 2) {
+                let at = if random.once_in(2) { random.pick(&way) } else { random.below(n) };
+                list[at] = match random.below(4) {
+                    0 => list[at].wrapping_add(random.pick(&[1, -1])),
+                    // The same once the high byte is lost.
+                    1 => list[at].wrapping_add(random.pick(&[256, -256, i16::MIN])),
+                    _ => entry(random),
+                };
+            }
+        }
     }
-    let way = Vec::from_iter(way(&kept.yard, node));
-    for _ in 0..random.below(4) {
-        let at = if random.once_in(2) { random.pick(&way) } else { random.below(kept.demands.len()) };
-        kept.demands[at] = entry(random);
-    }
+    list
 }
 
 /// Legal moves from a tree's pebbles, at most `most` of them, going nowhere.

@@ -1,8 +1,8 @@
-//! Events at a node (request 2.5): a pebble arrives or leaves, a target is set or cleared, and a list of demands is brought up to date.
+//! Events at a node (requests 2.5 and 2.8): a pebble arrives or leaves, a target is set or cleared, and a list of demands that is the yard's is brought up
+//! to date.
 
-use crate::demands::{of_tree, MAX_DEMAND};
+use crate::demands::of_tree;
 use crate::yard::{judge, refuse, Answer, Yard};
-use std::collections::BTreeSet;
 
 #[derive(Clone, Copy, Debug, PartialEq, Eq)]
 pub enum Event {
@@ -69,12 +69,12 @@ impl Kept {
 }
 
 /// The nodes from a node of a tree to the root, both included.
-pub fn way(yard: &Yard, node: usize) -> BTreeSet<usize> {
-    let mut way = BTreeSet::from([node]);
+pub fn way(yard: &Yard, node: usize) -> Vec<usize> {
+    let mut way = vec![node];
     let mut at = node;
     while !yard.is_root(at) {
         at = yard.parent(at);
-        way.insert(at);
+        way.push(at);
     }
     way
 }
@@ -92,21 +92,14 @@ pub fn happen(kept: &Kept, event: Event, node: usize) -> Answer<Kept> {
     if !event.alters(&kept.yard, node) {
         return refuse(20, 0);
     }
+    let afresh = of_tree(&kept.yard);
+    if let Some(stale) = (0..n).find(|&at| kept.demands[at] != afresh[at]) {
+        return refuse(23, stale);
+    }
     let mut after = kept.clone();
     event.of(&mut after.yard.pebbles, &mut after.yard.targets)[node] = event.mark();
-    let way = way(&kept.yard, node);
-    let inside = |demand: i16| (-MAX_DEMAND..=MAX_DEMAND).contains(&demand);
-    // In rising number, so the first that is outside, before or after, is the lowest.
-    for at in 0..n {
-        if !inside(kept.demands[at]) {
-            return refuse(21, at);
-        }
-        if way.contains(&at) {
-            after.demands[at] += event.change();
-        }
-        if !inside(after.demands[at]) {
-            return refuse(21, at);
-        }
+    for at in way(&kept.yard, node) {
+        after.demands[at] += event.change();
     }
     Ok(after)
 }

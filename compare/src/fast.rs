@@ -2,11 +2,11 @@
 //! child names its next sibling, and each node keeps whose turn it is among its children. The benchmark sets the library beside these.
 
 use crate::checker::{Tried, MAX_PLAN_BYTES};
-use crate::demands::MAX_DEMAND;
 use crate::distance::Nearest;
 use crate::event::Event;
 use crate::figures::Length;
 use crate::yard::{refuse, Answer, Refusal, MAX_NODES};
+use std::mem::swap;
 
 /// Refusals 1 to 6.
 pub fn test_yard(parents: &[u8], pebbles: &[u8], targets: &[u8]) -> Answer<()> {
@@ -35,28 +35,32 @@ pub fn displaced(parents: &[u8], pebbles: &[u8], targets: &[u8]) -> Answer<u32> 
     Ok(pebbles.iter().zip(&left).map(|(pebble, left)| u32::from(pebble & left)).sum())
 }
 
-/// Refusals 1 to 6, 2 for the list of demands, 19 to 21; alters the mark, and the demands on the way to the root in one climb.
+/// Refusals 1 to 6, 2 for the list of demands, 19, 20 and 23, by the demands worked out; alters the mark, and the demands on the way to the root in one climb.
 pub fn event(parents: &[u8], pebbles: &mut [u8], targets: &mut [u8], demands: &mut [i16], event: Event, node: usize) -> Answer<()> {
-    test_yard(parents, pebbles, targets)?;
-    if demands.len() != parents.len() {
-        return refuse(2, 0);
-    }
-    let Some(mark) = event.of(pebbles, targets).get_mut(node) else {
-        return refuse(19, 0);
-    };
-    if *mark == event.mark() {
-        return refuse(20, 0);
-    }
+    event_afresh(parents, pebbles, targets, demands, event, node)?;
+    event.of(pebbles, targets)[node] = event.mark();
     let change = event.change();
-    // The least and the greatest, which many entries at a time can tell, show of most lists that no entry is or goes outside, wherever the way is.
-    let (least, greatest) = demands.iter().fold((0, 0), |(least, greatest): (i16, i16), &entry| (least.min(entry), greatest.max(entry)));
-    if least.saturating_add(change.min(0)) < -MAX_DEMAND || greatest.saturating_add(change.max(0)) > MAX_DEMAND {
-        if let Some(lowest) = lowest_outside(parents, demands, node, change) {
-            return refuse(21, lowest);
+    let mut at = node;
+    loop {
+        demands[at] += change;
+        let parent = usize::from(parents[at]);
+        if parent == at {
+            return Ok(());
         }
+        at = parent;
     }
-    *mark = event.mark();
-    climb(parents, node, |at| demands[at] += change);
+}
+
+/// The same, with the list held to equation 2 instead: no demand is worked out but for the place of 23.
+pub fn event_by_equation_2(parents: &[u8], pebbles: &mut [u8], targets: &mut [u8], demands: &mut [i16], event: Event, node: usize) -> Answer<()> {
+    let Some(climbs) = climbs(parents, pebbles, targets, demands, event, node) else {
+        return event_afresh(parents, pebbles, targets, demands, event, node);
+    };
+    event.of(pebbles, targets)[node] = event.mark();
+    let change = event.change();
+    for (demand, climb) in demands.iter_mut().zip(climbs) {
+        *demand += if climb == WAY { change } else { 0 };
+    }
     Ok(())
 }
 
@@ -195,6 +199,13 @@ fn first_above(list: &[u8], limit: u8) -> Option<usize> {
     (greatest > limit).then(|| list.iter().position(|&entry| entry > limit))?
 }
 
+/// Whether none of refusals 1 to 4 is due, by the greatest entries too.
+fn passes_1_to_4(parents: &[u8], pebbles: &[u8], targets: &[u8]) -> bool {
+    let n = parents.len();
+    let below = |list: &[u8], end: usize| list.len() == n && list.iter().copied().max().is_some_and(|greatest| usize::from(greatest) < end);
+    n <= MAX_NODES && below(parents, n) && below(pebbles, 2) && below(targets, 2)
+}
+
 /// The lowest node from which climbing never reaches the root; there is one.
 #[cold]
 fn lowest_lost(parents: &[u8], root: usize) -> usize {
@@ -202,26 +213,75 @@ fn lowest_lost(parents: &[u8], root: usize) -> usize {
     (0..parents.len()).find(|&node| climb(node) != root).unwrap_or(0)
 }
 
-/// Calls `pass` with each node from a node of a tree to the root.
-fn climb(parents: &[u8], node: usize, mut pass: impl FnMut(usize)) {
-    let mut at = node;
-    loop {
-        pass(at);
-        let parent = usize::from(parents[at]);
-        if parent == at {
-            return;
-        }
-        at = parent;
+/// The climb from an event's node to the root. Any other has the number of the node that it starts from.
+const WAY: u16 = MAX_NODES as u16;
+const NO_CLIMB: u16 = u16::MAX;
+
+/// The climb that passed each node first, if an event is accepted.
+///
+/// The way comes first. Each other climb ends where an earlier one passed, or there is a circle or a second root. On the way through the nodes the entries of
+/// the children are summed up: a list is the tree's own exactly if it meets equation 2 at every node (request 2.3), and that asks for no order, so no demand is
+/// worked out. Sums that wrap tell no less: from the leaves upwards they too leave one entry for each node.
+#[inline(always)]
+fn climbs(parents: &[u8], pebbles: &[u8], targets: &[u8], demands: &[i16], event: Event, node: usize) -> Option<[u16; MAX_NODES]> {
+    let mark = *event.of(pebbles, targets).get(node)?;
+    if mark == event.mark() || demands.len() != parents.len() || !passes_1_to_4(parents, pebbles, targets) {
+        return None;
     }
+    let parent_of = copy(parents);
+    let mut climbs = [NO_CLIMB; MAX_NODES];
+    let mut root = node;
+    while climbs[root] == NO_CLIMB {
+        climbs[root] = WAY;
+        root = usize::from(parent_of[root]);
+    }
+    if usize::from(parent_of[root]) != root {
+        return None;
+    }
+    // Two sums by turns, or each child of a star would wait for the one before it.
+    let mut sums = [[0i16; MAX_NODES]; 2];
+    let [mut this, mut other] = sums.each_mut();
+    for (start, (&parent, &demand)) in parents.iter().zip(demands).enumerate() {
+        let parent = usize::from(parent);
+        this[parent] = this[parent].wrapping_add(demand);
+        swap(&mut this, &mut other);
+        if climbs[start] != NO_CLIMB {
+            continue;
+        }
+        climbs[start] = start as u16;
+        let mut at = parent;
+        while climbs[at] == NO_CLIMB {
+            climbs[at] = start as u16;
+            at = usize::from(parent_of[at]);
+        }
+        if climbs[at] == start as u16 {
+            return None;
+        }
+    }
+    // The root is no child of its own.
+    sums[0][root] = sums[0][root].wrapping_sub(demands[root]);
+    let mut differing = 0;
+    for at in 0..parents.len() {
+        let own = i16::from(targets[at]) - i16::from(pebbles[at]);
+        differing |= demands[at] ^ own.wrapping_add(sums[0][at]).wrapping_add(sums[1][at]);
+    }
+    (differing == 0).then_some(climbs)
 }
 
-/// The lowest node whose demand is outside the range, or would be after a change on the way from a node to the root.
-#[cold]
-fn lowest_outside(parents: &[u8], demands: &[i16], node: usize, change: i16) -> Option<usize> {
-    let mut changes = [0; MAX_NODES];
-    climb(parents, node, |at| changes[at] = change);
-    let outside = |entry: i16| !(-MAX_DEMAND..=MAX_DEMAND).contains(&entry);
-    demands.iter().zip(changes).position(|(&entry, change)| outside(entry) || outside(entry + change))
+/// The refusals of an event, by the demands worked out.
+#[inline(always)]
+fn event_afresh(parents: &[u8], pebbles: &[u8], targets: &[u8], demands: &[i16], event: Event, node: usize) -> Answer<()> {
+    let mut afresh = [0; MAX_NODES];
+    gather(parents, pebbles, targets, &mut afresh, |_, _, _| {})?;
+    if demands.len() != parents.len() {
+        return refuse(2, 0);
+    }
+    match event.of(pebbles, targets).get(node) {
+        None => refuse(19, 0),
+        Some(&mark) if mark == event.mark() => refuse(20, 0),
+        Some(_) if *demands == afresh[..demands.len()] => Ok(()),
+        Some(_) => refuse(23, demands.iter().zip(afresh).position(|(&entry, demand)| entry != demand).unwrap_or(0)),
+    }
 }
 
 /// A distance that is not known yet.
@@ -234,8 +294,7 @@ const UNKNOWN: u16 = u16::MAX;
 /// comes to no end.
 fn distances(parents: &[u8], pebbles: &[u8], targets: &[u8], node: usize) -> Answer<[u16; MAX_NODES]> {
     let n = parents.len();
-    let below = |list: &[u8], end: usize| list.len() == n && list.iter().copied().max().is_some_and(|greatest| usize::from(greatest) < end);
-    if n > MAX_NODES || !below(parents, n) || !below(pebbles, 2) || !below(targets, 2) {
+    if !passes_1_to_4(parents, pebbles, targets) {
         return refusal_due(parents, pebbles, targets);
     }
     let parent_of = copy(parents);
@@ -290,19 +349,31 @@ fn demands(parents: &[u8], pebbles: &[u8], targets: &[u8]) -> Answer<([i16; MAX_
 }
 
 /// The same, and on the way calls `settled` with each node but the root, its parent and its demand, children first.
-fn demands_with(parents: &[u8], pebbles: &[u8], targets: &[u8], mut settled: impl FnMut(usize, usize, i16)) -> Answer<([i16; MAX_NODES], usize)> {
-    let mut demand = [0i16; MAX_NODES];
-    for ((demand, &target), &pebble) in demand.iter_mut().zip(targets).zip(pebbles) {
-        *demand = i16::from(target) - i16::from(pebble);
-    }
-    let root = fold_up(parents, pebbles, targets, |node, parent| {
-        settled(node, parent, demand[node]);
-        demand[parent] += demand[node];
-    })?;
+fn demands_with(parents: &[u8], pebbles: &[u8], targets: &[u8], settled: impl FnMut(usize, usize, i16)) -> Answer<([i16; MAX_NODES], usize)> {
+    let mut demand = [0; MAX_NODES];
+    let root = gather(parents, pebbles, targets, &mut demand, settled)?;
     if demand[root] != 0 {
         return refuse(7, 0);
     }
     Ok((demand, root))
+}
+
+/// The same without refusal 7, into a list of zeros.
+#[inline(always)]
+fn gather(
+    parents: &[u8],
+    pebbles: &[u8],
+    targets: &[u8],
+    demand: &mut [i16; MAX_NODES],
+    mut settled: impl FnMut(usize, usize, i16),
+) -> Answer<usize> {
+    for ((demand, &target), &pebble) in demand.iter_mut().zip(targets).zip(pebbles) {
+        *demand = i16::from(target) - i16::from(pebble);
+    }
+    fold_up(parents, pebbles, targets, |node, parent| {
+        settled(node, parent, demand[node]);
+        demand[parent] += demand[node];
+    })
 }
 
 fn sizes(demand: &[i16]) -> u32 {

@@ -7,7 +7,7 @@ use crate::figures::Length;
 use crate::yard::{Answer, Refusal};
 
 /// The version of the calls that are declared here: JAVENDRIKY_VERSION of the header. A library of another version must not be called.
-pub const VERSION: u32 = 6;
+pub const VERSION: u32 = 7;
 
 /// What an accepted trial adds to the moves taken where the budget ended it.
 const BUDGET_ENDED: u32 = 500_000;

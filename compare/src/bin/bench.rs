@@ -107,11 +107,12 @@ fn deepest(yard: &Yard, wanted: impl Fn(usize) -> bool) -> Option<usize> {
     (0..yard.nodes()).filter(|&node| wanted(node)).max_by_key(|&node| way(yard, node).len())
 }
 
+type EventCall = fn(&[u8], &mut [u8], &mut [u8], &mut [i16], Event, usize) -> Answer<()>;
+
 /// A pebble arrives at the deepest empty node and leaves it, which brings back what was; the time of one of the two.
-fn events(yard: &Yard) -> Option<Times> {
-    type Call = fn(&[u8], &mut [u8], &mut [u8], &mut [i16], Event, usize) -> Answer<()>;
+fn events(yard: &Yard, plain: EventCall) -> Option<Times> {
     let deepest = deepest(yard, |node| yard.pebbles[node] == 0)?;
-    let call = |call: Call, kept: &mut Kept, event: Event| {
+    let call = |call: EventCall, kept: &mut Kept, event: Event| {
         let Yard { parents, pebbles, targets } = &mut kept.yard;
         call(black_box(parents), black_box(pebbles), black_box(targets), black_box(&mut kept.demands), black_box(event), black_box(deepest))
     };
@@ -119,7 +120,7 @@ fn events(yard: &Yard) -> Option<Times> {
     let (mut kept, mut plain_kept) = (begun.clone(), begun.clone());
     let there_and_back = [Event::PebbleArrives, Event::PebbleLeaves];
     for event in there_and_back {
-        if call(library::event, &mut kept, event) != Ok(()) || call(fast::event, &mut plain_kept, event) != Ok(()) || kept != plain_kept {
+        if call(library::event, &mut kept, event) != Ok(()) || call(plain, &mut plain_kept, event) != Ok(()) || kept != plain_kept {
             return None;
         }
     }
@@ -128,7 +129,7 @@ fn events(yard: &Yard) -> Option<Times> {
     }
     let both = measure(
         || there_and_back.map(|event| call(library::event, &mut kept, event)),
-        || there_and_back.map(|event| call(fast::event, &mut plain_kept, event)),
+        || there_and_back.map(|event| call(plain, &mut plain_kept, event)),
     );
     Some(Times { library: both.library / 2.0, plain: both.plain / 2.0 })
 }
@@ -205,7 +206,7 @@ fn run() -> Option<f64> {
             ("trial", trials(&yard, &plan)?),
             ("bound", figures(&yard, bound, fast::length_bound)?),
             ("displaced", figures(&yard, library::displaced, fast::displaced)?),
-            ("event", events(&yard)?),
+            ("event", events(&yard, fast::event)?),
             ("nearest", nearest(&yard)?),
             ("reach", reaches(&yard)?),
             ("test_yard", figures(&yard, library::test_yard, fast::test_yard)?),
@@ -237,6 +238,13 @@ fn run() -> Option<f64> {
             print!("{:>12.2} {:>6.2}", times.plain / 1e3, times.ratio());
         }
         println!();
+    }
+    println!(
+        "\nFor information, an event in µs and the library's ratio to it: plain Rust that works no demand out but holds the list to equation 2.\n"
+    );
+    for shape in Shape::ALL {
+        let times = events(&yard(shape, 256), fast::event_by_equation_2)?;
+        println!("{:<11}{:>12.2} {:>6.2}", shape.name(), times.plain / 1e3, times.ratio());
     }
     Some(highest)
 }

@@ -5,8 +5,8 @@ use mathlib.Core.List.{List, _++_}
 use mathlib.Core.Option.{Option, none, some}
 use Prim.Native.Nat.{ℕ, _≤_, _<_}
 use native.Mathlib.Omega.{arith}
-use lib.ListN.{length, getD, take, replicate, length-replicate, List·getD-append}
-use lib.Seq.{take-at}
+use lib.ListN.{length, getD, take, replicate, length-replicate}
+use lib.Seq.{take-at, getD-take}
 use lib.IntN.{ℤ, pos, natAbs}
 use borrow.Author.Tests.{eq-eqb, ne-eqb}
 use Rattle.model.specs.Yard.{Yard, size, maxSize, sum, demand, imbalance, shortest}
@@ -64,9 +64,9 @@ module _ (y : Yard) where
   pub demands-front : {list : List ℤ} (rest : List ℤ) → list ≡ demandsOf y → take (size y) (list ++ rest) ≡ demandsOf y
   demands-front {list} rest e = take-at list rest (size y) (demands-long e) ∙ e
 
-  pub demands-at : {list : List ℤ} (rest : List ℤ) (v : ℕ) → list ≡ demandsOf y → v < size y → getD (list ++ rest) v (pos 0) ≡ demand y v
-  demands-at {list} rest v e l =
-      List·getD-append list rest (pos 0) v (omega (arith, demands-long e)) ∙ rw e (demands-entry y v l)
+  -- what such a list has at a node
+  pub demands-at : (list : List ℤ) (v : ℕ) → take (size y) list ≡ demandsOf y → v < size y → getD list v (pos 0) ≡ demand y v
+  demands-at list v e l = sym (getD-take (size y) list v (pos 0) l) ∙ rw e (demands-entry y v l)
 
   pub demands-sum : {list : List ℤ} → list ≡ demandsOf y → sum (length list) (λ v. natAbs (getD list v (pos 0))) ≡ shortest y
   unfolding shortest

@@ -7,7 +7,7 @@ use lib.ListN.{length, getD, take}
 use lib.Dec.{eqb}
 use lib.IntN.{ℤ, pos, subℕ}
 use Rattle.model.specs.Yard.{Yard, size, up, one, sum, Equation2}
-use Rattle.model.specs.Judge.{firstOf, shapeTests, Tree, matchedFault}
+use Rattle.model.specs.Judge.{firstOf, shapeTests, Tree}
 use Rattle.model.specs.Calls.Demands.{demandsOf}
 
 -- the first n entries are target minus pebble of their nodes
@@ -25,6 +25,6 @@ pub record Gathered (y : Yard) (left : ℕ) (list : List ℤ) : Type 0 where
   pub tree : Tree y → left ≡ 1
   pub meets : left ≡ 1 → (v : ℕ) → v < size y → Equation2 y list v
 
--- the front of a list holds the demands, of a yard that refusals 1 to 7 do not meet
+-- the front of a list holds the demands, of a yard that refusals 1 to 6 do not meet
 abbrev pub Told : Yard → List ℤ → Type 0
-Told y list = matchedFault y ≡ none → take (size y) list ≡ demandsOf y
+Told y list = Tree y → take (size y) list ≡ demandsOf y

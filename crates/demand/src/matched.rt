@@ -1,9 +1,9 @@
-// The demands of a yard with a plan, or the refusal of one without.
+// The demands of a tree, and of a yard with a plan, or the refusal of one that is none.
 ghost use mathlib.Core.Path.{_≡_};
 ghost use Prim.Native.Nat.{_≤_};
 ghost use lib.ListN.{length};
 ghost use Rattle.model.specs.Given.{given, became};
-ghost use Rattle.model.specs.Judge.{matchedFault};
+ghost use Rattle.model.specs.Judge.{judge, matchedFault};
 ghost use Rattle.model.specs.Paper.{paperDone};
 ghost use Rattle.demand.specs.Filling.{Told};
 use crate::fill::gather;
@@ -13,11 +13,11 @@ use lists::find::first_own;
 use model::Done;
 use model::Refusal;
 
-// Refusals 1 to 7; and the demands of a yard that meets none of them, into the front of a list of 256 at least. Linear work: that the parents are a tree's is
-// seen while the demands are gathered, and the root's demand tells whether the totals differ.
-pub fn matched_demands(parents: &[u8], pebbles: &[u8], targets: &[u8], list: &mut [i16]) -> Done
+// Refusals 1 to 6; and the demands of a yard that meets none of them, into the front of a list of 256 at least. Linear work: that the parents are a tree's is
+// seen while the demands are gathered.
+pub fn tree_demands(parents: &[u8], pebbles: &[u8], targets: &[u8], list: &mut [i16]) -> Done
     requires { ⌜ 256 ≤ length (now list) ⌝ }
-    ensures { λ r. ⌜ paperDone r ≡ matchedFault (given parents pebbles targets) ⌝ }
+    ensures { λ r. ⌜ paperDone r ≡ judge (given parents pebbles targets) ⌝ }
     ensures { λ _. ⌜ Told (given parents pebbles targets) (became list) ⌝ }
 {
     let lists = test_lists(parents, pebbles, targets);
@@ -28,6 +28,19 @@ pub fn matched_demands(parents: &[u8], pebbles: &[u8], targets: &[u8], list: &mu
     let left = gather(parents, pebbles, targets, &mut list[..n]);
     if left != 1 {
         return test_shape(parents);
+    }
+    Done::Accepted
+}
+
+// The same, and refusal 7: the root's demand tells whether the totals differ.
+pub fn matched_demands(parents: &[u8], pebbles: &[u8], targets: &[u8], list: &mut [i16]) -> Done
+    requires { ⌜ 256 ≤ length (now list) ⌝ }
+    ensures { λ r. ⌜ paperDone r ≡ matchedFault (given parents pebbles targets) ⌝ }
+    ensures { λ _. ⌜ Told (given parents pebbles targets) (became list) ⌝ }
+{
+    let tested = tree_demands(parents, pebbles, targets, list);
+    if let Done::Refused(r) = tested {
+        return Done::Refused(r);
     }
     let root = first_own(parents, 0);
     if list[root] != 0 {

@@ -1,3 +1,3 @@
 -- Laws that the proofs of the functions share.
-pub mod Kept
+pub mod Steps
 pub mod Happened

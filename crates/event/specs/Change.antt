@@ -1,21 +1,29 @@
 -- What an event finds and changes, by marks and entries.
 use mathlib.Core.Path.{_≡_}
 use mathlib.Core.Bool.{Bool, cond}
-use mathlib.Core.List.{List, [], map}
-use Prim.Native.Nat.{ℕ, _≤_, _<_}
+use mathlib.Core.List.{List, map}
+use Prim.Native.Nat.{ℕ, _≤_}
 use lib.ListN.{length}
 use lib.Dec.{ltb}
-use lib.IntN.{ℤ, pos, negsuc, _+ℤ_}
+use lib.IntN.{ℤ, pos, negsuc, natAbs, _+ℤ_}
 use Rattle.model.specs.declared.Event.{Event}
 use Rattle.model.specs.declared.Event.the-variants.{PebbleArrives, PebbleLeaves, TargetSet, TargetCleared}
-use Rattle.model.specs.Yard.{Yard, yardOf, lowest, inside, entry}
+use Rattle.model.specs.Yard.{Yard, maxDemand, inside, entry}
 use Rattle.model.specs.Judge.{Tree}
 use Rattle.model.specs.Calls.Answers.{range}
-use Rattle.model.specs.Calls.Events.{inRange, outside, demandsAfter}
+use Rattle.model.specs.Calls.Events.{differ}
+
+-- two lists have different entries at a place
+abbrev pub differAt : List ℤ → List ℤ → ℕ → Bool
+differAt list other v = differ (entry list v) (entry other v)
 
 -- the parents are those of a tree
 abbrev pub Rails : List ℕ → Type 0
 Rails parents = (y : Yard) × Tree y × (y .parents ≡ parents)
+
+-- no entry is outside the range of demands
+abbrev pub Small : List ℤ → Type 0
+Small list = (v : ℕ) → natAbs (entry list v) ≤ maxDemand
 
 -- an event can happen at a node with these marks
 abbrev pub can : Event → ℕ → ℕ → Bool
@@ -31,16 +39,6 @@ stepOf PebbleLeaves = pos 1
 stepOf TargetSet = pos 1
 stepOf TargetCleared = negsuc 0
 
--- an entry after a step, but for one outside −256 to 256, which stays; and the list then
-abbrev pub steppedBy : ℤ → ℤ → ℤ
-steppedBy by k = cond (inRange k) (k +ℤ by) k
-
-unfoldable pub keptAfter : List ℕ → ℤ → ℕ → List ℤ → List ℤ
-keptAfter parents by v list = map (λ u. cond (inside parents u v) (steppedBy by (entry list u)) (entry list u)) (range 0 (length parents))
-
--- what updating a list answers, and what it leaves in it: the lowest node with an entry that is or would be outside, and the list as it was; or else the
--- number of nodes, and the list that the event leaves
-pub record Updated (parents : List ℕ) (e : Event) (v : ℕ) (before : List ℤ) (answer : ℕ) (after : List ℤ) : Type 0 where
-  pub lowest-outside : answer ≡ lowest (length parents) (outside (yardOf parents [] []) before e v)
-  pub stays : answer < length parents → after ≡ before
-  pub changes : length parents ≤ answer → after ≡ demandsAfter (yardOf parents [] []) e v before
+-- the list once the entries on the way from v to the root have stepped
+unfoldable pub steppedAfter : List ℕ → ℤ → ℕ → List ℤ → List ℤ
+steppedAfter parents by v list = map (λ u. cond (inside parents u v) (entry list u +ℤ by) (entry list u)) (range 0 (length parents))

@@ -1,18 +1,19 @@
 // The event call.
 ghost use mathlib.Core.Path.{_≡_};
 ghost use Rattle.model.specs.Given.{given, was, became};
-ghost use Rattle.model.specs.Judge.{firstOf};
-ghost use Rattle.model.specs.Calls.Events.{readyTests, eventFault, eventPebbles, eventTargets, eventDemands};
+ghost use Rattle.model.specs.Calls.Events.{eventFault, eventPebbles, eventTargets, eventDemands};
 ghost use Rattle.model.specs.Paper.{paperDone};
 use crate::marks::alter;
 use crate::marks::can_happen;
-use crate::update::update;
-use judge::test::test_yard;
+use crate::update::climb;
+use crate::update::first_difference;
+use crate::update::step;
+use demand::matched::tree_demands;
 use model::Done;
 use model::Event;
 use model::Refusal;
 
-// Refusals 1 to 6, 2 for a demand list of another length than n, 19 and 20.
+// Refusals 1 to 6, 2 for a demand list of another length than n, 19, 20, and 23: the demands are worked out afresh and compared with the list.
 fn test_event(
     parents: &[u8],
     pebbles: &[u8],
@@ -21,26 +22,32 @@ fn test_event(
     event: Event,
     node: usize,
 ) -> Done
-    ensures { λ r. ⌜ paperDone r ≡ firstOf (readyTests (given parents pebbles targets) (was list) event node) ⌝ }
+    ensures { λ r. ⌜ paperDone r ≡ eventFault (given parents pebbles targets) (was list) event node ⌝ }
 {
-    let tested = test_yard(parents, pebbles, targets);
+    let mut fresh = [0i16; 256];
+    let tested = tree_demands(parents, pebbles, targets, &mut fresh);
     if let Done::Refused(r) = tested {
         return Done::Refused(r);
     }
-    if list.len() != parents.len() {
+    let n = parents.len();
+    if list.len() != n {
         return Done::Refused(Refusal::ListLength);
     }
-    if node >= parents.len() {
+    if node >= n {
         return Done::Refused(Refusal::NodeOutside);
     }
-    if can_happen(event, pebbles[node], targets[node]) {
-        return Done::Accepted;
+    if !can_happen(event, pebbles[node], targets[node]) {
+        return Done::Refused(Refusal::EventImpossible);
     }
-    Done::Refused(Refusal::EventImpossible)
+    let stale = first_difference(list, &fresh[..n]);
+    if stale < n {
+        return Done::Refused(Refusal::StaleDemands(stale));
+    }
+    Done::Accepted
 }
 
-// An event at a node: alters its mark, and each entry of the demand list on the way from the node to the root by one. Then the list is the altered yard's,
-// if it was the yard's before. Refusals 1 to 6; 2 for a list of another length than n; 19 to 21. Linear work.
+// An event at a node: alters its mark, and each entry of the demand list on the way from the node to the root by one. The list must be the yard's, and is then
+// the altered yard's. Refusals 1 to 6; 2 for a list of another length than n; 19, 20 and 23. Nothing is written before all is tested. Linear work.
 pub fn event_at(
     parents: &[u8],
     pebbles: &mut [u8],
@@ -58,10 +65,7 @@ pub fn event_at(
     if let Done::Refused(r) = tested {
         return Done::Refused(r);
     }
-    let out = update(parents, list, event, node);
-    if out < parents.len() {
-        return Done::Refused(Refusal::DemandRange(out));
-    }
+    climb(parents, list, step(event), node);
     alter(pebbles, targets, event, node);
     Done::Accepted
 }

@@ -3,7 +3,6 @@
 use mathlib.Core.Path.{_≡_, refl, sym, ap, _∙_}
 use mathlib.Core.Bool.{Bool, true, false, cond}
 use mathlib.Core.List.{List}
-use mathlib.Core.Option.{none}
 use Prim.Native.Nat.{ℕ, suc, _+_, _-_, _*_, _≤_, _<_}
 use native.Mathlib.Omega.{arith}
 use native.Mathlib.Decide.{ℕ-discrete}
@@ -11,17 +10,16 @@ use lib.ListN.{length, getD, length-set}
 use lib.Seq.{getD-set-same, getD-set-other}
 use lib.Dec.{ltb, eqb}
 use lib.IntN.{ℤ, pos, natAbs, subℕ, sucℤ, predℤ, negℤ, _-ℤ_, suc-pred, pred-suc, sucℤ-+ℤ, predℤ-+ℤ, +ℤ-invr}
-use borrow.Author.Tests.{ltb-true, le-leb, eq-eqb, ne-eqb}
+use borrow.Author.Tests.{ltb-true, eq-eqb, ne-eqb}
 use Rattle.model.specs.declared.Event.{Event}
 use Rattle.model.specs.declared.Event.the-variants.{PebbleArrives, PebbleLeaves, TargetSet, TargetCleared}
-use Rattle.model.specs.Yard.{Yard, yardOf, size, maxDemand, pebble, target, capacity, one, sum, inside, subtotal, targetsIn, pebblesIn, demand, entry}
-use Rattle.model.specs.Judge.{atLowest, Tree}
+use Rattle.model.specs.Yard.{Yard, yardOf, size, pebble, target, capacity, one, sum, inside, subtotal, targetsIn, pebblesIn, demand, entry}
+use Rattle.model.specs.Judge.{Tree}
 use Rattle.model.specs.Calls.Demands.{demandsFault, demandsOf, demandsList}
-use Rattle.model.specs.Calls.Events.{oneMore, oneLess, pebblesAfter, targetsAfter, altered, changed, entryAfter, demandsAfter, possible, inRange, rangeFault}
-use Rattle.model.proofs.Basics.{none-below}
+use Rattle.model.specs.Calls.Events.{oneMore, oneLess, pebblesAfter, targetsAfter, altered, changed, entryAfter, demandsAfter, possible}
 use Rattle.model.proofs.Sums.{sum-cong, sum-add, sum-pick}
 use Rattle.model.proofs.Judged.{facts, counted-tree}
-use Rattle.model.proofs.Signed.{sub-suc, suc-sub, demand-range}
+use Rattle.model.proofs.Signed.{sub-suc, suc-sub}
 use Rattle.model.proofs.Ranges.{length-range, getD-listed, listed}
 use Rattle.model.proofs.Equation2.{demands-entry}
 
@@ -167,10 +165,3 @@ module _ (y : Yard) (t : Tree y) (e : Event) (v : ℕ) (l : v < size y) (h : pos
   demandsAfter-right =
       listed (demand (altered y e v)) (pos 0) (size y) (demandsAfter y e v (demandsOf y)) (length-demandsAfter y e v (demandsOf y))
       (λ u k. entry-after y e v (demandsOf y) u k ∙ entry-right u k)
-
-  -- and all its entries are and stay in range
-  pub range-right : rangeFault y (demandsOf y) e v ≡ none
-  range-right = ap (atLowest 21) (none-below (size y) _ (λ u k. rw (entry-right u k, demands-entry y u k, small y t u, small (altered y e v) (altered-tree y t v l e h) u)))
-    where
-      small : (z : Yard) → Tree z → (u : ℕ) → inRange (demand z u) ≡ true
-      small z s u = le-leb (natAbs (demand z u)) maxDemand (demand-range z s u)

@@ -148,7 +148,7 @@ module _ (y : Yard) where
           first (drop 1 (eventTests y list e v)) (judge-low y) (λ t.
           all (drop 1 (eventTests y list e v)) (
             once (eqb (length list) (size y)) 2 0 (omega arith) (omega arith),
-            (once (ltb v (size y)) 19 0 (omega arith) (omega arith), (once (possible y e v) 20 0 (omega arith) (omega arith), (lowest 21 (size y) (omega arith) (facts y t .few .1) _, tt))),
+            (once (ltb v (size y)) 19 0 (omega arith) (omega arith), (once (possible y e v) 20 0 (omega arith) (omega arith), (lowest 23 (size y) (omega arith) (facts y t .few .1) _, tt))),
           ))
 
   -- the nearest pebble's node and its distance are below n, and no more than n are in reach

@@ -13,8 +13,8 @@ use lib.Dec.{leb, ltb, eqb}
 use borrow.Author.Tests.{ltb-true, leb-true, le-leb, eqb-true, eq-eqb, ne-eqb}
 use native.Mathlib.Decide.{ℕ-discrete}
 use Rattle.model.specs.Yard.{Yard, yardOf, size, maxSize}
-use Rattle.model.specs.Judge.{rowCount, Fault, row}
-use Rattle.model.specs.Calls.Answers.{Answer, answered, refused, mapAnswer, range}
+use Rattle.model.specs.Judge.{Fault, row}
+use Rattle.model.specs.Calls.Answers.{Answer, answered, refused, InTable, mapAnswer, range}
 use Rattle.model.specs.Sheets.{text, digits, decimal, line, lines, header, yardSheet, maxSheetBytes, writeTests, writeFault, cut, same, field, Line, readLine, lineValues, nodeValues, nodeOf, column, columns, readNodes, readYard, reader, judgedBytes, printedOf, program}
 use Rattle.model.proofs.Basics.{none-all, unless-none}
 use Rattle.model.proofs.Lines.{decimal-sound, Values, same-true, same-self, Begins, length-line, lineBytes, readLine-begins, readLine-some, cutLine, readLine-take}
@@ -350,7 +350,7 @@ reader-room bs ps cs ts p c t = rw (le-leb 256 (length ps) p, le-leb 256 (length
 -- a refused sheet is refused at a line up to 258
 abbrev pub AtLine : {A : Type 0} → Answer A → Type 0
 AtLine (answered a) = Unit {0}
-AtLine (refused f) = (0 < f .number) × (f .number ≤ rowCount) × (f .place ≤ 258)
+AtLine (refused f) = InTable (f .number) × (f .place ≤ 258)
 
 further : {A B : Type 0} (g : A → B) (a : Answer A) → AtLine a → AtLine (mapAnswer g a)
 further g (answered a) r = tt

@@ -121,6 +121,10 @@ near v d = located (answered (record { node = v; distance = d }))
 highRoot : Yard
 highRoot = yard (3 ∷ 3 ∷ 3 ∷ 4 ∷ 4 ∷ []) (1 ∷ 4 ∷ []) []
 
+-- the demands of the yard without a mark
+zeros : List ℤ
+zeros = pos 0 ∷ pos 0 ∷ pos 0 ∷ pos 0 ∷ pos 0 ∷ []
+
 nines : List ℕ
 nines = 9 ∷ 9 ∷ 9 ∷ 9 ∷ 9 ∷ []
 
@@ -213,7 +217,7 @@ cases =
     ∷ (eventOf PebbleLeaves 3 demandsA yardA gives happened none (0 ∷ 1 ∷ 0 ∷ 0 ∷ 0 ∷ []) (0 ∷ 0 ∷ 1 ∷ 0 ∷ 1 ∷ []) (pos 1 ∷ pos 0 ∷ pos 1 ∷ pos 0 ∷ pos 1 ∷ []))
     ∷ (eventOf TargetSet 0 demandsA yardA gives happened none (0 ∷ 1 ∷ 0 ∷ 1 ∷ 0 ∷ []) (1 ∷ 0 ∷ 1 ∷ 0 ∷ 1 ∷ []) (pos 1 ∷ negsuc 0 ∷ pos 1 ∷ negsuc 0 ∷ pos 1 ∷ []))
     ∷ (eventOf TargetCleared 2 demandsA yardA gives happened none (0 ∷ 1 ∷ 0 ∷ 1 ∷ 0 ∷ []) (0 ∷ 0 ∷ 0 ∷ 0 ∷ 1 ∷ []) (negsuc 0 ∷ negsuc 0 ∷ pos 0 ∷ negsuc 0 ∷ pos 1 ∷ []))
-    -- two roots; a list that is too short, before 19; 19, before 20; each event with its mark already so, before 21
+    -- two roots; a list that is too short, before 19; 19, before 20; each event with its mark already so, before 23
     ∷ (eventOf PebbleArrives 7 [] (yard (0 ∷ 1 ∷ []) [] []) gives happened (fault 5 1) (0 ∷ 0 ∷ []) (0 ∷ 0 ∷ []) [])
     ∷ keeps PebbleArrives 5 (pos 0 ∷ []) 2 0
     ∷ keeps PebbleLeaves 5 demandsA 19 0
@@ -221,15 +225,17 @@ cases =
     ∷ keeps PebbleLeaves 0 demandsA 20 0
     ∷ keeps TargetSet 4 demandsA 20 0
     ∷ keeps TargetCleared 1 demandsA 20 0
-    -- 21: entries off the way, on the way, at both ends, and back into the range; those that stay at its ends are none
-    ∷ keeps PebbleArrives 0 (pos 0 ∷ pos 0 ∷ pos 257 ∷ pos 0 ∷ negsuc 256 ∷ []) 21 2
-    ∷ keeps PebbleLeaves 3 (pos 0 ∷ pos 256 ∷ pos 0 ∷ pos 257 ∷ pos 0 ∷ []) 21 1
-    ∷ keeps PebbleArrives 4 (negsuc 255 ∷ pos 0 ∷ pos 0 ∷ pos 0 ∷ pos 0 ∷ []) 21 0
-    ∷ keeps PebbleArrives 0 (pos 257 ∷ pos 0 ∷ pos 0 ∷ pos 0 ∷ pos 0 ∷ []) 21 0
-    ∷ (eventOf PebbleLeaves 3 (pos 0 ∷ pos 0 ∷ pos 256 ∷ pos 0 ∷ negsuc 255 ∷ []) yardA gives happened none (0 ∷ 1 ∷ 0 ∷ 0 ∷ 0 ∷ []) (0 ∷ 0 ∷ 1 ∷ 0 ∷ 1 ∷ []) (pos 1 ∷ pos 1 ∷ pos 256 ∷ pos 1 ∷ negsuc 255 ∷ []))
+    -- request 2.8, 23: several entries differ; one off the way, by one, by its sign alone, and beyond the demands' range; the list after an event
+    ∷ keeps PebbleArrives 0 zeros 23 1
+    ∷ keeps PebbleArrives 0 (pos 0 ∷ negsuc 0 ∷ pos 1 ∷ negsuc 0 ∷ pos 2 ∷ []) 23 4
+    ∷ keeps PebbleLeaves 3 (pos 0 ∷ negsuc 0 ∷ pos 1 ∷ pos 1 ∷ pos 1 ∷ []) 23 3
+    ∷ keeps TargetSet 1 (pos 0 ∷ negsuc 0 ∷ pos 257 ∷ pos 0 ∷ pos 1 ∷ []) 23 2
+    ∷ keeps TargetCleared 4 (negsuc 0 ∷ negsuc 1 ∷ pos 1 ∷ negsuc 0 ∷ pos 0 ∷ []) 23 0
     -- a run in which some are refused (20, 19, and 20 for the pebble that has left)
     ∷ (eventsOf (happens PebbleArrives 1 ∷ happens PebbleArrives 0 ∷ happens PebbleLeaves 3 ∷ happens TargetSet 9 ∷ happens TargetCleared 4 ∷ happens PebbleLeaves 3 ∷ []) demandsA yardA
     gives console-left (1 ∷ 1 ∷ 0 ∷ 0 ∷ 0 ∷ []) (0 ∷ 0 ∷ 1 ∷ 0 ∷ 0 ∷ []) (negsuc 0 ∷ negsuc 0 ∷ pos 1 ∷ pos 0 ∷ pos 0 ∷ []))
+    -- with an old list each is refused, and nothing is altered
+    ∷ (eventsOf (happens PebbleArrives 0 ∷ happens PebbleLeaves 3 ∷ happens TargetCleared 4 ∷ []) zeros yardA gives console-left (yardA .pebbles) (yardA .targets) zeros)
     -- request 2.7: down, up and over the root; from each node; of equals the lowest
     ∷ (distancesOf 2 yardA gives left (1 ∷ 2 ∷ 0 ∷ 3 ∷ 3 ∷ []))
     ∷ (distancesOf 3 yardA gives left (2 ∷ 1 ∷ 3 ∷ 0 ∷ 2 ∷ []))
@@ -276,7 +282,7 @@ cases =
     ∷ []
 
 worked : map (λ (c : Case). outcome (c .input)) cases ≡ map (λ (c : Case). c .expected) cases
-unfolding near highRoot nines anyOf reaches distance nearest nearestFault inReach reachFault demandsA siding placed occurs firstAt lastIn displaced demandsAfter eventFault leaves runLeaves keeps cases _gives_ outcome yard marks yardA yardB planB sum below roots climbs inside subtotal shortest judge moveFault pushFault legal shifted after accepted count needy lowestChild greatest neediestChild choice inject extract turn settle each balance planWithin planBy plan range demandsFault bytes movesOf planFault movesFault checkFault trialFault matchedFault text digits decimal stopBefore line lines header cut same value field readLine readNodes readYard moveLines edges report moveSheet refusalSheet program
+unfolding near highRoot zeros nines anyOf reaches distance nearest nearestFault inReach reachFault demandsA siding placed occurs firstAt lastIn displaced demandsAfter eventFault leaves runLeaves keeps cases _gives_ outcome yard marks yardA yardB planB sum below roots climbs inside subtotal shortest judge moveFault pushFault legal shifted after accepted count needy lowestChild greatest neediestChild choice inject extract turn settle each balance planWithin planBy plan range demandsFault bytes movesOf planFault movesFault checkFault trialFault matchedFault text digits decimal stopBefore line lines header cut same value field readLine readNodes readYard moveLines edges report moveSheet refusalSheet program
 worked = refl
 
 -- two pebbles start at node 1, and one at node 2: whichever is taken, pebble 1 may go the second time, and each has its own route

@@ -4,7 +4,7 @@ use mathlib.Core.Bool.{true, false}
 use mathlib.Core.Option.{Option, none, some}
 use Prim.Native.Nat.{ℕ}
 use Rattle.model.specs.declared.Refusal.{Refusal}
-use Rattle.model.specs.declared.Refusal.the-variants.{NodeCount, ListLength, Mark, ParentOutside, Roots, Circle, Totals, ListTooShort, PlanLength, NoSuchNode, NotAdjacent, FromEmpty, ToFull, TargetEmpty, Header, LineShape, NodeNumber, ReaderList, NodeOutside, EventImpossible, DemandRange, NoPebble}
+use Rattle.model.specs.declared.Refusal.the-variants.{NodeCount, ListLength, Mark, ParentOutside, Roots, Circle, Totals, ListTooShort, PlanLength, NoSuchNode, NotAdjacent, FromEmpty, ToFull, TargetEmpty, Header, LineShape, NodeNumber, ReaderList, NodeOutside, EventImpossible, NoPebble, StaleDemands}
 use Rattle.model.specs.declared.Done.{Done}
 use Rattle.model.specs.declared.Counted.{Counted}
 use Rattle.model.specs.declared.Checked.{Checked}
@@ -38,8 +38,8 @@ paper (NodeNumber l) = row 17 l
 paper ReaderList = row 18 0
 paper NodeOutside = row 19 0
 paper EventImpossible = row 20 0
-paper (DemandRange v) = row 21 v
 paper NoPebble = row 22 0
+paper (StaleDemands v) = row 23 v
 
 -- accepted, or the refusal
 abbrev pub paperDone : Done → Option Fault

@@ -1,5 +1,5 @@
 -- What planning starts from: the demands and pebbles of the yard, its length, and an even root.
-use mathlib.Core.Path.{_≡_, refl, sym, ap, _∙_}
+use mathlib.Core.Path.{_≡_, refl, _∙_}
 use mathlib.Core.Logic.{_≢_}
 use mathlib.Core.Bool.{Bool, true, false}
 use mathlib.Core.List.{List}
@@ -23,9 +23,9 @@ use Rattle.model.proofs.Judged.{facts, wood}
 use Rattle.model.proofs.Demands.{root-even, weight-le}
 use Rattle.model.proofs.Signed.{demand-size, demand-range}
 use Rattle.model.proofs.Balance.{plan-only}
-use Rattle.model.proofs.Equation2.{demands-entry}
 use Rattle.model.proofs.Calls.{totals-none, plan-none}
 use Rattle.model.proofs.Demand3.{plan-length}
+use Rattle.demand.proofs.Answers.{demands-at}
 use Rattle.serve.specs.Serving.{Tables, lastAt, Kept}
 use Rattle.planner.specs.Balancing.{AskedEven, Balanced, Placed}
 
@@ -81,9 +81,7 @@ place-next pebbles s₀ s v p q r l e f g h = record {
 pub placed-kept : (y : Yard) → Tree y → (s₀ s : List ℤ) → take (size y) s₀ ≡ demandsOf y → Placed (y .pebbles) s₀ s (length (y .pebbles)) → Kept y s
 placed-kept y t s₀ s e h = record {
   long = h .long;
-  demands = λ v l.
-      h .low v (omega (arith, facts y t .few))
-      ∙ sym (getD-take (size y) s₀ v (pos 0) l) ∙ ap (λ (xs : List ℤ). getD xs v (pos 0)) e ∙ demands-entry y v l;
+  demands = λ v l. h .low v (omega (arith, facts y t .few)) ∙ demands-at y s₀ v e l;
   pebbles = λ v l. h .high v (omega (arith, facts y t .pebbles-size));
   lasts = λ b u l. record { node = u; is = h .lasts b u (omega (arith, facts y t .pebbles-size)); served = λ d. absurd (d refl) };
 }

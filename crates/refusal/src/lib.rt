@@ -27,8 +27,8 @@ pub fn number(r: Refusal) -> u32
         Refusal::ReaderList => 18,
         Refusal::NodeOutside => 19,
         Refusal::EventImpossible => 20,
-        Refusal::DemandRange(_) => 21,
         Refusal::NoPebble => 22,
+        Refusal::StaleDemands(_) => 23,
     }
 }
 
@@ -56,7 +56,7 @@ pub fn place(r: Refusal) -> usize
         Refusal::ReaderList => 0,
         Refusal::NodeOutside => 0,
         Refusal::EventImpossible => 0,
-        Refusal::DemandRange(v) => v,
         Refusal::NoPebble => 0,
+        Refusal::StaleDemands(v) => v,
     }
 }

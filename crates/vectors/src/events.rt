@@ -19,14 +19,17 @@ fn entry(word: &[u8]) -> i16 {
     if same(word, b"257") {
         return 257;
     }
-    if same(word, b"256") {
-        return 256;
-    }
-    if same(word, b"-256") {
-        return -256;
-    }
     if same(word, b"-257") {
         return -257;
+    }
+    if same(word, b"1") {
+        return 1;
+    }
+    if same(word, b"2") {
+        return 2;
+    }
+    if same(word, b"-2") {
+        return -2;
     }
     if same(word, b"7") {
         return 7;

@@ -79,8 +79,10 @@ pub fn watch_pages() {
     }
 }
 
-/// The number of the last refusal in the papers' tables.
-pub const LAST_REFUSAL: usize = 22;
+/// The number of the last refusal in the papers.
+pub const LAST_REFUSAL: usize = 23;
+/// The one that no input meets any more (request 2.8).
+pub const UNUSED_REFUSAL: usize = 21;
 
 /// Calls both sides; counts the calls, and how often each refusal was met.
 pub struct Caller {
@@ -222,8 +224,8 @@ impl Caller {
         self.same(&inputs, got, moves, lent.wrong(yard).or_else(|| list.wrong("plan", &after)))
     }
 
-    /// An event on a yard and a list of demands, its own or not. Gives back what they are afterwards.
-    pub fn event(&self, kept: &Kept, event: Event, node: usize) -> Same<Kept> {
+    /// An event on a yard and a list of demands, its own or not. Gives back what both sides answer, with what they leave if they accept.
+    pub fn event(&self, kept: &Kept, event: Event, node: usize) -> Same<Answer<Kept>> {
         let Kept { yard, demands } = kept;
         let inputs = Inputs { demands, numbers: &[node], ..Inputs::of(event.name(), yard) };
         let mut lent = self.lend(yard);
@@ -232,13 +234,13 @@ impl Caller {
         let got = during(&inputs, || library::event(parents.list(), pebbles.list_mut(), targets.list_mut(), list.list_mut(), event, node));
         let expected = happen(kept, event, node);
         let accepted = expected.as_ref().map(|_| ()).map_err(|refusal| *refusal);
-        let after = expected.unwrap_or_else(|_| kept.clone());
+        let after = expected.as_ref().unwrap_or(kept);
         let mut quick_kept = kept.clone();
         let Yard { parents, pebbles, targets } = &mut quick_kept.yard;
         quick(&inputs, fast::event(parents, pebbles, targets, &mut quick_kept.demands, event, node), &accepted)?;
-        quick(&inputs, Ok(&quick_kept), &Ok(&after))?;
+        quick(&inputs, Ok(&quick_kept), &Ok(after))?;
         self.same(&inputs, got, accepted, lent.wrong(&after.yard).or_else(|| list.wrong("demands", &after.demands)))?;
-        Ok(after)
+        Ok(expected)
     }
 
     /// The nearest pebble. Gives back what both sides answer.

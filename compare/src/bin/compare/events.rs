@@ -7,16 +7,23 @@ use unrelated::demands::{of_tree, MAX_DEMAND};
 use unrelated::event::{Event, Kept};
 use unrelated::random::Random;
 use unrelated::shapes::{self, Shape};
-use unrelated::yard::{Yard, MAX_NODES};
+use unrelated::yard::{judge, Refusal, Yard, MAX_NODES};
 
-/// An event on a tree with its own demands: refused only for its node or mark, so never with 21, and the list stays the tree's own, as worked out afresh.
+/// An event on a tree with a list of its length: accepted exactly if node and mark allow it and the list is the tree's own, and then it is the altered
+/// tree's own, as worked out afresh; refused with 23 only if it is not. Gives back what is kept afterwards.
 fn followed(caller: &Caller, kept: &Kept, event: Event, node: usize) -> Same<Kept> {
-    let after = caller.event(kept, event, node)?;
+    let answer = caller.event(kept, event, node)?;
+    let right = kept.demands == of_tree(&kept.yard);
     let due = node < kept.yard.nodes() && event.alters(&kept.yard, node);
-    if after.demands == of_tree(&after.yard) && (after != *kept) == due {
-        Ok(after)
+    let sound = match &answer {
+        Ok(after) => right && due && after.demands == of_tree(&after.yard),
+        Err(Refusal { number: 23, .. }) => !right && due,
+        Err(_) => !due,
+    };
+    if sound {
+        Ok(answer.unwrap_or_else(|_| kept.clone()))
     } else {
-        Err(format!("{kept:?}: the list was the yard's, but {} at {node} leaves {after:?}", event.name()))
+        Err(format!("{kept:?}: {} at {node} is answered {answer:?}, but the yard's own list is {:?}", event.name(), of_tree(&kept.yard)))
     }
 }
 
@@ -26,26 +33,27 @@ fn drawn(yard: &Yard, node: usize, random: &mut Random) -> Event {
     random.pick(&events)
 }
 
-/// The list with each entry changed by each of a few numbers, then in other lengths.
-fn altered(list: &[i16]) -> Vec<Vec<i16>> {
-    let n = list.len();
-    let resized = [0, n - 1, n + 1, n + 256].map(|length| (0..length).map(|at| list.get(at).copied().unwrap_or(0)).collect());
-    let changes = [1, -1, 256, -256, 257, -257, i16::MAX, -i16::MAX, i16::MIN];
-    let changed = |place: usize, change: i16| {
+/// The list with each entry changed by each of the numbers.
+fn changed(list: &[i16], changes: &[i16]) -> Vec<Vec<i16>> {
+    let change = |place: usize, change: i16| {
         let mut list = list.to_vec();
         list[place] = list[place].wrapping_add(change);
         list
     };
-    (0..n).flat_map(|place| changes.map(|change| changed(place, change))).chain(resized).collect()
+    (0..list.len()).flat_map(|place| changes.iter().map(move |&by| change(place, by))).collect()
 }
 
-/// At every node, and at two numbers that are none: the tree's own list, then all altered ones, or with 4 nodes one of them.
+/// At every node, and at two numbers that are none: the tree's own list; at nodes also with each entry one more and one less; then each changed by more, and
+/// lists of other lengths, all of them, or with 4 nodes one of them.
 pub fn every_event(caller: &Caller, thin: Thin) -> Same<u64> {
     let mut random = Random::new(14);
     let (mut number, mut cases) = (0, 0);
     for n in 1..=4 {
         for kept in shapes::every_yard(n).map(Kept::right) {
-            let lists = altered(&kept.demands);
+            let near = changed(&kept.demands, &[1, -1]);
+            let far = changed(&kept.demands, &[256, -256, 257, -257, i16::MAX, -i16::MAX, i16::MIN]);
+            let resized = [0, n - 1, n + 1, n + 256].map(|length| (0..length).map(|at| kept.demands.get(at).copied().unwrap_or(0)).collect());
+            let others: Vec<Vec<i16>> = far.into_iter().chain(resized).collect();
             let mut other = kept.clone();
             for (event, node) in Event::ALL.into_iter().flat_map(|event| (0..n + 2).map(move |node| (event, node))) {
                 number += 1;
@@ -53,33 +61,51 @@ pub fn every_event(caller: &Caller, thin: Thin) -> Same<u64> {
                     continue;
                 }
                 followed(caller, &kept, event, node)?;
-                let one = random.below(lists.len());
-                let tried = if n < 4 { &lists[..] } else { &lists[one..=one] };
+                let nearly = if node < n { &near[..] } else { &[] };
+                for list in nearly {
+                    other.demands.clone_from(list);
+                    followed(caller, &other, event, node)?;
+                }
+                let one = random.below(others.len());
+                let tried = if n < 4 { &others[..] } else { &others[one..=one] };
                 for list in tried {
                     other.demands.clone_from(list);
-                    caller.event(&other, event, node)?;
+                    caller.event(&other, event, node).map(drop)?;
                 }
-                cases += 1 + tried.len() as u64;
+                cases += (1 + nearly.len() + tried.len()) as u64;
             }
         }
     }
     Ok(cases)
 }
 
-/// Event after event, some at numbers that are no nodes, some that find their mark already so.
+/// Event after event, some at numbers that are no nodes, some that find their mark already so. At times the keeper goes on with a list from before one event
+/// or several, and after a while works it out anew.
 pub fn runs(caller: &Caller, thin: Thin) -> Same<u64> {
     let mut random = Random::new(15);
     let mut cases = 0;
     for run in 0..thin.of(240) {
         let n = if random.once_in(20) { MAX_NODES } else { shapes::size(1, MAX_NODES, &mut random) };
         let mut kept = Kept::right(shapes::yard(Shape::ALL[run as usize % Shape::ALL.len()], n, &mut random));
+        // The lists from before each accepted event.
+        let mut old = Vec::new();
         // One event more often than the others, so that totals part.
         let frequent = random.pick(&Event::ALL);
         for _ in 0..random.within(50, 600) {
+            if random.once_in(15) && !old.is_empty() {
+                let back = random.pick(&[1, 1, 2, 3, old.len()]).min(old.len());
+                kept.demands.clone_from(&old[old.len() - back]);
+            } else if random.once_in(5) {
+                kept.demands = of_tree(&kept.yard);
+            }
             let node = random.below(n);
             let event = if random.once_in(4) { frequent } else { drawn(&kept.yard, node, &mut random) };
             let node = if random.once_in(4) { damage::number(node as u8, &kept.yard, &mut random) } else { node };
-            kept = followed(caller, &kept, event, node)?;
+            let after = followed(caller, &kept, event, node)?;
+            if after != kept {
+                old.push(kept.demands);
+            }
+            kept = after;
             cases += 1;
         }
         caller.demands(&kept.yard, n)?;
@@ -116,26 +142,32 @@ pub fn to_both_ends(caller: &Caller, thin: Thin) -> Same<u64> {
     Ok(cases)
 }
 
-/// Entries at the ends of the range, beyond them and far outside, on the way to the root and off it.
-pub fn any_demands(caller: &Caller, thin: Thin) -> Same<u64> {
+/// Lists that need not be the yard's: see `damage::demands`.
+pub fn stale_lists(caller: &Caller, thin: Thin) -> Same<u64> {
     let mut random = Random::new(17);
     let cases = thin.of(120_000);
     for _ in 0..cases {
         let n = if random.once_in(60) { random.within(200, MAX_NODES) } else { shapes::size(1, 30, &mut random) };
-        let mut kept = Kept::right(shapes::yard(random.pick(&Shape::ALL), n, &mut random));
+        let yard = shapes::yard(random.pick(&Shape::ALL), n, &mut random);
         let node = random.below(n);
-        damage::demands(&mut kept, node, &mut random);
-        let event = drawn(&kept.yard, node, &mut random);
-        caller.event(&kept, event, node)?;
+        let event = drawn(&yard, node, &mut random);
+        let demands = damage::demands(&yard, event, node, &mut random);
+        followed(caller, &Kept { yard, demands }, event, node)?;
     }
     Ok(cases)
 }
 
-/// One event on a yard and a list of which nothing is known.
+/// One event on a yard and a list of which nothing is known; where the yard is a tree, the list is at times its own.
 pub fn any_lists(caller: &Caller, yard: &Yard, random: &mut Random) -> Same {
     let n = yard.nodes();
-    let length = if random.once_in(6) { (n + 2).saturating_sub(random.below(4)) } else { n };
-    let demands = (0..length).map(|_| if random.once_in(6) { damage::entry(random) } else { 0 }).collect();
+    let mut demands: Vec<i16> = if judge(yard).is_ok() && random.once_in(2) {
+        of_tree(yard)
+    } else {
+        (0..n).map(|_| if random.once_in(6) { damage::entry(random) } else { 0 }).collect()
+    };
+    if random.once_in(6) {
+        demands.resize((n + 2).saturating_sub(random.below(4)), 0);
+    }
     let node = damage::number(random.below(n.max(1)) as u8, yard, random);
     caller.event(&Kept { yard: yard.clone(), demands }, random.pick(&Event::ALL), node).map(drop)
 }

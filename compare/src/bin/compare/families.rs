@@ -1,9 +1,8 @@
 //! The cases, in families. Every family takes its random numbers from a seed of its own, so leaving cases out of one does not change another.
 
-use crate::calls::{Caller, Same, LAST_REFUSAL};
+use crate::calls::{Caller, Same};
 use crate::worked::worked;
 use crate::{distances, events, sheets};
-use std::ops::RangeInclusive;
 use unrelated::planner::Choice;
 use unrelated::random::Random;
 use unrelated::shapes::{self, Shape};
@@ -30,9 +29,9 @@ pub const FAMILIES: [(&str, Family); 27] = [
     ("plans about as long as a plan can be", long_plans),
     ("pushes of any two numbers", pushes),
     ("every event on every tree up to 4 nodes, lists right or not", events::every_event),
-    ("runs of events on a list that stays right", events::runs),
+    ("runs of events, at times with an old list", events::runs),
     ("events at every node of 256, to both ends of the range", events::to_both_ends),
-    ("events on lists that belong to no yard", events::any_demands),
+    ("events on lists that are stale, another yard's or spoilt", events::stale_lists),
     ("nearest and reach at every node of every tree up to 5 nodes", distances::every_node),
     ("nearest and reach on up to 256 nodes, about the distances met", distances::all_shapes),
     ("sheets written and read, any room", sheets::written),
@@ -42,9 +41,6 @@ pub const FAMILIES: [(&str, Family); 27] = [
     ("sheets of about 256 lines", sheets::long),
     ("empty lists with no address", no_address),
 ];
-
-/// The refusals that a full run must have met.
-pub const REFUSALS_MET: RangeInclusive<usize> = 1..=LAST_REFUSAL;
 
 /// How much of each family is tried.
 #[derive(Clone, Copy)]

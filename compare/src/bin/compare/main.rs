@@ -12,7 +12,7 @@ mod lent;
 mod sheets;
 mod worked;
 
-use calls::{watch_pages, Caller};
+use calls::{watch_pages, Caller, UNUSED_REFUSAL};
 use families::{Thin, FAMILIES};
 use lent::Placement;
 use std::process::ExitCode;
@@ -42,9 +42,13 @@ fn main() -> ExitCode {
             }
         }
     }
-    let met: Vec<String> = (1..).zip(&caller.refusals[1..]).map(|(number, met)| format!("{number}: {}", met.get())).collect();
-    println!("refusals met: {}", met.join(", "));
-    if let Some(number) = families::REFUSALS_MET.into_iter().find(|&number| thin.is_full() && caller.refusals[number].get() == 0) {
+    let met: Vec<u64> = caller.refusals.iter().map(|met| met.get()).collect();
+    println!("refusals met: {}", (1..met.len()).map(|number| format!("{number}: {}", met[number])).collect::<Vec<_>>().join(", "));
+    if met[UNUSED_REFUSAL] > 0 {
+        println!("refusal {UNUSED_REFUSAL} was met");
+        return ExitCode::FAILURE;
+    }
+    if let Some(number) = (1..met.len()).find(|&number| thin.is_full() && number != UNUSED_REFUSAL && met[number] == 0) {
         println!("refusal {number} was never met: the families do not do what they are for");
         return ExitCode::FAILURE;
     }

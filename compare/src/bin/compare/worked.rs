@@ -191,7 +191,7 @@ pub fn worked(caller: &Caller) -> Same<u64> {
     Ok(w.cases)
 }
 
-/// Request 2.5 on yard A, of which node 1 has the children 3 and 4.
+/// Requests 2.5 and 2.8 on yard A, of which node 1 has the children 3 and 4.
 fn events_on_a(w: &mut Worked, a: &Yard) -> Same {
     use Event::{PebbleArrives, PebbleLeaves, TargetCleared, TargetSet};
     let kept = |yard: &Yard, demands: &[i16]| Kept { yard: yard.clone(), demands: demands.to_vec() };
@@ -208,41 +208,53 @@ fn events_on_a(w: &mut Worked, a: &Yard) -> Same {
     for (event, node) in [(PebbleArrives, 1), (PebbleLeaves, 4), (TargetSet, 2), (TargetCleared, 0)] {
         w.event("A, refusal 20", &right, event, node, refuse(20, 0))?;
     }
-    // Each refusal before the next: a circle, a list too long, a node outside, a mark already so, an entry outside.
+    // Each refusal before the next: a circle, a list too long, a node outside, a mark already so, an entry that is not the yard's.
     let circle = yard(&[0, 0, 0, 4, 3], &a.pebbles, &a.targets);
     w.event("A, 6 before 2", &kept(&circle, &[0, -1, 1, -1, 1, 999]), PebbleArrives, 5, refuse(6, 3))?;
     w.event("A, 2 before 19", &kept(a, &[0, -1, 1, -1, 1, 999]), PebbleArrives, 5, refuse(2, 0))?;
     // As many entries as nodes once the high bytes are lost.
     w.event("A, 2 of a long list", &kept(a, &[0; 65_541]), PebbleArrives, 4, refuse(2, 0))?;
-    w.event("A, 19 before 21", &kept(a, &[0, -1, 1, -1, 999]), PebbleArrives, 5, refuse(19, 0))?;
-    w.event("A, 20 before 21", &kept(a, &[0, -1, 1, -1, 999]), PebbleArrives, 3, refuse(20, 0))?;
-    // A pebble arriving at 4 lowers entries 4, 1 and 0. The others only have to be inside.
+    w.event("A, 19 before 23", &kept(a, &[0, -1, 1, -1, 999]), PebbleArrives, 5, refuse(19, 0))?;
+    w.event("A, 20 before 23", &kept(a, &[0, -1, 1, -1, 999]), PebbleArrives, 3, refuse(20, 0))?;
+    // A pebble arriving at 4 lowers entries 4, 1 and 0, but each entry has to be the yard's, and the lowest that is not is told.
     for (list, place) in [
-        ([0, -1, 1, -1, 999], 4),
-        ([0, -1, -257, -1, 1], 2),
-        ([0, -256, 1, -1, 1], 1),
-        ([0, 257, 1, -1, 1], 1),
+        ([0, -1, 1, -1, 2], 4),
+        ([0, -1, 1, 0, 1], 3),
+        ([0, -1, 0, -1, 1], 2),
+        ([0, 0, 1, -1, 1], 1),
+        ([-1, -1, 1, -1, 1], 0),
+        ([0, -1, 1, 1, -1], 3),
         ([0, -1, 257, -1, -256], 2),
-        ([-256, 300, 257, -1, 1], 0),
+        ([0, -1, 1, i16::MIN, i16::MAX], 3),
+        ([0; 5], 1),
+        // That of the yard after the event.
+        ([-1, -2, 1, -1, 0], 0),
     ] {
-        w.event("A, refusal 21", &kept(a, &list), PebbleArrives, 4, refuse(21, place))?;
+        w.event("A, refusal 23", &kept(a, &list), PebbleArrives, 4, refuse(23, place))?;
     }
-    // From a list that is not the yard's the call goes on too.
-    let ends = kept(&pebbles(&[0, 1, 0, 1, 1]), &[255, -256, -256, 256, -256]);
-    w.event("A, at the ends", &kept(a, &[256, -255, -256, 256, -255]), PebbleArrives, 4, Ok(ends))
+    // After that event A's own list is old: each further event is refused, the one that would undo it too.
+    let held = pebbles(&[0, 1, 0, 1, 1]);
+    for (event, node) in [(PebbleLeaves, 4), (TargetSet, 0), (TargetCleared, 2)] {
+        w.event("A, an old list", &kept(&held, &[0, -1, 1, -1, 1]), event, node, refuse(23, 0))?;
+    }
+    w.event("A, a list worked out anew", &kept(&held, &[-1, -2, 1, -1, 0]), PebbleLeaves, 4, Ok(right))
 }
 
 /// An empty line of 256 nodes, its root the first or the last of them: an event at the other end alters every entry.
 fn longest_way(w: &mut Worked) -> Same {
     let first = Vec::from_iter((0..=255u8).map(|node| node.saturating_sub(1)));
     let last = Vec::from_iter((0..=255u8).map(|node| node.saturating_add(1)));
-    for (parents, root, end) in [(first, 0, 255), (last, 255, 0)] {
-        let mut kept = Kept { yard: yard(&parents, &[0; 256], &[0; 256]), demands: vec![0; 256] };
+    for (parents, end) in [(first, 255), (last, 0)] {
+        let kept = Kept { yard: yard(&parents, &[0; 256], &[0; 256]), demands: vec![0; 256] };
         let mut after = Kept { demands: vec![1; 256], ..kept.clone() };
         after.yard.targets[end] = 1;
-        w.event("the longest way", &kept, Event::TargetSet, end, Ok(after))?;
-        kept.demands[root] = 256;
-        w.event("the longest way, to an end of the range", &kept, Event::TargetSet, end, refuse(21, root))?;
+        w.event("the longest way", &kept, Event::TargetSet, end, Ok(after.clone()))?;
+        w.event("the longest way back", &after, Event::TargetCleared, end, Ok(kept.clone()))?;
+        for place in [0, 127, 128, 255] {
+            let mut stale = kept.clone();
+            stale.demands[place..].fill(1);
+            w.event("the longest way with an old list", &stale, Event::TargetSet, end, refuse(23, place))?;
+        }
     }
     Ok(())
 }

@@ -1,4 +1,5 @@
 -- What a call answers and what a list lent to it then holds (demand 1), and the answer as one number for C ('What the yard is').
+use mathlib.Core.Logic.{_≢_}
 use mathlib.Core.Bool.{cond}
 use mathlib.Core.List.{List, [], _∷_, _++_}
 use mathlib.Core.Option.{Option, none, some}
@@ -55,10 +56,10 @@ abbrev pub noted : {A : Type 0} → Answer A → (A → ℕ) → ℕ → ℕ
 noted (answered a) value old = value a
 noted (refused f) value old = old
 
--- an answer that one number tells: a value below 1,000,000, or a refusal of the table with such a place. So all fits 32 bits, and value or number
+-- an answer that one number tells: a value below 1,000,000, or a refusal of the table, which has no row 21 (request 2.8), with such a place. So all fits 32 bits, and value or number
 -- and place can be read off again (`tells`)
 abbrev pub InTable : ℕ → Type 0
-InTable n = (0 < n) × (n ≤ rowCount)
+InTable n = (0 < n) × (n ≤ rowCount) × (n ≢ 21)
 
 pub record Row (f : Fault) : Type 0 where
   pub numbered : InTable (f .number)
@@ -70,4 +71,4 @@ Small (refused f) = Row f
 
 -- the version of the calls for C: raised whenever one is added, or gets further arguments or another meaning under its name
 abbrev pub version : ℕ
-version = 6
+version = 7

@@ -1,15 +1,16 @@
--- The event call (request 2.5): a pebble arrives or leaves, a target is set or cleared, and the demand list is brought up to date.
+-- The event call (requests 2.5 and 2.8): a pebble arrives or leaves, a target is set or cleared, and the demand list, which must be the yard's, is brought
+-- up to date.
 use mathlib.Core.Path.{_≡_}
-use mathlib.Core.Bool.{Bool, not, cond, _&&_}
+use mathlib.Core.Bool.{Bool, true, not, cond}
 use mathlib.Core.List.{List, [], _∷_, _++_, map}
 use mathlib.Core.Option.{Option}
 use Prim.Native.Nat.{ℕ, _+_, _-_}
 use lib.ListN.{length, getD, set}
-use lib.Dec.{leb, ltb, eqb}
-use lib.IntN.{ℤ, natAbs, sucℤ, predℤ}
+use lib.Dec.{ltb, eqb}
+use lib.IntN.{ℤ, pos, negsuc, sucℤ, predℤ}
 use Rattle.model.specs.declared.Event.{Event}
 use Rattle.model.specs.declared.Event.the-variants.{PebbleArrives, PebbleLeaves, TargetSet, TargetCleared}
-use Rattle.model.specs.Yard.{Yard, yardOf, size, maxDemand, pebble, target, capacity, below, inside, entry}
+use Rattle.model.specs.Yard.{Yard, yardOf, size, pebble, target, capacity, below, inside, demand, entry}
 use Rattle.model.specs.Judge.{Fault, fault, firstOf, unless, atLowest, judge, nodeFault}
 use Rattle.model.specs.Calls.Answers.{lent, range}
 use Rattle.model.specs.Calls.Demands.{demandsOf}
@@ -61,22 +62,26 @@ possible y TargetCleared v = ltb 0 (target y v)
 abbrev pub alreadyFault : Yard → Event → ℕ → Option Fault
 alreadyFault y e v = unless (possible y e v) (fault 20 0)
 
--- 21, an entry is outside −256 to 256, or would be then; at the lowest such node
-abbrev pub inRange : ℤ → Bool
-inRange k = leb (natAbs k) maxDemand
+-- two signed numbers differ
+abbrev pub differ : ℤ → ℤ → Bool
+differ (pos a) (pos b) = not (eqb a b)
+differ (pos a) (negsuc b) = true
+differ (negsuc a) (pos b) = true
+differ (negsuc a) (negsuc b) = not (eqb a b)
 
-abbrev pub outside : Yard → List ℤ → Event → ℕ → ℕ → Bool
-outside y list e v u = not ((inRange (entry list u)) && (inRange (entryAfter y e v list u)))
+-- 23 (request 2.8), an entry of the list is not the demand of its node; at the lowest such node
+abbrev pub stale : Yard → List ℤ → ℕ → Bool
+stale y list u = differ (entry list u) (demand y u)
 
-abbrev pub rangeFault : Yard → List ℤ → Event → ℕ → Option Fault
-rangeFault y list e v = atLowest 21 (below (size y) (outside y list e v))
+abbrev pub staleFault : Yard → List ℤ → Option Fault
+staleFault y list = atLowest 23 (below (size y) (stale y list))
 
--- the tests in their order: 1 to 6, 2 for a demand list of another length than n, 19, 20; then 21
+-- the tests in their order: 1 to 6, 2 for a demand list of another length than n, 19, 20; then 23, where request 2.5 had 21
 abbrev pub readyTests : Yard → List ℤ → Event → ℕ → List (Option Fault)
 readyTests y list e v = judge y ∷ unless (eqb (length list) (size y)) (fault 2 0) ∷ nodeFault y v ∷ alreadyFault y e v ∷ []
 
 abbrev pub eventTests : Yard → List ℤ → Event → ℕ → List (Option Fault)
-eventTests y list e v = readyTests y list e v ++ (rangeFault y list e v ∷ [])
+eventTests y list e v = readyTests y list e v ++ (staleFault y list ∷ [])
 
 unfoldable pub eventFault : Yard → List ℤ → Event → ℕ → Option Fault
 eventFault y list e v = firstOf (eventTests y list e v)

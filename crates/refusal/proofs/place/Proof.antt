@@ -70,11 +70,11 @@ enum-told-6 c = search needs
 enum-told-7 : tie.Need-enum-told-7
 enum-told-7 c = search needs
 
-enum-known-r-14 : tie.Need-enum-known-r-14
-enum-known-r-14 c = search needs
-
 enum-told-8 : tie.Need-enum-told-8
 enum-told-8 c = search needs
+
+enum-known-r-14 : tie.Need-enum-known-r-14
+enum-known-r-14 c = search needs
 
 returns : tie.Need-returns
 returns c = sym (ap told (c .before .r .given .1))
@@ -137,10 +137,10 @@ returns-20 : tie.Need-returns-20
 returns-20 c = sym (ap told (c .enum-told7 .given .1))
 
 returns-21 : tie.Need-returns-21
-returns-21 c = sym (ap told (c .before .r14 .given .1))
+returns-21 c = sym (ap told (c .enum-told8 .given .1))
 
 returns-22 : tie.Need-returns-22
-returns-22 c = sym (ap told (c .enum-told8 .given .1))
+returns-22 c = sym (ap told (c .before .r14 .given .1))
 
 pub place-spec : {M : Type 1} → statement M
 place-spec =
@@ -166,8 +166,8 @@ place-spec =
     enum-told-5
     enum-told-6
     enum-told-7
-    enum-known-r-14
     enum-told-8
+    enum-known-r-14
     returns
     returns-2
     returns-3

@@ -57,7 +57,7 @@ place-requires c κs = (omega (arith, facts _ (tree (c .before)) .few, facts _ (
 
 -- the state
 kept : (c : tie.After-place) → Kept (yard (start (c .before .before))) (c .place .last .1 .0)
-kept c = let e = c .before .before in placed-kept _ (tree e) _ _ (e .before .before .before .matched-demands .ensures .1 (accepted e)) (c .place .ensures)
+kept c = let e = c .before .before in placed-kept _ (tree e) _ _ (e .before .before .before .matched-demands .ensures .1 (tree e)) (c .place .ensures)
 
 array-share-prefix-s : tie.Need-array-share-prefix-s
 array-share-prefix-s c = let p = c .before in front-long _ (tree (p .before .before)) _ (kept p)
