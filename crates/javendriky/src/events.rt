@@ -25,7 +25,7 @@ fn happened(
     done(event_at(parents, pebbles, targets, demands, event, node))
 }
 
-// A pebble arrives at a node. Refusals 1 to 6, 2 for a demand list of another length, 19 to 21, or 0.
+// A pebble arrives at a node. Refusals 1 to 6, 2 for a demand list of another length, 19, 20 and 23, or 0.
 #[no_mangle]
 pub extern "C" fn javendriky_pebble_arrives(
     parents: &[u8],
@@ -49,7 +49,7 @@ pub extern "C" fn javendriky_pebble_arrives(
     )
 }
 
-// A pebble leaves a node. Refusals 1 to 6, 2 for a demand list of another length, 19 to 21, or 0.
+// A pebble leaves a node. Refusals 1 to 6, 2 for a demand list of another length, 19, 20 and 23, or 0.
 #[no_mangle]
 pub extern "C" fn javendriky_pebble_leaves(
     parents: &[u8],
@@ -73,7 +73,7 @@ pub extern "C" fn javendriky_pebble_leaves(
     )
 }
 
-// A target is set at a node. Refusals 1 to 6, 2 for a demand list of another length, 19 to 21, or 0.
+// A target is set at a node. Refusals 1 to 6, 2 for a demand list of another length, 19, 20 and 23, or 0.
 #[no_mangle]
 pub extern "C" fn javendriky_target_set(
     parents: &[u8],
@@ -90,7 +90,7 @@ pub extern "C" fn javendriky_target_set(
     happened(parents, pebbles, targets, demands, Event::TargetSet, node)
 }
 
-// The target of a node is cleared. Refusals 1 to 6, 2 for a demand list of another length, 19 to 21, or 0.
+// The target of a node is cleared. Refusals 1 to 6, 2 for a demand list of another length, 19, 20 and 23, or 0.
 #[no_mangle]
 pub extern "C" fn javendriky_target_cleared(
     parents: &[u8],
