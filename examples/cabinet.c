@@ -1,7 +1,7 @@
-/* A pusher cabinet in small: reads a yard sheet from standard input, plans it, obeys the plan move by move, and has plan and result judged. It prints
- * what the move program prints: each move as it is made, then how often each edge was crossed. A refused yard is printed as its refusal and place, with
- * status 1 and a sentence on standard error; status 2 says that the library is not the header's or did not keep to it, or that standard input could not
- * be read. */
+/* A pusher cabinet in small: reads a yard sheet from standard input, plans it, has the plan judged, and drives the yard through the registers, move by move;
+ * halfway a car does not arrive, and its push is repeated. It prints what the move program prints: each move as it is made, then how often each edge was
+ * crossed. A refused yard is printed as its refusal and place, with status 1 and a sentence on standard error; status 2 says that the library is not the
+ * header's or did not keep to it, or that standard input could not be read. */
 #include <stdio.h>
 #include <stdlib.h>
 #include <string.h>
@@ -10,7 +10,8 @@
 
 static uint8_t sheet[4200]; /* more than JAVENDRIKY_MAX_SHEET_BYTES: the rest of a longer input changes no answer */
 static uint8_t parents[JAVENDRIKY_MAX_NODES], pebbles[JAVENDRIKY_MAX_NODES], targets[JAVENDRIKY_MAX_NODES];
-static uint8_t start[JAVENDRIKY_MAX_NODES];
+static uint8_t start[JAVENDRIKY_MAX_NODES], before[JAVENDRIKY_MAX_NODES];
+static uint8_t registers[JAVENDRIKY_BLOCK_BYTES];
 static uint8_t plan[JAVENDRIKY_LONGEST_PLAN_BYTES], again[JAVENDRIKY_LONGEST_PLAN_BYTES];
 static int16_t demands[JAVENDRIKY_MAX_NODES]; /* at the start */
 static unsigned up[JAVENDRIKY_MAX_NODES], down[JAVENDRIKY_MAX_NODES]; /* crossings of the edge above each node, towards the root and away from it */
@@ -34,15 +35,56 @@ static void expect(const char *what, int holds)
     }
 }
 
-/* One move: obeyed, printed, and counted at the edge that it crosses. */
-static void obey(uint32_t n, uint8_t from, uint8_t to)
+/* One step of the cabinet: whether the line is raised. */
+static int step(uint32_t n, uint32_t moves, uint8_t command, uint8_t failed)
 {
-    expect("each push is legal", javendriky_push(parents, n, pebbles, n, targets, n, from, to) == 0);
+    registers[JAVENDRIKY_REGISTER_COMMAND] = command;
+    return accepted(javendriky_step(parents, n, pebbles, n, targets, n, plan, 2 * moves, registers, sizeof registers, failed)) == 1;
+}
+
+static int is(uint8_t status, uint8_t flags)
+{
+    return registers[JAVENDRIKY_REGISTER_STATUS] == status && registers[JAVENDRIKY_REGISTER_FLAGS] == flags;
+}
+
+/* A car does not arrive: the step stalls, which raises the line and leaves all cars; once it is acknowledged the same move is next. */
+static void stall(uint32_t n, uint32_t moves)
+{
+    uint32_t left = javendriky_moves_left(registers);
+    memcpy(before, pebbles, n);
+    expect("a stall raises the line", step(n, moves, JAVENDRIKY_COMMAND_NONE, 1) && is(JAVENDRIKY_STATUS_STALLED, JAVENDRIKY_FLAG_STALLED));
+    expect("a stalled step changes nothing", step(n, moves, JAVENDRIKY_COMMAND_NONE, 0) && is(JAVENDRIKY_STATUS_STALLED, JAVENDRIKY_FLAG_STALLED));
+    expect("acknowledged, it runs", !step(n, moves, JAVENDRIKY_COMMAND_ACKNOWLEDGE, 0) && is(JAVENDRIKY_STATUS_RUNNING, 0));
+    expect("no car has moved", memcmp(before, pebbles, n) == 0 && javendriky_moves_left(registers) == left);
+}
+
+/* One move: obeyed by a step, which shows it; printed, and counted at the edge that it crosses. */
+static int obey(uint32_t n, uint32_t moves)
+{
+    int raised = step(n, moves, JAVENDRIKY_COMMAND_NONE, 0);
+    uint8_t from = registers[JAVENDRIKY_REGISTER_FROM], to = registers[JAVENDRIKY_REGISTER_TO];
     printf("%u %u\n", (unsigned)from, (unsigned)to);
     if (parents[from] == to)
         up[from]++;
     else
         down[to]++;
+    return raised;
+}
+
+/* The whole run: the line is raised at its end, and not before, as the mask lets both flags through. */
+static void drive(uint32_t n, uint32_t moves)
+{
+    uint32_t i;
+    int raised;
+    registers[JAVENDRIKY_REGISTER_MASK] = JAVENDRIKY_FLAG_FINISHED | JAVENDRIKY_FLAG_STALLED;
+    raised = step(n, moves, JAVENDRIKY_COMMAND_START, 0);
+    for (i = 0; i < moves; i++) {
+        expect("it runs until the last move", !raised && is(JAVENDRIKY_STATUS_RUNNING, 0) && javendriky_moves_left(registers) == moves - i);
+        if (i == moves / 2)
+            stall(n, moves);
+        raised = obey(n, moves);
+    }
+    expect("it is idle and says so", raised && is(JAVENDRIKY_STATUS_IDLE, JAVENDRIKY_FLAG_FINISHED) && javendriky_moves_left(registers) == 0);
 }
 
 /* The crossing report. An edge ('track' there) has the number of its lower node, so the root has none. */
@@ -84,7 +126,7 @@ static void same_version(void)
 int main(void)
 {
     size_t bytes;
-    uint32_t n, moves, needed, i;
+    uint32_t n, moves, needed;
 
     same_version();
     bytes = fread(sheet, 1, sizeof sheet, stdin);
@@ -101,8 +143,7 @@ int main(void)
 
     memcpy(start, pebbles, n);
     puts("from to");
-    for (i = 0; i < moves; i++)
-        obey(n, plan[2 * i], plan[2 * i + 1]);
+    drive(n, moves);
     report(n, moves);
     expect("the pebbles are on the targets", memcmp(pebbles, targets, n) == 0);
     expect("there is nothing left to do", javendriky_plan(parents, n, pebbles, n, targets, n, plan, 0) == 0);

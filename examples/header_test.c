@@ -9,7 +9,7 @@ static const char *text(uint32_t number, uint32_t place) { return javendriky_ref
 
 int main(void)
 {
-    const uint32_t last = JAVENDRIKY_STALE_DEMANDS, unused = 21;
+    const uint32_t last = JAVENDRIKY_NOT_IDLE, unused = 21;
     uint32_t a, b;
 
     for (a = 1; a <= last; a++)

@@ -25,7 +25,7 @@
  *
  * Answers. Each call answers one number a:
  *   a < 1,000,000     accepted: a is the value, or 0 where the call has none
- *   a >= 1,000,000    refused: JAVENDRIKY_REFUSAL(a) is the refusal's number, 1 to 22, and JAVENDRIKY_PLACE(a) its place
+ *   a >= 1,000,000    refused: JAVENDRIKY_REFUSAL(a) is the refusal's number, 1 to 25, and JAVENDRIKY_PLACE(a) its place
  * A refused call alters nothing that was lent to it. Every content of the lists is allowed: what is wrong with them is refused. Where several
  * refusals are due, the first in the order that the call gives is answered. */
 #ifndef JAVENDRIKY_H
@@ -40,7 +40,7 @@ extern "C" {
 
 /* The version of these calls, which the library answers too. It is raised whenever a call is added, or gets further arguments or another
  * meaning under the same name, which requests to come will do: a program built with another header would still link. So compare the two once, before any other call. */
-#define JAVENDRIKY_VERSION 7
+#define JAVENDRIKY_VERSION 8
 
 /* The most nodes that a yard can have. */
 #define JAVENDRIKY_MAX_NODES 256
@@ -86,6 +86,30 @@ extern "C" {
 #define JAVENDRIKY_ALREADY_SO 20     /* an event finds its mark already so: a pebble where one arrives, none where one leaves, targets likewise; place 0 */
 #define JAVENDRIKY_NO_PEBBLE 22      /* the yard holds no pebble; place 0 */
 #define JAVENDRIKY_STALE_DEMANDS 23  /* an entry of the demand list handed to an event is not the demand of its node; the lowest such node */
+#define JAVENDRIKY_WRONG_REGISTER 24 /* a register holds what it cannot; the lowest such register, 4 for the moves left */
+#define JAVENDRIKY_NOT_IDLE 25       /* a start while the cabinet is running or stalled; place 0 */
+
+/* The pusher cabinet's registers: a block of bytes, by their places; the commands, the states, and the bits of flags and mask. */
+#define JAVENDRIKY_BLOCK_BYTES 8
+#define JAVENDRIKY_REGISTER_COMMAND 0
+#define JAVENDRIKY_REGISTER_STATUS 1
+#define JAVENDRIKY_REGISTER_FROM 2
+#define JAVENDRIKY_REGISTER_TO 3
+#define JAVENDRIKY_REGISTER_LEFT 4   /* moves left, in two bytes, the low one first: see javendriky_moves_left */
+#define JAVENDRIKY_REGISTER_MASK 6
+#define JAVENDRIKY_REGISTER_FLAGS 7
+
+#define JAVENDRIKY_COMMAND_NONE 0
+#define JAVENDRIKY_COMMAND_START 1
+#define JAVENDRIKY_COMMAND_STOP 2
+#define JAVENDRIKY_COMMAND_ACKNOWLEDGE 3
+
+#define JAVENDRIKY_STATUS_IDLE 0
+#define JAVENDRIKY_STATUS_RUNNING 1
+#define JAVENDRIKY_STATUS_STALLED 2
+
+#define JAVENDRIKY_FLAG_FINISHED 1
+#define JAVENDRIKY_FLAG_STALLED 2
 
 /* Refusal text: a refusal as a sentence, without its full stop, that says what is wrong and what to mend. It is in the words of those who mend it
  * (berth for node, car for pebble). 'The named berth' (line, move) is the one whose number is the place, so print the place beside it; moves count from 0.
@@ -123,6 +147,8 @@ static inline const char *javendriky_refusal_text(uint32_t answer)
     case 20: return "the berth already is as the event would make it: tell an arrival or a set target only where there is none, and the others only where there is one";
     case 22: return "the yard holds no car: ask for the nearest one where there is one";
     case 23: return "the account of the named berth is not this yard's, so the account list is an old one or another yard's: work it out anew before the next event";
+    case 24: return "the named register of the cabinet holds what it cannot, or the plan has fewer moves than are left: write the register anew, or hand in the right plan";
+    case 25: return "the cabinet is not idle: let it finish, or stop it, before it is started";
     default: return "this refusal has no sentence in the header that the program was built with: build it with the library's own header";
     }
 }
@@ -249,6 +275,27 @@ uint32_t javendriky_trial(const uint8_t *parents, size_t parents_len,
                           const uint8_t *targets, size_t targets_len,
                           const uint8_t *plan, size_t plan_len,
                           uint16_t budget);
+
+/* Step: one step of the pusher cabinet, which is driven through its registers: a block of exactly JAVENDRIKY_BLOCK_BYTES bytes. A step takes the command in
+ * it (start, stop, acknowledge) out of the block; or, running without one, it makes the plan's next move, the first of those left, shows it in from and to and
+ * leaves one less; after the last it is idle, with the finished flag. With `failed` other than 0, which tells that the car of that move does not arrive, it makes
+ * no move then: it is stalled, with the stalled flag, until it is acknowledged, which takes both flags back; the same move is next then.
+ * Hand in yard, plan and block as the last step left them. Answers 1 if the line is up, as some bit is set both in flags and in mask, else 0. Writes `registers`,
+ * and in `pebbles` the pebble of a move that it makes.
+ * Refused with 1 to 6, then with 2 if `registers` has another length, 24, 25 for a start while not idle; then a start as javendriky_check is, and a step that
+ * obeys (told of a failure or not) with 9, then with 10 to 13, the place being the move's number in the plan; then both lists are as before. */
+uint32_t javendriky_step(const uint8_t *parents, size_t parents_len,
+                         uint8_t *pebbles, size_t pebbles_len,
+                         const uint8_t *targets, size_t targets_len,
+                         const uint8_t *plan, size_t plan_len,
+                         uint8_t *registers, size_t registers_len,
+                         uint8_t failed);
+
+/* The moves left that a block of registers holds. */
+static inline uint32_t javendriky_moves_left(const uint8_t *registers)
+{
+    return registers[JAVENDRIKY_REGISTER_LEFT] + 256u * registers[JAVENDRIKY_REGISTER_LEFT + 1];
+}
 
 /* Read sheet: what a yard sheet says. A sheet is the line 'berth parent car target', then a line for each node in rising number from 0: the node,
  * its parent, its pebble mark and its target mark, in decimal from 0 to 255 without leading zeros, one space between; every line ends with a line feed.

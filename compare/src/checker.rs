@@ -53,7 +53,8 @@ pub fn trial(yard: &Yard, plan: &[u8], budget: u16) -> Answer<(Tried, Vec<u8>)> 
     Ok((Tried { taken: taken as u32, budget_ended: taken < moves }, pebbles))
 }
 
-fn judge_plan_length(plan: &[u8]) -> Answer<()> {
+/// Refusal 9.
+pub fn judge_plan_length(plan: &[u8]) -> Answer<()> {
     if plan.len() % 2 == 1 || plan.len() > MAX_PLAN_BYTES {
         return refuse(9, 0);
     }

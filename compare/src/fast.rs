@@ -1,11 +1,12 @@
-//! Test, bound, displaced, events, nearest, reach, planner, checker and trial once more, written for speed: no list is asked for from the heap, each
-//! child names its next sibling, and each node keeps whose turn it is among its children. The benchmark sets the library beside these.
+//! Test, bound, displaced, events, nearest, reach, planner, checker, trial and the cabinet's step once more, written for speed: no list is asked for from the
+//! heap, each child names its next sibling, and each node keeps whose turn it is among its children. The benchmark sets the library beside these.
 
+use crate::cabinet::{command, flag, status, BLOCK_BYTES};
 use crate::checker::{Tried, MAX_PLAN_BYTES};
 use crate::distance::Nearest;
 use crate::event::Event;
 use crate::figures::Length;
-use crate::yard::{refuse, Answer, Refusal, MAX_NODES};
+use crate::yard::{refuse, Answer, MAX_NODES};
 use std::mem::swap;
 
 /// Refusals 1 to 6.
@@ -121,16 +122,7 @@ pub fn plan_by_ways(parents: &[u8], pebbles: &[u8], targets: &[u8], list: &mut [
 /// Refusals 1 to 7, 9, 10 to 13 for each move, 14.
 pub fn check(parents: &[u8], pebbles: &[u8], targets: &[u8], plan: &[u8]) -> Answer<()> {
     test_yard(parents, pebbles, targets)?;
-    let total = |marks: &[u8]| -> u32 { marks.iter().map(|&mark| u32::from(mark)).sum() };
-    if total(pebbles) != total(targets) {
-        return refuse(7, 0);
-    }
-    let pebbles = &mut copy(pebbles)[..pebbles.len()];
-    obey(parents, pebbles, whole_moves(plan)?)?;
-    match pebbles.iter().zip(targets).position(|(&pebble, &target)| target > pebble) {
-        Some(node) => refuse(14, node),
-        None => Ok(()),
-    }
+    check_on_tree(parents, pebbles, targets, plan)
 }
 
 /// Refusals 1 to 6, 9, 10 to 13 for each move obeyed; writes the pebbles when all are accepted.
@@ -143,6 +135,21 @@ pub fn trial(parents: &[u8], pebbles: &mut [u8], targets: &[u8], plan: &[u8], bu
     obey(parents, after, &plan[..2 * taken])?;
     pebbles.copy_from_slice(after);
     Ok(Tried { taken: taken as u32, budget_ended: taken < moves })
+}
+
+/// Refusals 1 to 6, 2 for the block, 24, 25, then those of a start or of the move that is due; alters pebbles and registers, and answers 1 if the line is
+/// raised.
+pub fn step(parents: &[u8], pebbles: &mut [u8], targets: &[u8], plan: &[u8], registers: &mut [u8], failed: u8) -> Answer<u32> {
+    test_yard(parents, pebbles, targets)?;
+    step_on_tree(parents, pebbles, targets, plan, registers, failed)
+}
+
+/// The same, with the yard tested by climbs.
+pub fn step_by_climbs(parents: &[u8], pebbles: &mut [u8], targets: &[u8], plan: &[u8], registers: &mut [u8], failed: u8) -> Answer<u32> {
+    if !all_reach_root(parents, pebbles, targets) {
+        return refusal_due(parents, pebbles, targets);
+    }
+    step_on_tree(parents, pebbles, targets, plan, registers, failed)
 }
 
 /// Tests the yard, and on the way calls `add` with each node and its parent, children first. Answers the root.
@@ -334,6 +341,42 @@ fn distances(parents: &[u8], pebbles: &[u8], targets: &[u8], node: usize) -> Ans
         }
     }
     Ok(distances)
+}
+
+/// Whether none of refusals 1 to 6 is due. A climb ends at the first node that is known to reach the root, and then all that it passed are known to; where
+/// there is a second root or a circle, some climb comes to no end.
+#[inline(always)]
+fn all_reach_root(parents: &[u8], pebbles: &[u8], targets: &[u8]) -> bool {
+    if !passes_1_to_4(parents, pebbles, targets) {
+        return false;
+    }
+    let n = parents.len();
+    let parent_of = copy(parents);
+    let Some(root) = (0..n).find(|&node| usize::from(parent_of[node]) == node) else {
+        return false;
+    };
+    let mut known = [false; MAX_NODES];
+    known[root] = true;
+    for node in 0..n {
+        let parent = usize::from(parent_of[node]);
+        if known[parent] {
+            known[node] = true;
+            continue;
+        }
+        let (mut end, mut edges) = (parent, 1);
+        while !known[end] {
+            if edges == n {
+                return false;
+            }
+            (end, edges) = (usize::from(parent_of[end]), edges + 1);
+        }
+        let mut at = node;
+        while at != end {
+            known[at] = true;
+            at = usize::from(parent_of[at]);
+        }
+    }
+    true
 }
 
 /// Which of refusals 1 to 6 it is, where one is due.
@@ -662,24 +705,112 @@ fn whole_moves(plan: &[u8]) -> Answer<&[u8]> {
     Ok(plan)
 }
 
+/// What follows refusals 1 to 6 in a step.
+#[inline(always)]
+fn step_on_tree(parents: &[u8], pebbles: &mut [u8], targets: &[u8], plan: &[u8], registers: &mut [u8], failed: u8) -> Answer<u32> {
+    let Ok(block) = <&mut [u8; BLOCK_BYTES]>::try_from(registers) else {
+        return refuse(2, 0);
+    };
+    let [command, status, from, to, left @ .., mask, flags] = block;
+    let (moves, moves_left) = (plan.len() / 2, usize::from(u16::from_le_bytes(*left)));
+    if *command > command::ACKNOWLEDGE {
+        return refuse(24, 0);
+    }
+    if *status > status::STALLED {
+        return refuse(24, 1);
+    }
+    if moves_left > moves || (moves_left == 0 && *status != status::IDLE) {
+        return refuse(24, 4);
+    }
+    if *flags > flag::BOTH {
+        return refuse(24, 7);
+    }
+    match *command {
+        command::NONE if *status == status::RUNNING => {
+            let (plan, place) = (whole_moves(plan)?, moves - moves_left);
+            let ends = [plan[2 * place], plan[2 * place + 1]];
+            if let Some(number) = unfit(parents, pebbles, ends) {
+                return refuse(number, place);
+            }
+            if failed != 0 {
+                *status = status::STALLED;
+                *flags |= flag::STALLED;
+            } else {
+                pebbles[usize::from(ends[0])] = 0;
+                pebbles[usize::from(ends[1])] = 1;
+                [*from, *to] = ends;
+                *left = (moves_left as u16 - 1).to_le_bytes();
+                if moves_left == 1 {
+                    *status = status::IDLE;
+                    *flags |= flag::FINISHED;
+                }
+            }
+        }
+        command::NONE => {}
+        command::START if *status != status::IDLE => return refuse(25, 0),
+        command::START => {
+            check_on_tree(parents, pebbles, targets, plan)?;
+            *left = (moves as u16).to_le_bytes();
+            if moves > 0 {
+                *status = status::RUNNING;
+            } else {
+                *flags |= flag::FINISHED;
+            }
+        }
+        command::STOP => {
+            *status = status::IDLE;
+            *left = [0; 2];
+        }
+        _ => {
+            // Acknowledge: stalled becomes running, idle and running stay.
+            *status = (*status).min(status::RUNNING);
+            *flags = 0;
+        }
+    }
+    *command = command::NONE;
+    Ok(u32::from(*flags & *mask != 0))
+}
+
+/// Refusals 7, 9, 10 to 13 for each move, 14.
+fn check_on_tree(parents: &[u8], pebbles: &[u8], targets: &[u8], plan: &[u8]) -> Answer<()> {
+    let total = |marks: &[u8]| -> u32 { marks.iter().map(|&mark| u32::from(mark)).sum() };
+    if total(pebbles) != total(targets) {
+        return refuse(7, 0);
+    }
+    let pebbles = &mut copy(pebbles)[..pebbles.len()];
+    obey(parents, pebbles, whole_moves(plan)?)?;
+    match pebbles.iter().zip(targets).position(|(&pebble, &target)| target > pebble) {
+        Some(node) => refuse(14, node),
+        None => Ok(()),
+    }
+}
+
 fn obey(parents: &[u8], pebbles: &mut [u8], plan: &[u8]) -> Answer<()> {
     for (place, ends) in plan.chunks_exact(2).enumerate() {
-        let (from, to) = (usize::from(ends[0]), usize::from(ends[1]));
-        let refused = |number| Err(Refusal { number, place: place as u32 });
-        if from >= parents.len() || to >= parents.len() {
-            return refused(10);
+        if let Some(number) = unfit(parents, pebbles, [ends[0], ends[1]]) {
+            return refuse(number, place);
         }
-        if from == to || (parents[from] != ends[1] && parents[to] != ends[0]) {
-            return refused(11);
-        }
-        if pebbles[from] == 0 {
-            return refused(12);
-        }
-        if pebbles[to] == 1 {
-            return refused(13);
-        }
-        pebbles[from] = 0;
-        pebbles[to] = 1;
+        pebbles[usize::from(ends[0])] = 0;
+        pebbles[usize::from(ends[1])] = 1;
     }
     Ok(())
+}
+
+/// Which of refusals 10 to 13 a move meets.
+#[inline(always)]
+fn unfit(parents: &[u8], pebbles: &[u8], ends: [u8; 2]) -> Option<u32> {
+    let [from, to] = ends.map(usize::from);
+    if from >= parents.len() || to >= parents.len() {
+        return Some(10);
+    }
+    if from == to || (parents[from] != ends[1] && parents[to] != ends[0]) {
+        return Some(11);
+    }
+    if pebbles[from] == 0 {
+        return Some(12);
+    }
+    if pebbles[to] == 1 {
+        return Some(13);
+    }
+    None
 }

@@ -4,6 +4,7 @@
 //! `fast` is the same planner written for speed, as the benchmark's measure. `random`, `shapes` and `damage` make the inputs; equal seeds make
 //! equal inputs.
 
+pub mod cabinet;
 pub mod checker;
 pub mod damage;
 pub mod demands;

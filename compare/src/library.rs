@@ -7,7 +7,7 @@ use crate::figures::Length;
 use crate::yard::{Answer, Refusal};
 
 /// The version of the calls that are declared here: JAVENDRIKY_VERSION of the header. A library of another version must not be called.
-pub const VERSION: u32 = 7;
+pub const VERSION: u32 = 8;
 
 /// What an accepted trial adds to the moves taken where the budget ended it.
 const BUDGET_ENDED: u32 = 500_000;
@@ -74,6 +74,10 @@ pub mod raw {
         pub fn javendriky_trial(
             parents: *const u8, parents_len: usize, pebbles: *mut u8, pebbles_len: usize, targets: *const u8, targets_len: usize,
             plan: *const u8, plan_len: usize, budget: u16,
+        ) -> u32;
+        pub fn javendriky_step(
+            parents: *const u8, parents_len: usize, pebbles: *mut u8, pebbles_len: usize, targets: *const u8, targets_len: usize,
+            plan: *const u8, plan_len: usize, registers: *mut u8, registers_len: usize, failed: u8,
         ) -> u32;
         pub fn javendriky_read_sheet(
             sheet: *const u8, sheet_len: usize,
@@ -225,6 +229,16 @@ pub fn trial(parents: &[u8], pebbles: &mut [u8], targets: &[u8], plan: &[u8], bu
         )
     })
     .map(tried)
+}
+
+/// 1 if the line is raised.
+pub fn step(parents: &[u8], pebbles: &mut [u8], targets: &[u8], plan: &[u8], registers: &mut [u8], failed: u8) -> Answer<u32> {
+    answer(unsafe {
+        raw::javendriky_step(
+            parents.as_ptr(), parents.len(), pebbles.as_mut_ptr(), pebbles.len(), targets.as_ptr(), targets.len(),
+            plan.as_ptr(), plan.len(), registers.as_mut_ptr(), registers.len(), failed,
+        )
+    })
 }
 
 pub fn read_sheet(sheet: &[u8], parents: &mut [u8], pebbles: &mut [u8], targets: &mut [u8]) -> Answer<u32> {

@@ -3,6 +3,7 @@
 use std::hint::black_box;
 use std::process::ExitCode;
 use std::time::Instant;
+use unrelated::cabinet::{status, Registers};
 use unrelated::checker::Tried;
 use unrelated::distance::{self, Nearest};
 use unrelated::event::{way, Event, Kept};
@@ -167,6 +168,35 @@ fn reaches(yard: &Yard) -> Option<Times> {
     Some(measure(|| call(library::reach, &mut list), || call(fast::reach, &mut plain_list)))
 }
 
+type Step = fn(&[u8], &mut [u8], &[u8], &[u8], &mut [u8], u8) -> Answer<u32>;
+
+/// A running step obeys the plan's first move, and a second one takes it back. Then the block is put back, within the time; the time of one of the two.
+fn steps(yard: &Yard, plan: &[u8], plain: Step) -> Option<Times> {
+    let Yard { parents, pebbles, targets } = yard;
+    let there_and_back = [plan[0], plan[1], plan[1], plan[0]];
+    let begun = Registers { status: status::RUNNING, left: 2, ..Registers::default() }.block();
+    let call = |step: Step, pebbles: &mut [u8], block: &mut [u8]| {
+        step(black_box(parents), black_box(pebbles), black_box(targets), black_box(&there_and_back), black_box(block), black_box(0))
+    };
+    let twice = |step: Step, pebbles: &mut [u8]| {
+        let mut block = begun;
+        [call(step, pebbles, &mut block), call(step, pebbles, &mut block)]
+    };
+    let (mut marks, mut plain_marks) = (pebbles.clone(), pebbles.clone());
+    let (mut block, mut plain_block) = (begun, begun);
+    for _ in 0..2 {
+        let answer = call(library::step, &mut marks, &mut block);
+        if answer != Ok(0) || answer != call(plain, &mut plain_marks, &mut plain_block) || marks != plain_marks || block != plain_block {
+            return None;
+        }
+    }
+    if marks != *pebbles || block[1] != status::IDLE {
+        return None;
+    }
+    let both = measure(|| twice(library::step, &mut marks), || twice(plain, &mut plain_marks));
+    Some(Times { library: both.library / 2.0, plain: both.plain / 2.0 })
+}
+
 type Figure<T> = fn(&[u8], &[u8], &[u8]) -> Answer<T>;
 
 /// The times of two calls that take the yard alone, or nothing if they differ or refuse it.
@@ -194,6 +224,7 @@ fn run() -> Option<f64> {
     println!("Medians of {SAMPLES} samples in turn. Plan lists are not cleared before a call. A trial's pebbles are set anew before each one,");
     println!("on both sides and within the time (256 bytes copied). An event is a pebble's arrival at the deepest empty node, or its leaving it.");
     println!("Nearest and reach are asked from the deepest node; the reach ends halfway between its nearest and its farthest pebble.");
+    println!("A step obeys the plan's first move or takes it back; the 8 bytes of its block are put back after both, within the time.");
     println!("'Plain' is the same algorithm in safe Rust, with the same tests first.\n");
     println!("256 nodes    call        moves  library µs    plain µs   ratio");
     let mut highest = 0.0;
@@ -209,6 +240,7 @@ fn run() -> Option<f64> {
             ("event", events(&yard, fast::event)?),
             ("nearest", nearest(&yard)?),
             ("reach", reaches(&yard)?),
+            ("step", steps(&yard, &plan, fast::step)?),
             ("test_yard", figures(&yard, library::test_yard, fast::test_yard)?),
         ];
         for (call, times) in rows {
@@ -244,6 +276,14 @@ fn run() -> Option<f64> {
     );
     for shape in Shape::ALL {
         let times = events(&yard(shape, 256), fast::event_by_equation_2)?;
+        println!("{:<11}{:>12.2} {:>6.2}", shape.name(), times.plain / 1e3, times.ratio());
+    }
+    println!(
+        "\nFor information, a step in µs and the library's ratio to it: plain Rust that tests the yard by climbs that end where one was before.\n"
+    );
+    for shape in Shape::ALL {
+        let yard = yard(shape, 256);
+        let times = steps(&yard, &planner::plan(&yard, PLAN_BYTES).ok()?, fast::step_by_climbs)?;
         println!("{:<11}{:>12.2} {:>6.2}", shape.name(), times.plain / 1e3, times.ratio());
     }
     Some(highest)

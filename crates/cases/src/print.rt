@@ -5,6 +5,7 @@ use model::Done;
 use model::Located;
 use model::Measured;
 use model::Refusal;
+use model::Signalled;
 use model::Tried;
 
 pub fn text(bytes: &[u8]) {
@@ -123,5 +124,13 @@ pub fn located(answer: Located) {
             figure(b" distance ", distance);
         }
         Located::Refused(r) => refused(r),
+    }
+}
+
+pub fn signalled(answer: Signalled) {
+    match answer {
+        Signalled::Raised => text(b"raised"),
+        Signalled::Quiet => text(b"quiet"),
+        Signalled::Refused(r) => refused(r),
     }
 }

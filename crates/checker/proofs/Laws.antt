@@ -3,7 +3,7 @@ use mathlib.Core.Path.{_≡_, refl, sym, _∙_}
 use mathlib.Core.Bool.{Bool, true, false, not, _&&_}
 use mathlib.Core.List.{List, [], _∷_, _++_}
 use mathlib.Core.Option.{Option, none, some}
-use Prim.Native.Nat.{ℕ, zero, suc, min, _+_, _-_, _*_, _/_, _≤_, _<_}
+use Prim.Native.Nat.{ℕ, suc, min, _+_, _-_, _*_, _/_, _≤_, _<_}
 use native.Mathlib.Numerals.{add-one}
 use native.Mathlib.Omega.{arith}
 use lib.ListN.{length, take, drop, getD, replicate, length-take}
@@ -17,34 +17,20 @@ use Rattle.model.specs.Calls.Answers.{answered, refused, lent}
 use Rattle.model.specs.Calls.Plans.{movesOf}
 use Rattle.model.specs.Calls.Checks.{bytesFault, movesFault, endFault, Verdict, checkTests, checkFault, checkAnswer, within, trialFault, trialAnswer, trialPebbles}
 use Rattle.model.proofs.Basics.{none-all}
-use Rattle.model.proofs.Calls.{movesOf-half, totals-none}
+use Rattle.model.proofs.Calls.{movesOf-half, moves-half, move-at, totals-none}
 use Rattle.model.proofs.Step.{step, moved-tree}
 use Rattle.model.proofs.Runs.{after-append, run-one}
 use Rattle.model.proofs.Moves.{moveFault-legal, movesFault-legal}
 use Rattle.model.proofs.Demand2.{check-excess}
 use Rattle.model.proofs.Trial.{take-again}
 
--- the move at a place of a plan, and of its front
-move-at : (bs : List ℕ) (i : ℕ) → 2 * i + 1 < length bs → getD (movesOf bs) i (push 0 0) ≡ push (getD bs (2 * i) 0) (getD bs (2 * i + 1) 0)
-unfolding movesOf
-move-at [] i l = absurd (omega arith)
-move-at (a ∷ []) i l = absurd (omega arith)
-move-at (a ∷ b ∷ bs) zero l = refl
-move-at (a ∷ b ∷ bs) (suc i) l =
-    let e : 2 * suc i ≡ suc (suc (2 * i)) = omega arith in
-    let f : 2 * suc i + 1 ≡ suc (suc (2 * i + 1)) = omega arith in
-    rw (f, e) (move-at bs i (omega arith))
-
+-- the front of a plan
 module _ (bs : List ℕ) (count : ℕ) (h : 2 * count ≤ length bs) where
   pub front-length : length (take count (movesOf bs)) ≡ count
   front-length = omega (arith, length-take count (movesOf bs), movesOf-half bs)
 
   pub front-at : (i : ℕ) → i < count → getD (take count (movesOf bs)) i (push 0 0) ≡ push (getD bs (2 * i) 0) (getD bs (2 * i + 1) 0)
   front-at i l = getD-take count (movesOf bs) i (push 0 0) l ∙ move-at bs i (omega arith)
-
--- half as many moves as bytes
-pub moves-half : (bs : List ℕ) → length bs / 2 ≡ length (movesOf bs)
-moves-half bs = omega (arith, movesOf-half bs)
 
 pub front-all : (bs : List ℕ) → take (length bs / 2) (movesOf bs) ≡ movesOf bs
 front-all bs = take-all (length bs / 2) (movesOf bs) (omega (arith, moves-half bs))

@@ -3,10 +3,13 @@ ghost use mathlib.Core.Path.{_≡_};
 ghost use Rattle.model.specs.Calls.Answers as Answers;
 ghost use Rattle.model.specs.Calls.Answers.{answer, mapAnswer, inC, zeroInC, Row, Small};
 ghost use Rattle.model.specs.Calls.Checks.{trialInC};
-ghost use Rattle.model.specs.Paper.{paper, paperDone, paperCounted, paperTried};
+ghost use Rattle.model.specs.Calls.Registers.{lineInC};
+ghost use Rattle.model.specs.Yard.{one};
+ghost use Rattle.model.specs.Paper.{paper, paperDone, paperCounted, paperTried, paperSignalled};
 use model::Counted;
 use model::Done;
 use model::Refusal;
+use model::Signalled;
 use model::Tried;
 use refusal::number;
 use refusal::place;
@@ -50,5 +53,17 @@ pub fn tried(a: Tried) -> u32
         Tried::PlanEnded(n) => n as u32,
         Tried::BudgetEnded(n) => n as u32 + 500_000,
         Tried::Refused(r) => refused(r),
+    }
+}
+
+// 1 if the line is raised, 0 if not, or the refusal.
+pub fn signalled(a: Signalled) -> u32
+    requires { ⌜ Small (mapAnswer one (paperSignalled a)) ⌝ }
+    ensures { λ k. ⌜ k ≡ lineInC (paperSignalled a) ⌝ }
+{
+    match a {
+        Signalled::Raised => 1,
+        Signalled::Quiet => 0,
+        Signalled::Refused(r) => refused(r),
     }
 }

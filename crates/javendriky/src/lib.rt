@@ -7,5 +7,6 @@ pub mod distances;
 pub mod events;
 pub mod plans;
 pub mod sheets;
+pub mod steps;
 pub mod version;
 pub mod yards;

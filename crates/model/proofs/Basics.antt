@@ -106,3 +106,7 @@ pub first-passed : (fs gs : List (Option Fault)) → firstOf fs ≡ none → fir
 first-passed [] gs e = refl
 first-passed (none ∷ fs) gs e = first-passed fs gs e
 first-passed (some r ∷ fs) gs e = cc
+
+pub single : (f : Option Fault) → firstOf (f ∷ []) ≡ f
+single none = refl
+single (some f) = refl

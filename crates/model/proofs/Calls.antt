@@ -4,15 +4,15 @@ use mathlib.Core.Logic.{_≢_, _↔_}
 use mathlib.Core.Bool.{Bool, true, false, not, _&&_}
 use mathlib.Core.List.{List, [], _∷_}
 use mathlib.Core.Option.{Option, none, some, Option·some-injective}
-use Prim.Native.Nat.{ℕ, suc, _+_, _*_, _≤_}
+use Prim.Native.Nat.{ℕ, zero, suc, _+_, _*_, _/_, _≤_, _<_}
 use native.Mathlib.Omega.{arith}
-use lib.ListN.{length, take, drop}
+use lib.ListN.{length, getD, take, drop}
 use lib.Seq.{take-at}
 use lib.Dec.{ltb}
 use borrow.Author.Tests.{eqb-true, eq-eqb, ne-eqb, leb-true, le-leb}
 use Rattle.model.specs.Yard.{Yard, size, full, held, pebbleCount, targetCount, Matched}
 use Rattle.model.specs.Judge.{Fault, row, fault, firstOf, unless, atLowest, judge, Tree, totalsFault, matchedTests, matchedFault}
-use Rattle.model.specs.Push.{Move, adjacent, moveTests, moveFault, pushed}
+use Rattle.model.specs.Push.{Move, push, adjacent, moveTests, moveFault, pushed}
 use Rattle.model.specs.Plan.{plan}
 use Rattle.model.specs.Calls.Answers.{answered, refused, answer, overwrite}
 use Rattle.model.specs.Calls.Plans.{bytes, movesOf, planTests, planFault}
@@ -50,6 +50,20 @@ unfolding movesOf
 movesOf-half [] = omega arith
 movesOf-half (a ∷ []) = omega arith
 movesOf-half (a ∷ b ∷ bs) = omega (arith, movesOf-half bs)
+
+-- half as many moves as bytes, and the two bytes of each
+pub moves-half : (bs : List ℕ) → length bs / 2 ≡ length (movesOf bs)
+moves-half bs = omega (arith, movesOf-half bs)
+
+pub move-at : (bs : List ℕ) (i : ℕ) → 2 * i + 1 < length bs → getD (movesOf bs) i (push 0 0) ≡ push (getD bs (2 * i) 0) (getD bs (2 * i + 1) 0)
+unfolding movesOf
+move-at [] i l = absurd (omega arith)
+move-at (a ∷ []) i l = absurd (omega arith)
+move-at (a ∷ b ∷ bs) zero l = refl
+move-at (a ∷ b ∷ bs) (suc i) l =
+    let e : 2 * suc i ≡ suc (suc (2 * i)) = omega arith in
+    let f : 2 * suc i + 1 ≡ suc (suc (2 * i + 1)) = omega arith in
+    rw (f, e) (move-at bs i (omega arith))
 
 -- overwrite: its front read back
 pub take-overwrite : (front list : List ℕ) (n : ℕ) → length front ≡ n → take n (overwrite front list) ≡ front

@@ -100,7 +100,7 @@ bytesFault-even : (bs : List ℕ) (k : ℕ) → length bs ≡ 2 * k → k ≤ 65
 bytesFault-even bs k e l = rw (e, mul-mod-right 2 k, le-leb (2 * k) maxPlanBytes (omega arith))
 
 module _ (y : Yard) (t : Tree y) (m : Matched y) where
-  checkFault-none : (bs : List ℕ) → (checkFault y bs ≡ none) ↔ ((bytesFault bs ≡ none) × (accepted y (movesOf bs) ≡ movesOf bs) × Solved (run y (movesOf bs)))
+  pub checkFault-none : (bs : List ℕ) → (checkFault y bs ≡ none) ↔ ((bytesFault bs ≡ none) × (accepted y (movesOf bs) ≡ movesOf bs) × Solved (run y (movesOf bs)))
   unfolding checkFault
   checkFault-none bs =
       let moves = movesFault-accepted (movesOf bs) 0 y t in

@@ -18,16 +18,12 @@ use Rattle.model.specs.Yard.{Yard, size, maxDemand, below, lowest, deman
 use Rattle.model.specs.Judge.{Fault, fault, firstOf, atLowest, judge, Tree}
 use Rattle.model.specs.Calls.Demands.{demandsOf, demandsList}
 use Rattle.model.specs.Calls.Events.{altered, demandsAfter, possible, differ, stale, staleFault, readyTests, eventTests, eventFault, Console, console, Happening, refusalOf, leaves, runLeaves, Right}
-use Rattle.model.proofs.Basics.{none-below, below-none, none-all, unless-none, atLowest-none, first-refused, first-passed}
+use Rattle.model.proofs.Basics.{none-below, below-none, none-all, unless-none, atLowest-none, first-refused, first-passed, single}
 use Rattle.model.proofs.Found.{lowest-is, lowest-none, lowest-fault}
 use Rattle.model.proofs.Signed.{demand-range}
 use Rattle.model.proofs.Ranges.{length-range, listed}
 use Rattle.model.proofs.Equation2.{demands-entry}
 use Rattle.model.proofs.Events.{altered-tree, demandsList-tree, demandsAfter-right}
-
-single : (f : Option Fault) → firstOf (f ∷ []) ≡ f
-single none = refl
-single (some f) = refl
 
 -- the tests one by one: each refuses, or is passed
 module _ (y : Yard) (list : List ℤ) (e : Event) (v : ℕ) where

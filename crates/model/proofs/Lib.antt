@@ -38,4 +38,9 @@ pub mod Lines
 pub mod Sheets
 pub mod Report
 pub mod Places
+pub mod Bits
+pub mod Blocks
+pub mod Cabinet
+pub mod CabinetRun
+pub mod CabinetStall
 pub mod Worked

@@ -61,18 +61,18 @@ map-answer g none a = refl
 map-answer g (some f) a = refl
 
 -- the tests behind a test need be so only if it passes
-first : {f : Option Fault} (fs : List (Option Fault)) → Low f → (f ≡ none → Low (firstOf fs)) → Low (firstOf (f ∷ fs))
+pub first : {f : Option Fault} (fs : List (Option Fault)) → Low f → (f ≡ none → Low (firstOf fs)) → Low (firstOf (f ∷ fs))
 first fs Low.passes h = h refl
 first fs (Low.refuses l) h = Low.refuses l
 
-all : (fs : List (Option Fault)) → All Low fs → Low (firstOf fs)
+pub all : (fs : List (Option Fault)) → All Low fs → Low (firstOf fs)
 all [] h = Low.passes
 all (f ∷ fs) h = first fs (h .0) (λ _. all fs (h .1))
 
 place : (n p : ℕ) → InTable n → p < rowUnit → Low (fault n p)
 place n p h l = Low.refuses (record { numbered = h; placed = l })
 
-once : (b : Bool) (n p : ℕ) → InTable n → p < rowUnit → Low (unless b (fault n p))
+pub once : (b : Bool) (n p : ℕ) → InTable n → p < rowUnit → Low (unless b (fault n p))
 once true n p h l = Low.passes
 once false n p h l = place n p h l
 
@@ -111,7 +111,7 @@ judge-low y =
     ))
 
 -- refusals 10 to 13
-move-low : (y : Yard) (m : Move) (i : ℕ) → i < rowUnit → Low (moveFault y m i)
+pub move-low : (y : Yard) (m : Move) (i : ℕ) → i < rowUnit → Low (moveFault y m i)
 unfolding moveFault
 move-low y m i l = all (moveTests y m i) (once ((ltb (m .from) (size y)) && (ltb (m .to) (size y))) 10 i (omega arith) l, (once (adjacent y (m .from) (m .to)) 11 i (omega arith) l, (once (held y (m .from)) 12 i (omega arith) l, (once (not (full y (m .to))) 13 i (omega arith) l, tt))))
 
@@ -121,7 +121,7 @@ moves-low [] i y l = Low.passes
 moves-low (m ∷ ms) i y l = all (moveFault y m i ∷ movesFault (suc i) (pushed y m) ms ∷ []) (move-low y m i (omega arith), (moves-low ms (suc i) (pushed y m) (omega arith), tt))
 
 -- past refusal 9
-few-moves : (bs : List ℕ) → bytesFault bs ≡ none → length (movesOf bs) ≤ 65_535
+pub few-moves : (bs : List ℕ) → bytesFault bs ≡ none → length (movesOf bs) ≤ 65_535
 few-moves bs e =
     let q : (eqb (length bs % 2) 0 ≡ true) × (leb (length bs) maxPlanBytes ≡ true) = and-eq-true-iff _ _ .0 (unless-none _ 9 0 e) in
     omega (arith, movesOf-half bs, leb-true (length bs) maxPlanBytes (q .1))
@@ -188,10 +188,10 @@ module _ (y : Yard) where
       all (drop 2 (planTests y room)) (once (leb (2 * length (plan y)) room) 8 (length (plan y)) (omega arith) (plan-short t (totals-none y .0 e)), tt)))
 
   module _ (bs : List ℕ) where
-    bytes-low : Low (bytesFault bs)
+    pub bytes-low : Low (bytesFault bs)
     bytes-low = once ((eqb (length bs % 2) 0) && (leb (length bs) maxPlanBytes)) 9 0 (omega arith) (omega arith)
 
-    check-low : Low (checkFault y bs)
+    pub check-low : Low (checkFault y bs)
     unfolding checkFault
     check-low =
         first (drop 1 (checkTests y bs)) (judge-low y) (λ t.

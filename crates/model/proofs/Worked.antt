@@ -1,17 +1,17 @@
 -- The starred yards of document 01 ('Yards worked by hand'), the examples of its table of refusals, and yards that pin each choice of a child,
 -- as one list of inputs and outcomes: the definitions, computed, give what is written here.
 use mathlib.Core.Path.{_≡_, refl}
-use mathlib.Core.Bool.{true, false}
+use mathlib.Core.Bool.{Bool, true, false}
 use mathlib.Core.List.{List, [], _∷_, map}
 use mathlib.Core.Option.{Option, none}
-use Prim.Native.Nat.{ℕ}
+use Prim.Native.Nat.{ℕ, zero, suc}
 use Prim.Native.String.{String}
 use native.Mathlib.Omega.{arith}
 use lib.ListN.{length, take, replicate}
 use lib.IntN.{ℤ, pos, negsuc}
 use Rattle.model.specs.declared.Event.{Event}
 use Rattle.model.specs.declared.Event.the-variants.{PebbleArrives, PebbleLeaves, TargetSet, TargetCleared}
-use Rattle.model.specs.Yard.{Yard, yardOf, sum, below, roots, climbs, inside, subtotal, sumℤ, Equation2, shortest}
+use Rattle.model.specs.Yard.{Yard, yardOf, holding, sum, below, roots, climbs, inside, subtotal, sumℤ, Equation2, shortest}
 use Rattle.model.specs.Judge.{Fault, row, fault, judge, matchedFault}
 use Rattle.model.specs.Push.{Move, push, moveFault, pushFault, legal, shifted, after, accepted, count}
 use Rattle.model.specs.Plan.{needy, lowestChild, greatest, neediestChild, choice, inject, extract, turn, settle, each, balance, planWithin, planBy, plan}
@@ -23,6 +23,8 @@ use Rattle.model.specs.Distance.{anyOf, reaches, distance}
 use Rattle.model.specs.Calls.Distances.{Nearest, nearest, nearestFault, nearestAnswer, inReach, reachFault, reachList, reachAnswer}
 use Rattle.model.specs.Calls.Plans.{bytes, movesOf, planFault, planAnswer, planList}
 use Rattle.model.specs.Calls.Checks.{movesFault, Verdict, checkFault, checkAnswer, Trial, trialFault, trialAnswer, trialPebbles}
+use Rattle.model.specs.Calls.Registers.{blockOf, registersOf, bit, setBit, raised, registerFault, taskFault, stepFault, registersThen, pebblesThen, stepped}
+use Rattle.model.specs.Cabinet.{steps}
 use Rattle.model.specs.Sheets.{text, digits, decimal, stopBefore, line, lines, header, cut, same, value, field, readLine, readNodes, readYard, moveLines, edges, report, moveSheet, refusalSheet, program}
 use Rattle.model.proofs.Yards.{marks, yard, yardA, demandsA, yardB, planB}
 
@@ -55,6 +57,9 @@ data Input : Type 0 where
   distancesOf : ℕ → Yard → Input
   nearestOf : ℕ → Yard → Input
   reachOf : List ℕ → ℕ → ℕ → Yard → Input
+  -- a step of the cabinet, told whether the pebble failed to arrive, with a plan and a block; and a first step with so many more
+  stepOf : Bool → List ℕ → List ℕ → Yard → Input
+  stepsOf : ℕ → List ℕ → List ℕ → Yard → Input
 
 data Outcome : Type 0 where
   demands : List ℤ → Outcome
@@ -73,6 +78,8 @@ data Outcome : Type 0 where
   console-left : List ℕ → List ℕ → List ℤ → Outcome
   located : Answer Nearest → Outcome
   reached : Answer ℕ → List ℕ → Outcome
+  -- the line, the block and the pebbles then
+  signalled : Answer Bool → List ℕ → List ℕ → Outcome
 
 outcome : Input → Outcome
 outcome (demandsOf y) = demands (demandsList y (map (λ (_ : ℕ). pos 0) (y .parents)))
@@ -96,6 +103,8 @@ outcome (eventsOf hs list y) = let c = runLeaves (console y list) hs in console-
 outcome (distancesOf a y) = left (map (distance y a) (range 0 (length (y .parents))))
 outcome (nearestOf a y) = located (nearestAnswer y a)
 outcome (reachOf list a reach y) = reached (reachAnswer y list a reach) (reachList y list a reach)
+outcome (stepOf failed bs block y) = let s = stepped y bs block failed in signalled (s .line) (s .block) (s .pebbles)
+outcome (stepsOf k bs block y) = let s = steps k y bs block in signalled (s .line) (s .block) (s .pebbles)
 
 record Case : Type 0 where
   input : Input
@@ -124,6 +133,22 @@ highRoot = yard (3 ∷ 3 ∷ 3 ∷ 4 ∷ 4 ∷ []) (1 ∷ 4 ∷ []) []
 -- the demands of the yard without a mark
 zeros : List ℤ
 zeros = pos 0 ∷ pos 0 ∷ pos 0 ∷ pos 0 ∷ pos 0 ∷ []
+
+-- a step that is refused: the block and the pebbles stay
+refusesStep : Bool → Yard → List ℕ → List ℕ → ℕ → ℕ → Case
+refusesStep failed y bs block n p = stepOf failed bs block y gives signalled (refused (row n p)) block (y .pebbles)
+
+-- steps in yard B, with the pebbles where they then are
+stepB : Bool → List ℕ → List ℕ → List ℕ → Input
+stepB failed pebbles bs block = stepOf failed bs block (holding yardB pebbles)
+
+refusesB : Bool → List ℕ → List ℕ → List ℕ → ℕ → ℕ → Case
+refusesB failed pebbles bs block n p = refusesStep failed (holding yardB pebbles) bs block n p
+
+-- a plan of k rounds there and back
+rounds : ℕ → List ℕ
+rounds zero = []
+rounds (suc k) = 0 ∷ 1 ∷ 1 ∷ 0 ∷ rounds k
 
 nines : List ℕ
 nines = 9 ∷ 9 ∷ 9 ∷ 9 ∷ 9 ∷ []
@@ -277,12 +302,81 @@ cases =
     ∷ (lowestOpeningOf (yard (0 ∷ 0 ∷ 0 ∷ 2 ∷ 0 ∷ 4 ∷ 5 ∷ []) (1 ∷ 2 ∷ 3 ∷ []) (4 ∷ 5 ∷ 6 ∷ [])) gives moves (push 1 0 ∷ []))
     -- the root is not 0, and parents have higher numbers than their children
     ∷ (planOf (yard (3 ∷ 3 ∷ 3 ∷ 4 ∷ 4 ∷ []) (0 ∷ 1 ∷ []) (2 ∷ 4 ∷ [])) gives moves (push 0 3 ∷ push 3 4 ∷ push 1 3 ∷ push 3 2 ∷ []))
+    -- request 2.9. yard B driven to its end: start, the two moves, and an idle step behind them; mask 1 raises the line at the end
+    ∷ (stepB false (1 ∷ 1 ∷ 0 ∷ []) planB (1 ∷ 0 ∷ 9 ∷ 8 ∷ 0 ∷ 0 ∷ 1 ∷ 0 ∷ []) gives signalled (answered false) (0 ∷ 1 ∷ 9 ∷ 8 ∷ 2 ∷ 0 ∷ 1 ∷ 0 ∷ []) (1 ∷ 1 ∷ 0 ∷ []))
+    ∷ (stepB false (1 ∷ 1 ∷ 0 ∷ []) planB (0 ∷ 1 ∷ 9 ∷ 8 ∷ 2 ∷ 0 ∷ 1 ∷ 0 ∷ []) gives signalled (answered false) (0 ∷ 1 ∷ 1 ∷ 2 ∷ 1 ∷ 0 ∷ 1 ∷ 0 ∷ []) (1 ∷ 0 ∷ 1 ∷ []))
+    ∷ (stepB false (1 ∷ 0 ∷ 1 ∷ []) planB (0 ∷ 1 ∷ 1 ∷ 2 ∷ 1 ∷ 0 ∷ 1 ∷ 0 ∷ []) gives signalled (answered true) (0 ∷ 0 ∷ 0 ∷ 1 ∷ 0 ∷ 0 ∷ 1 ∷ 1 ∷ []) (0 ∷ 1 ∷ 1 ∷ []))
+    ∷ (stepB false (0 ∷ 1 ∷ 1 ∷ []) planB (0 ∷ 0 ∷ 0 ∷ 1 ∷ 0 ∷ 0 ∷ 1 ∷ 1 ∷ []) gives signalled (answered true) (0 ∷ 0 ∷ 0 ∷ 1 ∷ 0 ∷ 0 ∷ 1 ∷ 1 ∷ []) (0 ∷ 1 ∷ 1 ∷ []))
+    -- a stall in the second move, raised by mask 2; a stalled step; acknowledged; the move again
+    ∷ (stepB true (1 ∷ 0 ∷ 1 ∷ []) planB (0 ∷ 1 ∷ 1 ∷ 2 ∷ 1 ∷ 0 ∷ 2 ∷ 0 ∷ []) gives signalled (answered true) (0 ∷ 2 ∷ 1 ∷ 2 ∷ 1 ∷ 0 ∷ 2 ∷ 2 ∷ []) (1 ∷ 0 ∷ 1 ∷ []))
+    ∷ (stepB false (1 ∷ 0 ∷ 1 ∷ []) planB (0 ∷ 2 ∷ 1 ∷ 2 ∷ 1 ∷ 0 ∷ 2 ∷ 2 ∷ []) gives signalled (answered true) (0 ∷ 2 ∷ 1 ∷ 2 ∷ 1 ∷ 0 ∷ 2 ∷ 2 ∷ []) (1 ∷ 0 ∷ 1 ∷ []))
+    ∷ (stepB false (1 ∷ 0 ∷ 1 ∷ []) planB (3 ∷ 2 ∷ 1 ∷ 2 ∷ 1 ∷ 0 ∷ 2 ∷ 2 ∷ []) gives signalled (answered false) (0 ∷ 1 ∷ 1 ∷ 2 ∷ 1 ∷ 0 ∷ 2 ∷ 0 ∷ []) (1 ∷ 0 ∷ 1 ∷ []))
+    ∷ (stepB false (1 ∷ 0 ∷ 1 ∷ []) planB (0 ∷ 1 ∷ 1 ∷ 2 ∷ 1 ∷ 0 ∷ 2 ∷ 0 ∷ []) gives signalled (answered false) (0 ∷ 0 ∷ 0 ∷ 1 ∷ 0 ∷ 0 ∷ 2 ∷ 1 ∷ []) (0 ∷ 1 ∷ 1 ∷ []))
+    -- stop while running and while stalled: the flags stay
+    ∷ (stepB false (1 ∷ 0 ∷ 1 ∷ []) planB (2 ∷ 1 ∷ 1 ∷ 2 ∷ 1 ∷ 0 ∷ 0 ∷ 1 ∷ []) gives signalled (answered false) (0 ∷ 0 ∷ 1 ∷ 2 ∷ 0 ∷ 0 ∷ 0 ∷ 1 ∷ []) (1 ∷ 0 ∷ 1 ∷ []))
+    ∷ (stepB true (1 ∷ 0 ∷ 1 ∷ []) planB (2 ∷ 2 ∷ 1 ∷ 2 ∷ 1 ∷ 0 ∷ 2 ∷ 3 ∷ []) gives signalled (answered true) (0 ∷ 0 ∷ 1 ∷ 2 ∷ 0 ∷ 0 ∷ 2 ∷ 3 ∷ []) (1 ∷ 0 ∷ 1 ∷ []))
+    -- acknowledge while idle or running only clears the flags
+    ∷ (stepB false (1 ∷ 1 ∷ 0 ∷ []) planB (3 ∷ 0 ∷ 5 ∷ 6 ∷ 1 ∷ 0 ∷ 3 ∷ 3 ∷ []) gives signalled (answered false) (0 ∷ 0 ∷ 5 ∷ 6 ∷ 1 ∷ 0 ∷ 3 ∷ 0 ∷ []) (1 ∷ 1 ∷ 0 ∷ []))
+    ∷ (stepB false (1 ∷ 0 ∷ 1 ∷ []) planB (3 ∷ 1 ∷ 1 ∷ 2 ∷ 1 ∷ 0 ∷ 3 ∷ 2 ∷ []) gives signalled (answered false) (0 ∷ 1 ∷ 1 ∷ 2 ∷ 1 ∷ 0 ∷ 3 ∷ 0 ∷ []) (1 ∷ 0 ∷ 1 ∷ []))
+    -- a failure told with a command, or while not running, is ignored; flags that are set stay set
+    ∷ (stepB true (1 ∷ 1 ∷ 0 ∷ []) planB (1 ∷ 0 ∷ 9 ∷ 8 ∷ 0 ∷ 0 ∷ 0 ∷ 3 ∷ []) gives signalled (answered false) (0 ∷ 1 ∷ 9 ∷ 8 ∷ 2 ∷ 0 ∷ 0 ∷ 3 ∷ []) (1 ∷ 1 ∷ 0 ∷ []))
+    ∷ (stepB true (1 ∷ 1 ∷ 0 ∷ []) planB (0 ∷ 0 ∷ 9 ∷ 8 ∷ 2 ∷ 0 ∷ 0 ∷ 0 ∷ []) gives signalled (answered false) (0 ∷ 0 ∷ 9 ∷ 8 ∷ 2 ∷ 0 ∷ 0 ∷ 0 ∷ []) (1 ∷ 1 ∷ 0 ∷ []))
+    ∷ (stepB true (1 ∷ 0 ∷ 1 ∷ []) planB (0 ∷ 1 ∷ 1 ∷ 2 ∷ 1 ∷ 0 ∷ 255 ∷ 3 ∷ []) gives signalled (answered true) (0 ∷ 2 ∷ 1 ∷ 2 ∷ 1 ∷ 0 ∷ 255 ∷ 3 ∷ []) (1 ∷ 0 ∷ 1 ∷ []))
+    ∷ (stepB false (1 ∷ 0 ∷ 1 ∷ []) planB (0 ∷ 1 ∷ 1 ∷ 2 ∷ 1 ∷ 0 ∷ 252 ∷ 3 ∷ []) gives signalled (answered false) (0 ∷ 0 ∷ 0 ∷ 1 ∷ 0 ∷ 0 ∷ 252 ∷ 3 ∷ []) (0 ∷ 1 ∷ 1 ∷ []))
+    -- an empty plan finishes on the spot; so with a flag up
+    ∷ (stepOf false [] (1 ∷ 0 ∷ 7 ∷ 7 ∷ 0 ∷ 0 ∷ 1 ∷ 0 ∷ []) (yardOf (0 ∷ []) (1 ∷ []) (1 ∷ [])) gives signalled (answered true) (0 ∷ 0 ∷ 7 ∷ 7 ∷ 0 ∷ 0 ∷ 1 ∷ 1 ∷ []) (1 ∷ []))
+    ∷ (stepOf false [] (1 ∷ 0 ∷ 7 ∷ 7 ∷ 0 ∷ 0 ∷ 2 ∷ 3 ∷ []) (yardOf (0 ∷ []) (0 ∷ []) (0 ∷ [])) gives signalled (answered true) (0 ∷ 0 ∷ 7 ∷ 7 ∷ 0 ∷ 0 ∷ 2 ∷ 3 ∷ []) (0 ∷ []))
+    -- a start with old moves left within the plan
+    ∷ (stepB false (1 ∷ 1 ∷ 0 ∷ []) planB (1 ∷ 0 ∷ 0 ∷ 0 ∷ 2 ∷ 0 ∷ 0 ∷ 0 ∷ []) gives signalled (answered false) (0 ∷ 1 ∷ 0 ∷ 0 ∷ 2 ∷ 0 ∷ 0 ∷ 0 ∷ []) (1 ∷ 1 ∷ 0 ∷ []))
+    -- the low byte of the moves left comes first
+    ∷ (stepOf false (rounds 129) (1 ∷ 0 ∷ 0 ∷ 0 ∷ 0 ∷ 0 ∷ 0 ∷ 0 ∷ []) (yardOf (0 ∷ 0 ∷ []) (1 ∷ 0 ∷ []) (1 ∷ 0 ∷ [])) gives signalled (answered false) (0 ∷ 1 ∷ 0 ∷ 0 ∷ 2 ∷ 1 ∷ 0 ∷ 0 ∷ []) (1 ∷ 0 ∷ []))
+    ∷ (stepOf false (rounds 129) (0 ∷ 1 ∷ 0 ∷ 0 ∷ 0 ∷ 1 ∷ 0 ∷ 0 ∷ []) (yardOf (0 ∷ 0 ∷ []) (1 ∷ 0 ∷ []) (1 ∷ 0 ∷ [])) gives signalled (answered false) (0 ∷ 1 ∷ 0 ∷ 1 ∷ 255 ∷ 0 ∷ 0 ∷ 0 ∷ []) (0 ∷ 1 ∷ []))
+    -- refusals 1 to 6 come first, then 2
+    ∷ refusesStep false (yardOf ([]) ([]) ([])) [] [] 1 0
+    ∷ refusesStep false (yardOf (0 ∷ 2 ∷ 1 ∷ []) (0 ∷ 0 ∷ 0 ∷ []) (0 ∷ 0 ∷ 0 ∷ [])) [] (9 ∷ []) 6 1
+    ∷ refusesB false (1 ∷ 1 ∷ 0 ∷ []) planB (0 ∷ 0 ∷ 0 ∷ 0 ∷ 0 ∷ 0 ∷ 0 ∷ []) 2 0
+    ∷ refusesB false (1 ∷ 1 ∷ 0 ∷ []) planB (9 ∷ 0 ∷ 0 ∷ 0 ∷ 0 ∷ 0 ∷ 0 ∷ 0 ∷ 0 ∷ []) 2 0
+    -- 24 in its order, with the lowest register
+    ∷ refusesB false (1 ∷ 1 ∷ 0 ∷ []) planB (4 ∷ 3 ∷ 0 ∷ 0 ∷ 9 ∷ 0 ∷ 0 ∷ 4 ∷ []) 24 0
+    ∷ refusesB false (1 ∷ 1 ∷ 0 ∷ []) planB (3 ∷ 3 ∷ 0 ∷ 0 ∷ 9 ∷ 0 ∷ 0 ∷ 4 ∷ []) 24 1
+    ∷ refusesB false (1 ∷ 1 ∷ 0 ∷ []) planB (3 ∷ 2 ∷ 0 ∷ 0 ∷ 3 ∷ 0 ∷ 0 ∷ 4 ∷ []) 24 4
+    ∷ refusesB false (1 ∷ 1 ∷ 0 ∷ []) planB (2 ∷ 2 ∷ 0 ∷ 0 ∷ 0 ∷ 0 ∷ 0 ∷ 4 ∷ []) 24 4
+    ∷ refusesB false (1 ∷ 1 ∷ 0 ∷ []) planB (2 ∷ 1 ∷ 0 ∷ 0 ∷ 0 ∷ 0 ∷ 0 ∷ 4 ∷ []) 24 4
+    ∷ refusesB false (1 ∷ 1 ∷ 0 ∷ []) planB (2 ∷ 0 ∷ 0 ∷ 0 ∷ 0 ∷ 1 ∷ 0 ∷ 4 ∷ []) 24 4
+    ∷ refusesB false (1 ∷ 1 ∷ 0 ∷ []) planB (2 ∷ 0 ∷ 0 ∷ 0 ∷ 0 ∷ 0 ∷ 0 ∷ 4 ∷ []) 24 7
+    ∷ refusesB false (1 ∷ 1 ∷ 0 ∷ []) (1 ∷ 2 ∷ 0 ∷ []) (0 ∷ 0 ∷ 0 ∷ 0 ∷ 2 ∷ 0 ∷ 0 ∷ 0 ∷ []) 24 4
+    -- so refused, a step that would push pushes nothing
+    ∷ refusesB false (1 ∷ 1 ∷ 0 ∷ []) planB (0 ∷ 1 ∷ 0 ∷ 0 ∷ 2 ∷ 0 ∷ 0 ∷ 4 ∷ []) 24 7
+    -- 25, behind 24 and before the checker
+    ∷ refusesB false (1 ∷ 1 ∷ 0 ∷ []) (0 ∷ 1 ∷ 0 ∷ []) (1 ∷ 1 ∷ 0 ∷ 0 ∷ 1 ∷ 0 ∷ 0 ∷ 0 ∷ []) 25 0
+    ∷ refusesB false (1 ∷ 1 ∷ 0 ∷ []) planB (1 ∷ 2 ∷ 0 ∷ 0 ∷ 1 ∷ 0 ∷ 0 ∷ 0 ∷ []) 25 0
+    ∷ refusesB false (1 ∷ 1 ∷ 0 ∷ []) planB (1 ∷ 2 ∷ 0 ∷ 0 ∷ 0 ∷ 0 ∷ 0 ∷ 0 ∷ []) 24 4
+    -- start refuses as the checker does: 7, 9, 13, 14
+    ∷ refusesStep false (yardOf (0 ∷ 0 ∷ 1 ∷ []) (1 ∷ 0 ∷ 0 ∷ []) (0 ∷ 1 ∷ 1 ∷ [])) (1 ∷ 2 ∷ 0 ∷ 1 ∷ 0 ∷ []) (1 ∷ 0 ∷ 0 ∷ 0 ∷ 0 ∷ 0 ∷ 0 ∷ 0 ∷ []) 7 0
+    ∷ refusesB false (1 ∷ 1 ∷ 0 ∷ []) (1 ∷ 2 ∷ 0 ∷ 1 ∷ 0 ∷ []) (1 ∷ 0 ∷ 0 ∷ 0 ∷ 0 ∷ 0 ∷ 0 ∷ 0 ∷ []) 9 0
+    ∷ refusesB false (1 ∷ 1 ∷ 0 ∷ []) (0 ∷ 1 ∷ []) (1 ∷ 0 ∷ 0 ∷ 0 ∷ 0 ∷ 0 ∷ 0 ∷ 0 ∷ []) 13 0
+    ∷ refusesB true (1 ∷ 1 ∷ 0 ∷ []) (1 ∷ 2 ∷ []) (1 ∷ 0 ∷ 0 ∷ 0 ∷ 0 ∷ 0 ∷ 0 ∷ 0 ∷ []) 14 1
+    -- a running step: 9, then 10 to 13 with the number in the plan, also when told of a failure; idle and stalled steps give none of these
+    ∷ refusesB false (1 ∷ 1 ∷ 0 ∷ []) (0 ∷ 1 ∷ 0 ∷ []) (0 ∷ 1 ∷ 0 ∷ 0 ∷ 1 ∷ 0 ∷ 0 ∷ 0 ∷ []) 9 0
+    ∷ refusesB false (1 ∷ 1 ∷ 0 ∷ []) (1 ∷ 2 ∷ 0 ∷ 3 ∷ []) (0 ∷ 1 ∷ 0 ∷ 0 ∷ 1 ∷ 0 ∷ 0 ∷ 0 ∷ []) 10 1
+    ∷ refusesB true (1 ∷ 1 ∷ 0 ∷ []) (1 ∷ 2 ∷ 0 ∷ 2 ∷ []) (0 ∷ 1 ∷ 0 ∷ 0 ∷ 1 ∷ 0 ∷ 0 ∷ 0 ∷ []) 11 1
+    ∷ refusesB false (1 ∷ 1 ∷ 0 ∷ []) (1 ∷ 2 ∷ 2 ∷ 1 ∷ []) (0 ∷ 1 ∷ 0 ∷ 0 ∷ 1 ∷ 0 ∷ 0 ∷ 0 ∷ []) 12 1
+    ∷ refusesB true (1 ∷ 1 ∷ 0 ∷ []) planB (0 ∷ 1 ∷ 0 ∷ 0 ∷ 1 ∷ 0 ∷ 0 ∷ 0 ∷ []) 13 1
+    ∷ (stepB false (1 ∷ 1 ∷ 0 ∷ []) (0 ∷ 1 ∷ 0 ∷ []) (0 ∷ 0 ∷ 0 ∷ 0 ∷ 1 ∷ 0 ∷ 0 ∷ 0 ∷ []) gives signalled (answered false) (0 ∷ 0 ∷ 0 ∷ 0 ∷ 1 ∷ 0 ∷ 0 ∷ 0 ∷ []) (1 ∷ 1 ∷ 0 ∷ []))
+    ∷ (stepB false (1 ∷ 1 ∷ 0 ∷ []) (0 ∷ 1 ∷ 0 ∷ []) (0 ∷ 2 ∷ 0 ∷ 0 ∷ 1 ∷ 0 ∷ 0 ∷ 0 ∷ []) gives signalled (answered false) (0 ∷ 2 ∷ 0 ∷ 0 ∷ 1 ∷ 0 ∷ 0 ∷ 0 ∷ []) (1 ∷ 1 ∷ 0 ∷ []))
+    ∷ (stepB false (1 ∷ 1 ∷ 0 ∷ []) (0 ∷ 1 ∷ 0 ∷ []) (2 ∷ 1 ∷ 0 ∷ 0 ∷ 1 ∷ 0 ∷ 0 ∷ 0 ∷ []) gives signalled (answered false) (0 ∷ 0 ∷ 0 ∷ 0 ∷ 0 ∷ 0 ∷ 0 ∷ 0 ∷ []) (1 ∷ 1 ∷ 0 ∷ []))
+    ∷ (stepB false (1 ∷ 1 ∷ 0 ∷ []) (0 ∷ 1 ∷ 0 ∷ []) (3 ∷ 2 ∷ 0 ∷ 0 ∷ 1 ∷ 0 ∷ 0 ∷ 0 ∷ []) gives signalled (answered false) (0 ∷ 1 ∷ 0 ∷ 0 ∷ 1 ∷ 0 ∷ 0 ∷ 0 ∷ []) (1 ∷ 1 ∷ 0 ∷ []))
+    -- totals may differ in a running step
+    ∷ (stepOf false (0 ∷ 1 ∷ []) (0 ∷ 1 ∷ 0 ∷ 0 ∷ 1 ∷ 0 ∷ 0 ∷ 0 ∷ []) (yardOf (0 ∷ 0 ∷ 1 ∷ []) (1 ∷ 0 ∷ 0 ∷ []) (0 ∷ 1 ∷ 1 ∷ [])) gives signalled (answered false) (0 ∷ 0 ∷ 0 ∷ 1 ∷ 0 ∷ 0 ∷ 0 ∷ 1 ∷ []) (0 ∷ 1 ∷ 0 ∷ []))
+    -- the same run by `steps`
+    ∷ (stepsOf 1 planB (1 ∷ 0 ∷ 9 ∷ 8 ∷ 0 ∷ 0 ∷ 1 ∷ 0 ∷ []) yardB gives signalled (answered false) (0 ∷ 1 ∷ 1 ∷ 2 ∷ 1 ∷ 0 ∷ 1 ∷ 0 ∷ []) (1 ∷ 0 ∷ 1 ∷ []))
+    ∷ (stepsOf 3 planB (1 ∷ 0 ∷ 9 ∷ 8 ∷ 0 ∷ 0 ∷ 1 ∷ 0 ∷ []) yardB gives signalled (answered true) (0 ∷ 0 ∷ 0 ∷ 1 ∷ 0 ∷ 0 ∷ 1 ∷ 1 ∷ []) (0 ∷ 1 ∷ 1 ∷ []))
     -- pebbles 0 and 1 start at node 1, pebble 2 at node 2
     ∷ (startsOf siding gives left (1 ∷ 1 ∷ 2 ∷ []))
     ∷ []
 
 worked : map (λ (c : Case). outcome (c .input)) cases ≡ map (λ (c : Case). c .expected) cases
-unfolding near highRoot zeros nines anyOf reaches distance nearest nearestFault inReach reachFault demandsA siding placed occurs firstAt lastIn displaced demandsAfter eventFault leaves runLeaves keeps cases _gives_ outcome yard marks yardA yardB planB sum below roots climbs inside subtotal shortest judge moveFault pushFault legal shifted after accepted count needy lowestChild greatest neediestChild choice inject extract turn settle each balance planWithin planBy plan range demandsFault bytes movesOf planFault movesFault checkFault trialFault matchedFault text digits decimal stopBefore line lines header cut same value field readLine readNodes readYard moveLines edges report moveSheet refusalSheet program
+unfolding stepB refusesStep refusesB rounds blockOf registersOf bit setBit raised registerFault taskFault stepFault registersThen pebblesThen stepped steps near highRoot zeros nines anyOf reaches distance nearest nearestFault inReach reachFault demandsA siding placed occurs firstAt lastIn displaced demandsAfter eventFault leaves runLeaves keeps cases _gives_ outcome yard marks yardA yardB planB sum below roots climbs inside subtotal shortest judge moveFault pushFault legal shifted after accepted count needy lowestChild greatest neediestChild choice inject extract turn settle each balance planWithin planBy plan range demandsFault bytes movesOf planFault movesFault checkFault trialFault matchedFault text digits decimal stopBefore line lines header cut same value field readLine readNodes readYard moveLines edges report moveSheet refusalSheet program
 worked = refl
 
 -- two pebbles start at node 1, and one at node 2: whichever is taken, pebble 1 may go the second time, and each has its own route

@@ -5,3 +5,4 @@ pub mod Events
 pub mod Distances
 pub mod Plans
 pub mod Checks
+pub mod Registers

@@ -10,4 +10,5 @@ pub mod Sheets
 pub mod Paper
 pub mod Demand2
 pub mod Demand3
+pub mod Cabinet
 pub mod Given

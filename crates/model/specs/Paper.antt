@@ -1,16 +1,17 @@
 -- What the cases of the answers mean, in document 01's numbers: the row and place of each refusal ('Refusals with an example each'), and the
 -- values of each answer.
-use mathlib.Core.Bool.{true, false}
+use mathlib.Core.Bool.{Bool, true, false}
 use mathlib.Core.Option.{Option, none, some}
 use Prim.Native.Nat.{ℕ}
 use Rattle.model.specs.declared.Refusal.{Refusal}
-use Rattle.model.specs.declared.Refusal.the-variants.{NodeCount, ListLength, Mark, ParentOutside, Roots, Circle, Totals, ListTooShort, PlanLength, NoSuchNode, NotAdjacent, FromEmpty, ToFull, TargetEmpty, Header, LineShape, NodeNumber, ReaderList, NodeOutside, EventImpossible, NoPebble, StaleDemands}
+use Rattle.model.specs.declared.Refusal.the-variants.{NodeCount, ListLength, Mark, ParentOutside, Roots, Circle, Totals, ListTooShort, PlanLength, NoSuchNode, NotAdjacent, FromEmpty, ToFull, TargetEmpty, Header, LineShape, NodeNumber, ReaderList, NodeOutside, EventImpossible, NoPebble, StaleDemands, Register, NotIdle}
 use Rattle.model.specs.declared.Done.{Done}
 use Rattle.model.specs.declared.Counted.{Counted}
 use Rattle.model.specs.declared.Checked.{Checked}
 use Rattle.model.specs.declared.Tried.{Tried}
 use Rattle.model.specs.declared.Measured.{Measured}
 use Rattle.model.specs.declared.Located.{Located}
+use Rattle.model.specs.declared.Signalled.{Signalled}
 use Rattle.model.specs.Judge.{Fault, row}
 use Rattle.model.specs.Calls.Answers.{Answer, answered, refused}
 use Rattle.model.specs.Calls.Checks.{Verdict, Trial}
@@ -40,6 +41,8 @@ paper NodeOutside = row 19 0
 paper EventImpossible = row 20 0
 paper NoPebble = row 22 0
 paper (StaleDemands v) = row 23 v
+paper (Register r) = row 24 r
+paper NotIdle = row 25 0
 
 -- accepted, or the refusal
 abbrev pub paperDone : Done → Option Fault
@@ -71,3 +74,9 @@ paperMeasured (Measured.Refused r) = refused (paper r)
 abbrev pub paperLocated : Located → Answer Nearest
 paperLocated (Located.Node v d) = answered (record { node = v; distance = d })
 paperLocated (Located.Refused r) = refused (paper r)
+
+-- whether the line is raised, or the refusal
+abbrev pub paperSignalled : Signalled → Answer Bool
+paperSignalled Signalled.Raised = answered true
+paperSignalled Signalled.Quiet = answered false
+paperSignalled (Signalled.Refused r) = refused (paper r)

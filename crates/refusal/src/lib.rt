@@ -29,6 +29,8 @@ pub fn number(r: Refusal) -> u32
         Refusal::EventImpossible => 20,
         Refusal::NoPebble => 22,
         Refusal::StaleDemands(_) => 23,
+        Refusal::Register(_) => 24,
+        Refusal::NotIdle => 25,
     }
 }
 
@@ -58,5 +60,7 @@ pub fn place(r: Refusal) -> usize
         Refusal::EventImpossible => 0,
         Refusal::NoPebble => 0,
         Refusal::StaleDemands(v) => v,
+        Refusal::Register(r) => r,
+        Refusal::NotIdle => 0,
     }
 }

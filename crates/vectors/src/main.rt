@@ -9,6 +9,7 @@ mod plans;
 mod reads;
 mod signed;
 mod states;
+mod steps;
 mod writes;
 mod yards;
 
@@ -31,6 +32,7 @@ fn on_lists(line: &[u8], parents: &[u8], pebbles: &[u8], targets: &[u8]) {
         | distances::case(line, parents, pebbles, targets)
         | plans::case(line, parents, pebbles, targets)
         | checks::case(line, parents, pebbles, targets)
+        | steps::case(line, parents, targets)
         | writes::case(line, parents, pebbles, targets);
     if !known {
         bad(line);

@@ -76,7 +76,18 @@ fn fault(parents: &[u8], pebbles: &[u8], from: usize, to: usize, place: usize) -
     Refusal::ToFull(place)
 }
 
-// Judges the move from `from` to `to` by refusals 10 to 13, with `place` as their place, and makes it if none meets it; a refusal leaves the
+// Judges the move from `from` to `to` by refusals 10 to 13, with `place` as their place.
+pub fn test_move(parents: &[u8], pebbles: &[u8], from: usize, to: usize, place: usize) -> Done
+    requires { ⌜ length (now pebbles) ≡ length (now parents) ⌝ }
+    ensures { λ r. ⌜ paperDone r ≡ moveFault (givenBare parents pebbles) (push from to) place ⌝ }
+{
+    if !free(parents, pebbles, from, to) {
+        return Done::Refused(fault(parents, pebbles, from, to, place));
+    }
+    Done::Accepted
+}
+
+// Judges a move likewise, and makes it if none meets it; a refusal leaves the
 // pebbles as they were. (Refusals 10 to 13 do not look at targets.)
 pub fn step(parents: &[u8], pebbles: &mut [u8], from: usize, to: usize, place: usize) -> Done
     requires { ⌜ length (now pebbles) ≡ length (now parents) ⌝ }

@@ -5,6 +5,7 @@ use std::cell::Cell;
 use std::fmt;
 use std::ptr;
 use std::sync::atomic::{AtomicPtr, Ordering};
+use unrelated::cabinet::{self, Stepped};
 use unrelated::distance::Nearest;
 use unrelated::event::{happen, Event, Kept};
 use unrelated::yard::{total, Answer, Yard};
@@ -21,14 +22,16 @@ pub struct Inputs<'a> {
     pub bytes: &'a [u8],
     /// The list that an event brings up to date.
     pub demands: &'a [i16],
-    /// Lengths of lists to be written, budget, nodes that are asked for, or reach.
+    /// The register block of a step.
+    pub block: &'a [u8],
+    /// Lengths of lists to be written, budget, nodes that are asked for, reach, or whether a push failed.
     pub numbers: &'a [usize],
 }
 
 impl<'a> Inputs<'a> {
     /// The yard alone.
     fn of(call: &'static str, yard: &'a Yard) -> Inputs<'a> {
-        Inputs { call, yard, bytes: &[], demands: &[], numbers: &[] }
+        Inputs { call, yard, bytes: &[], demands: &[], block: &[], numbers: &[] }
     }
 }
 
@@ -40,7 +43,7 @@ impl fmt::Display for Inputs<'_> {
         if self.call.ends_with("sheet") {
             writeln!(f, "sheet \"{}\"", self.bytes.escape_ascii())
         } else {
-            writeln!(f, "plan {:?}\ndemands {:?}", self.bytes, self.demands)
+            writeln!(f, "plan {:?}\ndemands {:?}\nregisters {:?}", self.bytes, self.demands, self.block)
         }
     }
 }
@@ -80,7 +83,7 @@ pub fn watch_pages() {
 }
 
 /// The number of the last refusal in the papers.
-pub const LAST_REFUSAL: usize = 23;
+pub const LAST_REFUSAL: usize = 25;
 /// The one that no input meets any more (request 2.8).
 pub const UNUSED_REFUSAL: usize = 21;
 
@@ -315,6 +318,30 @@ impl Caller {
         quick(&inputs, fast::trial(&yard.parents, &mut quick_pebbles, &yard.targets, plan, budget), &tried)?;
         quick(&inputs, Ok(&quick_pebbles), &Ok(&after.pebbles))?;
         self.same(&inputs, got, tried, lent.wrong(&after).or_else(|| list.wrong("plan", plan)))
+    }
+
+    /// A step on any plan and any block. Gives back what both sides answer, with what they leave if they accept.
+    pub fn step(&self, yard: &Yard, plan: &[u8], block: &[u8], failed: u8) -> Same<Answer<Stepped>> {
+        let inputs = Inputs { bytes: plan, block, numbers: &[usize::from(failed)], ..Inputs::of("step", yard) };
+        let mut lent = self.lend(yard);
+        let LentYard { parents, pebbles, targets } = &mut lent;
+        let list = self.lender.lend(plan);
+        let mut registers = self.lender.lend(block);
+        let got = during(&inputs, || library::step(parents.list(), pebbles.list_mut(), targets.list(), list.list(), registers.list_mut(), failed));
+        let expected = cabinet::step(yard, plan, block, failed != 0);
+        let line = expected.as_ref().map(|stepped| u32::from(stepped.registers.line())).map_err(|refusal| *refusal);
+        let (pebbles, block_after) = match &expected {
+            Ok(stepped) => (stepped.pebbles.clone(), stepped.registers.block().to_vec()),
+            Err(_) => (yard.pebbles.clone(), block.to_vec()),
+        };
+        for step in [fast::step, fast::step_by_climbs] {
+            let (mut quick_pebbles, mut quick_block) = (yard.pebbles.clone(), block.to_vec());
+            quick(&inputs, step(&yard.parents, &mut quick_pebbles, &yard.targets, plan, &mut quick_block, failed), &line)?;
+            quick(&inputs, Ok((&quick_pebbles, &quick_block)), &Ok((&pebbles, &block_after)))?;
+        }
+        let wrong = lent.wrong(&Yard { pebbles, ..yard.clone() }).or_else(|| list.wrong("plan", plan));
+        self.same(&inputs, got, line, wrong.or_else(|| registers.wrong("registers", &block_after)))?;
+        Ok(expected)
     }
 
     /// The reader with lists of these lengths. A sheet that both accept must be what the writer makes of its lists.

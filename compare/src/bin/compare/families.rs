@@ -2,7 +2,7 @@
 
 use crate::calls::{Caller, Same};
 use crate::worked::worked;
-use crate::{distances, events, sheets};
+use crate::{distances, events, sheets, steps};
 use unrelated::planner::Choice;
 use unrelated::random::Random;
 use unrelated::shapes::{self, Shape};
@@ -12,7 +12,7 @@ use unrelated::{checker, damage, demands, figures, follow, library, planner, rep
 /// A family tries its cases and tells how many there were.
 pub type Family = fn(&Caller, Thin) -> Same<u64>;
 
-pub const FAMILIES: [(&str, Family); 27] = [
+pub const FAMILIES: [(&str, Family); 32] = [
     ("yards and examples of documents 01 and 02", |caller, _| worked(caller)),
     ("every tree up to 5 nodes with all marks, against the search", every_tree),
     ("every tree of 6 nodes, half held, the others wanted, by search", halves_of_six),
@@ -34,6 +34,11 @@ pub const FAMILIES: [(&str, Family); 27] = [
     ("events on lists that are stale, another yard's or spoilt", events::stale_lists),
     ("nearest and reach at every node of every tree up to 5 nodes", distances::every_node),
     ("nearest and reach on up to 256 nodes, about the distances met", distances::all_shapes),
+    ("steps with every value of each register, on small yards", steps::every_value),
+    ("steps with every mask and flags, with blocks of every length", steps::every_mask),
+    ("whole runs of steps, with stalls, stopped and started again", steps::whole_runs),
+    ("runs of steps with anything altered between them", steps::any_runs),
+    ("steps of plans about as long as a plan can be", steps::long_plans),
     ("sheets written and read, any room", sheets::written),
     ("sheets altered in one to three places", sheets::damaged),
     ("a small sheet with every byte changed, left out, put in", sheets::every_byte),
@@ -285,7 +290,8 @@ fn any_lists(caller: &Caller, yard: &Yard, random: &mut Random) -> Same {
     let [from, to] = damage::any_move(yard, random);
     caller.push(yard, usize::from(from), usize::from(to))?;
     events::any_lists(caller, yard, random)?;
-    distances::any_lists(caller, yard, random)
+    distances::any_lists(caller, yard, random)?;
+    steps::any_lists(caller, yard, &plan, random)
 }
 
 fn every_list(caller: &Caller, thin: Thin) -> Same<u64> {
@@ -419,6 +425,8 @@ fn no_address(_: &Caller, _: Thin) -> Same<u64> {
     use std::ptr::{null, null_mut};
     let (parents, one, zero) = ([0u8], [1u8], [0u8]);
     let (mut pebbles, mut targets, mut bytes, mut distance) = (one, zero, 0, 0);
+    // A start, its finish asked for by the mask.
+    let mut block = [1u8, 0, 0, 0, 0, 0, 1, 0];
     // SAFETY: lengths are 0 where there is no address, else those of the arrays.
     let answers = unsafe {
         use library::raw::*;
@@ -438,6 +446,7 @@ fn no_address(_: &Caller, _: Thin) -> Same<u64> {
             ("check", javendriky_check(null(), 0, null(), 0, null(), 0, null(), 0), 1_000_000),
             ("excess", javendriky_excess(null(), 0, null(), 0, null(), 0, null(), 0), 1_000_000),
             ("trial", javendriky_trial(null(), 0, null_mut(), 0, null(), 0, null(), 0, 0), 1_000_000),
+            ("step", javendriky_step(null(), 0, null_mut(), 0, null(), 0, null(), 0, null_mut(), 0, 0), 1_000_000),
             ("test_yard", javendriky_test_yard(parents.as_ptr(), 1, null(), 0, zero.as_ptr(), 1), 2_000_000),
             ("plan", javendriky_plan(parents.as_ptr(), 1, one.as_ptr(), 1, one.as_ptr(), 1, null_mut(), 0), 0),
             ("demands", javendriky_demands(parents.as_ptr(), 1, one.as_ptr(), 1, one.as_ptr(), 1, null_mut(), 0), 2_000_000),
@@ -445,6 +454,8 @@ fn no_address(_: &Caller, _: Thin) -> Same<u64> {
             ("reach", javendriky_reach(parents.as_ptr(), 1, one.as_ptr(), 1, one.as_ptr(), 1, null_mut(), 0, 0, 0), 2_000_000),
             ("check", javendriky_check(parents.as_ptr(), 1, one.as_ptr(), 1, one.as_ptr(), 1, null(), 0), 0),
             ("excess", javendriky_excess(parents.as_ptr(), 1, one.as_ptr(), 1, one.as_ptr(), 1, null(), 0), 0),
+            ("step", javendriky_step(parents.as_ptr(), 1, pebbles.as_mut_ptr(), 1, one.as_ptr(), 1, null(), 0, null_mut(), 0, 0), 2_000_000),
+            ("step", javendriky_step(parents.as_ptr(), 1, pebbles.as_mut_ptr(), 1, one.as_ptr(), 1, null(), 0, block.as_mut_ptr(), 8, 0), 1),
             ("read_sheet", javendriky_read_sheet(null(), 0, null_mut(), 0, null_mut(), 0, null_mut(), 0), 18_000_000),
             ("write_sheet", javendriky_write_sheet(null(), 0, null(), 0, null(), 0, null_mut(), 0), 1_000_000),
             ("write_sheet", javendriky_write_sheet(parents.as_ptr(), 1, one.as_ptr(), 1, one.as_ptr(), 1, null_mut(), 0), 8_000_032),

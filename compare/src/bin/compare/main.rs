@@ -10,6 +10,7 @@ mod events;
 mod families;
 mod lent;
 mod sheets;
+mod steps;
 mod worked;
 
 use calls::{watch_pages, Caller, UNUSED_REFUSAL};

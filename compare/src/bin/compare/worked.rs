@@ -3,6 +3,7 @@
 
 use crate::calls::{Caller, Same};
 use std::fmt::Debug;
+use unrelated::cabinet::{self, Registers, Stepped};
 use unrelated::checker::{check, push, trial, Checked, Tried};
 use unrelated::distance::{nearest, reach, Nearest};
 use unrelated::event::{happen, Event, Kept};
@@ -82,6 +83,17 @@ impl Worked<'_> {
         self.is(name, reach(yard, length, node, within), expected.map(<[u8]>::to_vec))?;
         self.caller.reach(yard, length, node, within).map(drop)
     }
+
+    /// What a step leaves: pebbles, block and line.
+    fn step(&mut self, name: &str, yard: &Yard, plan: &[u8], block: &[u8], failed: u8, expected: Answer<(&[u8], [u8; 8], bool)>) -> Same {
+        let got = cabinet::step(yard, plan, block, failed != 0);
+        let left = expected.map(|(pebbles, block, _)| Stepped { pebbles: pebbles.to_vec(), registers: Registers::read(block) });
+        self.is(name, got, left)?;
+        if let Ok((_, block, line)) = expected {
+            self.is(&format!("{name}, line"), Registers::read(block).line(), line)?;
+        }
+        self.caller.step(yard, plan, block, failed).map(drop)
+    }
 }
 
 /// A list with each entry left out, and with each doubled.
@@ -151,6 +163,9 @@ pub fn worked(caller: &Caller) -> Same<u64> {
     distances_on_a(&mut w, &a)?;
     equally_near(&mut w)?;
     farthest(&mut w)?;
+    run_on_a(&mut w, &a, &a_plan)?;
+    registers_on_a(&mut w, &a, &a_plan)?;
+    steps_on_two(&mut w)?;
 
     // The table of refusals, with H among them.
     let two = |pebbles: &[u8], targets: &[u8]| yard(&[0, 0], pebbles, targets);
@@ -331,4 +346,125 @@ fn farthest(w: &mut Worked) -> Same {
         w.reach("all of 256 but one", &full, 256, 255, 254, Ok(&Vec::from_iter((0..256).map(|node| u8::from(node > 0)))))?;
     }
     Ok(())
+}
+
+/// Request 2.9 on yard A and its plan, from start to finish: each step is handed what the one before it left, but for the command. The third push fails.
+fn run_on_a(w: &mut Worked, a: &Yard, plan: &[u8]) -> Same {
+    let mut pebbles = a.pebbles.clone();
+    let mut block = [0, 0, 9, 8, 0, 0, 3, 0];
+    for (name, command, failed, pebbles_after, after, line) in [
+        ("idle", 0, 1, [0, 1, 0, 1, 0], [0, 0, 9, 8, 0, 0, 3, 0], false),
+        ("start", 1, 1, [0, 1, 0, 1, 0], [0, 1, 9, 8, 4, 0, 3, 0], false),
+        ("first move", 0, 0, [1, 0, 0, 1, 0], [0, 1, 1, 0, 3, 0, 3, 0], false),
+        ("second move", 0, 0, [0, 0, 1, 1, 0], [0, 1, 0, 2, 2, 0, 3, 0], false),
+        ("failed", 0, 255, [0, 0, 1, 1, 0], [0, 2, 0, 2, 2, 0, 3, 2], true),
+        ("stalled", 0, 0, [0, 0, 1, 1, 0], [0, 2, 0, 2, 2, 0, 3, 2], true),
+        ("acknowledged", 3, 1, [0, 0, 1, 1, 0], [0, 1, 0, 2, 2, 0, 3, 0], false),
+        ("third move", 0, 0, [0, 1, 1, 0, 0], [0, 1, 3, 1, 1, 0, 3, 0], false),
+        ("last move", 0, 0, [0, 0, 1, 0, 1], [0, 0, 1, 4, 0, 0, 3, 1], true),
+        ("finished", 0, 1, [0, 0, 1, 0, 1], [0, 0, 1, 4, 0, 0, 3, 1], true),
+        ("acknowledged when idle", 3, 0, [0, 0, 1, 0, 1], [0, 0, 1, 4, 0, 0, 3, 0], false),
+    ] {
+        block[0] = command;
+        w.step(&format!("A, {name}"), &yard(&a.parents, &pebbles, &a.targets), plan, &block, failed, Ok((&pebbles_after, after, line)))?;
+        (pebbles, block) = (pebbles_after.to_vec(), after);
+    }
+    Ok(())
+}
+
+/// Request 2.9 on yard A and its plan: single steps, most of which push nothing, and wrong blocks.
+fn registers_on_a(w: &mut Worked, a: &Yard, plan: &[u8]) -> Same {
+    for (name, block, after, line) in [
+        ("stop when running", [2, 1, 9, 8, 3, 0, 255, 0], [0, 0, 9, 8, 0, 0, 255, 0], false),
+        ("stop when stalled keeps the flag", [2, 2, 9, 8, 3, 0, 2, 2], [0, 0, 9, 8, 0, 0, 2, 2], true),
+        ("stop when idle", [2, 0, 9, 8, 3, 0, 0, 3], [0, 0, 9, 8, 0, 0, 0, 3], false),
+        ("acknowledge when running", [3, 1, 9, 8, 3, 0, 3, 3], [0, 1, 9, 8, 3, 0, 3, 0], false),
+        ("start keeps the flags, not the moves left", [1, 0, 9, 8, 3, 0, 1, 3], [0, 1, 9, 8, 4, 0, 1, 3], true),
+        ("idle with moves left", [0, 0, 9, 8, 3, 0, 254, 1], [0, 0, 9, 8, 3, 0, 254, 1], false),
+        ("the mask has other bits than the flags", [0, 0, 9, 8, 0, 0, 253, 2], [0, 0, 9, 8, 0, 0, 253, 2], false),
+    ] {
+        // Told with a command or while not running, a failure is ignored.
+        for failed in [0, 1] {
+            w.step(&format!("A, {name}"), a, plan, &block, failed, Ok((&a.pebbles, after, line)))?;
+        }
+    }
+    // The next move is counted from the end of the plan that is handed in: here the third.
+    let moved = [0, 1, 0, 0, 1];
+    w.step("A, a plan swapped", a, &[1, 0, 1, 0, 3, 1, 1, 4], &[0, 1, 9, 8, 2, 0, 0, 0], 0, refuse(13, 2))?;
+    w.step("A, another swapped", a, &[9, 9, 3, 4, 1, 4], &[0, 1, 9, 8, 1, 0, 0, 0], 0, Ok((&[0, 0, 0, 1, 1], [0, 0, 1, 4, 0, 0, 0, 1], false)))?;
+    w.step("A, its end missed", &yard(&a.parents, &moved, &a.targets), plan, &[0, 1, 9, 8, 1, 0, 0, 0], 0, refuse(13, 3))?;
+
+    // Each refusal before the next: a circle, a block of another length, the registers in their order, a start while not idle, the checker.
+    let circle = yard(&[0, 0, 0, 4, 3], &a.pebbles, &a.targets);
+    w.step("A, 6 before 2", &circle, plan, &[9; 9], 0, refuse(6, 3))?;
+    // As many bytes as registers once the high bytes are lost.
+    for length in [0, 7, 9, 16, 256 + 8, 65_536 + 8] {
+        w.step("A, 2 before 24", a, plan, &vec![9; length], 0, refuse(2, 0))?;
+    }
+    for (block, place) in [
+        ([4, 3, 9, 8, 5, 0, 0, 4], 0),
+        ([255, 0, 9, 8, 0, 0, 0, 0], 0),
+        ([3, 3, 9, 8, 5, 0, 0, 4], 1),
+        ([3, 255, 9, 8, 0, 0, 0, 4], 1),
+        ([3, 2, 9, 8, 5, 0, 0, 4], 4),
+        ([0, 1, 9, 8, 0, 0, 0, 4], 4),
+        ([0, 2, 9, 8, 0, 0, 0, 0], 4),
+        // Too many by the high byte alone.
+        ([0, 0, 9, 8, 0, 1, 0, 0], 4),
+        ([0, 1, 9, 8, 4, 1, 0, 0], 4),
+        // Also before a stop, which would put it right, and before 25.
+        ([2, 1, 9, 8, 5, 0, 0, 0], 4),
+        ([1, 0, 9, 8, 5, 0, 0, 0], 4),
+        ([1, 1, 9, 8, 5, 0, 0, 0], 4),
+        ([1, 1, 9, 8, 4, 0, 0, 4], 7),
+        ([3, 2, 9, 8, 4, 0, 0, 255], 7),
+    ] {
+        w.step("A, refusal 24", a, plan, &block, 0, refuse(24, place))?;
+    }
+    for status in [1, 2] {
+        w.step("A, 25 before 9", a, &[plan, &[0]].concat(), &[1, status, 9, 8, 4, 0, 0, 3], 0, refuse(25, 0))?;
+    }
+    Ok(())
+}
+
+/// Request 2.9 on two nodes: what the checker refuses, and what a running step does.
+fn steps_on_two(w: &mut Worked) -> Same {
+    let two = |pebbles: &[u8], targets: &[u8]| yard(&[0, 0], pebbles, targets);
+    let start = |mask: u8| [1, 0, 9, 8, 0, 0, mask, 2];
+    let running = |left: u8| [0, 1, 9, 8, left, 0, 0, 0];
+    let (there, home) = (two(&[1, 0], &[0, 1]), two(&[1, 0], &[1, 0]));
+    w.step("an empty plan finishes", &home, &[], &start(1), 0, Ok((&[1, 0], [0, 0, 9, 8, 0, 0, 1, 3], true)))?;
+    w.step("an empty plan finishes unseen", &home, &[], &start(4), 0, Ok((&[1, 0], [0, 0, 9, 8, 0, 0, 4, 3], false)))?;
+    w.step("start, 7 before 9", &two(&[1, 0], &[1, 1]), &[0, 1, 1], &start(0), 0, refuse(7, 0))?;
+    w.step("start, 9 before 10", &there, &[2, 0, 1], &start(0), 0, refuse(9, 0))?;
+    w.step("start, 10", &there, &[0, 1, 1, 2], &start(0), 0, refuse(10, 1))?;
+    w.step("start, 11", &there, &[0, 1, 1, 1], &start(0), 0, refuse(11, 1))?;
+    w.step("start, 12", &there, &[0, 1, 0, 1], &start(0), 0, refuse(12, 1))?;
+    w.step("start, 13", &two(&[1, 1], &[1, 1]), &[0, 1], &start(0), 0, refuse(13, 0))?;
+    w.step("start, 14", &there, &[0, 1, 1, 0], &start(0), 0, refuse(14, 1))?;
+
+    // Each flag is set beside the other.
+    w.step("stalled, had finished", &there, &[0, 1], &[0, 1, 9, 8, 1, 0, 2, 1], 1, Ok((&[1, 0], [0, 2, 9, 8, 1, 0, 2, 3], true)))?;
+    w.step("finished, had stalled", &there, &[0, 1], &[0, 1, 9, 8, 1, 0, 0, 2], 0, Ok((&[0, 1], [0, 0, 0, 1, 0, 0, 0, 3], false)))?;
+
+    // A running step looks at its own move alone, not at those before and behind it, nor at the targets.
+    w.step("running, others not", &two(&[1, 0], &[1, 1]), &[9, 9, 0, 1, 9, 9], &running(2), 0, Ok((&[0, 1], [0, 1, 0, 1, 1, 0, 0, 0], false)))?;
+    for failed in [0, 1] {
+        w.step("running, 9 before 10", &there, &[0, 1, 2, 0, 1], &running(1), failed, refuse(9, 0))?;
+        w.step("running, 10", &there, &[0, 1, 1, 2], &running(1), failed, refuse(10, 1))?;
+        w.step("running, 11", &there, &[0, 1, 1, 1], &running(1), failed, refuse(11, 1))?;
+        w.step("running, 12", &there, &[0, 1, 1, 0], &running(1), failed, refuse(12, 1))?;
+        w.step("running, 13", &two(&[1, 1], &[1, 1]), &[0, 1, 0, 1], &running(1), failed, refuse(13, 1))?;
+    }
+    // Of an odd plan the other steps see the whole moves only. With more than 65,535 of them any moves left are within the plan.
+    let long = vec![0; 131_076];
+    for plan in [&[0, 1, 1][..], &long] {
+        let left = if plan.len() == 3 { 1 } else { 5 };
+        w.step("idle, no 9", &there, plan, &[0, 0, 9, 8, left, 0, 0, 0], 1, Ok((&[1, 0], [0, 0, 9, 8, left, 0, 0, 0], false)))?;
+        w.step("stalled, no 9", &there, plan, &[0, 2, 9, 8, left, 0, 0, 0], 1, Ok((&[1, 0], [0, 2, 9, 8, left, 0, 0, 0], false)))?;
+        w.step("stop, no 9", &there, plan, &[2, 1, 9, 8, left, 0, 0, 0], 1, Ok((&[1, 0], [0, 0, 9, 8, 0, 0, 0, 0], false)))?;
+        w.step("acknowledge, no 9", &there, plan, &[3, 2, 9, 8, left, 0, 0, 2], 1, Ok((&[1, 0], [0, 1, 9, 8, left, 0, 0, 0], false)))?;
+        w.step("running, 9", &there, plan, &running(left), 0, refuse(9, 0))?;
+    }
+    w.step("24 by whole moves", &there, &[0, 1, 1], &[0, 0, 9, 8, 2, 0, 0, 0], 0, refuse(24, 4))
 }

@@ -76,6 +76,12 @@ enum-told-8 c = search needs
 enum-known-r-14 : tie.Need-enum-known-r-14
 enum-known-r-14 c = search needs
 
+enum-known-r-15 : tie.Need-enum-known-r-15
+enum-known-r-15 c = search needs
+
+enum-told-9 : tie.Need-enum-told-9
+enum-told-9 c = search needs
+
 returns : tie.Need-returns
 returns c = sym (ap told (c .before .r .given .1))
 
@@ -142,6 +148,12 @@ returns-21 c = sym (ap told (c .enum-told8 .given .1))
 returns-22 : tie.Need-returns-22
 returns-22 c = sym (ap told (c .before .r14 .given .1))
 
+returns-23 : tie.Need-returns-23
+returns-23 c = sym (ap told (c .before .r15 .given .1))
+
+returns-24 : tie.Need-returns-24
+returns-24 c = sym (ap told (c .enum-told9 .given .1))
+
 pub place-spec : {M : Type 1} → statement M
 place-spec =
     tie.close
@@ -168,6 +180,8 @@ place-spec =
     enum-told-7
     enum-told-8
     enum-known-r-14
+    enum-known-r-15
+    enum-told-9
     returns
     returns-2
     returns-3
@@ -189,4 +203,6 @@ place-spec =
     returns-19
     returns-20
     returns-21
-    returns-22)
+    returns-22
+    returns-23
+    returns-24)

@@ -1,0 +1,110 @@
+-- The block's eight stores; the next move by its two bytes, and what a step is told of it; the tests of a step, and what an accepted one leaves.
+use mathlib.Core.Path.{_≡_, refl, sym, ap, _∙_}
+use mathlib.Core.Bool.{Bool, not, _&&_, _||_}
+use mathlib.Core.List.{List, [], _∷_}
+use mathlib.Core.Option.{Option, none, some}
+use Prim.Native.Nat.{ℕ, zero, suc, _+_, _-_, _*_, _/_, _≤_, _<_}
+use native.Mathlib.Omega.{arith}
+use lib.ListN.{length, getD, set, List·getD-eq-default}
+use lib.Dec.{leb, ltb, eqb}
+use borrow.Author.Tests.{lt-ltb, ne-eqb}
+use Rattle.model.specs.declared.Registers.{Registers}
+use Rattle.model.specs.Yard.{Yard, yardOf}
+use Rattle.model.specs.Judge.{Fault, firstOf}
+use Rattle.model.specs.Push.{Move, push, moveFault}
+use Rattle.model.specs.Calls.Plans.{movesOf}
+use Rattle.model.specs.Calls.Checks.{bytesFault}
+use Rattle.model.specs.Calls.Answers.{Answer, answered, refused}
+use Rattle.model.specs.Calls.Registers.{idle, blockOf, registersOf, wholeMoves, nextNumber, nextMove, nextTests, stepFault, pebblesThen, stepped}
+use Rattle.model.proofs.Basics.{single}
+use Rattle.model.proofs.Calls.{movesOf-half, moves-half, move-at}
+use Rattle.model.proofs.Sheets.{Bytes}
+use Rattle.model.proofs.Blocks.{stepped-refused, stepped-line, stepped-block, stepped-pebbles}
+use Rattle.model.proofs.Cabinet.{then-held}
+use Rattle.cabinet.specs.declared.registers.Told.{Told}
+use Rattle.cabinet.specs.declared.registers.After.{After}
+use Rattle.cabinet.specs.Step.{toldOf, afterOf}
+
+-- eight stores into a list of eight leave the eight values
+pub eight : (xs : List ℕ) (a b c d e f g h : ℕ) → length xs ≡ 8
+    → set (set (set (set (set (set (set (set xs 0 a) 1 b) 2 c) 3 d) 4 e) 5 f) 6 g) 7 h ≡ a ∷ b ∷ c ∷ d ∷ e ∷ f ∷ g ∷ h ∷ []
+eight (_ ∷ _ ∷ _ ∷ _ ∷ _ ∷ _ ∷ _ ∷ _ ∷ []) a b c d e f g h l = refl
+eight (_ ∷ _ ∷ _ ∷ _ ∷ _ ∷ _ ∷ _ ∷ _ ∷ _ ∷ xs) a b c d e f g h l = absurd (omega (arith, l))
+eight [] a b c d e f g h l = absurd (omega (arith, l))
+eight (_ ∷ []) a b c d e f g h l = absurd (omega (arith, l))
+eight (_ ∷ _ ∷ []) a b c d e f g h l = absurd (omega (arith, l))
+eight (_ ∷ _ ∷ _ ∷ []) a b c d e f g h l = absurd (omega (arith, l))
+eight (_ ∷ _ ∷ _ ∷ _ ∷ []) a b c d e f g h l = absurd (omega (arith, l))
+eight (_ ∷ _ ∷ _ ∷ _ ∷ _ ∷ []) a b c d e f g h l = absurd (omega (arith, l))
+eight (_ ∷ _ ∷ _ ∷ _ ∷ _ ∷ _ ∷ []) a b c d e f g h l = absurd (omega (arith, l))
+eight (_ ∷ _ ∷ _ ∷ _ ∷ _ ∷ _ ∷ _ ∷ []) a b c d e f g h l = absurd (omega (arith, l))
+
+-- the next move
+module _ (bs : List ℕ) (r : Registers) where
+  pub number : length bs / 2 - r .left ≡ nextNumber bs r
+  number = ap (λ (n : ℕ). n - r .left) (moves-half bs)
+
+  pub next-lt : 0 < r .left → r .left ≤ wholeMoves bs → 2 * (length bs / 2 - r .left) + 1 < length bs
+  next-lt h l = omega (arith, moves-half bs, movesOf-half bs)
+
+  pub next-is : 0 < r .left → r .left ≤ wholeMoves bs → push (getD bs (2 * (length bs / 2 - r .left)) 0) (getD bs (2 * (length bs / 2 - r .left) + 1) 0) ≡ nextMove bs r
+  next-is h l = sym (move-at bs (length bs / 2 - r .left) (next-lt h l)) ∙ ap (λ (i : ℕ). getD (movesOf bs) i (push 0 0)) number
+
+  no-next : r .left ≡ 0 → push 0 0 ≡ nextMove bs r
+  no-next z = sym (List·getD-eq-default (movesOf bs) (push 0 0) (omega (arith, z)))
+
+  -- what a step is told
+  abbrev told : ℕ → Move → Bool → Told
+  told n m failed = record { moves = n; from = m .from; to = m .to; failed = failed }
+
+  module _ (failed : Bool) where
+    by-move : (m : Move) → m ≡ nextMove bs r → told (length bs / 2) m failed ≡ toldOf bs r failed
+    by-move m e = ap (λ (n : ℕ). told n m failed) (moves-half bs) ∙ ap (λ (m : Move). told (wholeMoves bs) m failed) e
+
+    pub told-none : r .left ≡ 0 → told (length bs / 2) (push 0 0) failed ≡ toldOf bs r failed
+    told-none z = by-move (push 0 0) (no-next z)
+
+    pub told-next : 0 < r .left → r .left ≤ wholeMoves bs
+        → told (length bs / 2) (push (getD bs (2 * (length bs / 2 - r .left)) 0) (getD bs (2 * (length bs / 2 - r .left) + 1) 0)) failed ≡ toldOf bs r failed
+    told-next h l = by-move _ (next-is h l)
+
+-- none is left exactly if not one is
+pub none-left : (n : ℕ) → eqb n 0 ≡ not (ltb 0 n)
+none-left zero = refl
+none-left (suc n) = rw (ne-eqb (suc n) 0 (λ e. omega (arith, e)), lt-ltb 0 (suc n) (omega arith))
+
+-- the test of the moves left, as the definition has it
+abbrev pub leftRight : ℕ → Registers → Bool
+leftRight moves r = (leb (r .left) moves) && ((eqb (r .status) idle) || (ltb 0 (r .left)))
+
+-- past 9, a running step with command 0 is refused as its move is
+pub next-tests : (y : Yard) (bs : List ℕ) (r : Registers) (m : Move) (i : ℕ) {a : Option Fault} → bytesFault bs ≡ none → m ≡ nextMove bs r → i ≡ nextNumber bs r
+    → a ≡ moveFault (yardOf (y .parents) (y .pebbles) []) m i → a ≡ firstOf (nextTests y bs r)
+unfolding moveFault
+next-tests y bs r m i p e n k =
+    k ∙ ap (λ (m : Move). moveFault y m i) e ∙ ap (moveFault y (nextMove bs r)) n ∙ sym (single (moveFault y (nextMove bs r) (nextNumber bs r))) ∙ rw p
+
+-- what the call answers and leaves, refused and accepted
+module _ (y : Yard) (bs block : List ℕ) (failed : Bool) where
+  abbrev Left : Answer Bool → List ℕ → List ℕ → Type 0
+  Left line now pebbles = (line ≡ stepped y bs block failed .line) × ((now ≡ stepped y bs block failed .block) × (pebbles ≡ stepped y bs block failed .pebbles))
+
+  pub left-refused : {f : Fault} → stepFault y bs block ≡ some f → Left (refused f) block (y .pebbles)
+  left-refused {f} e = rw (stepped-refused y bs block failed f e) (refl, (refl, refl))
+
+  pub left-accepted : stepFault y bs block ≡ none → (r : Registers) (t : Told) (s : After) {now pebbles : List ℕ} → r ≡ registersOf block → t ≡ toldOf bs r failed → s ≡ afterOf r t
+      → now ≡ blockOf (s .next) → pebbles ≡ pebblesThen y (push (t .from) (t .to)) (t .failed) r → Left (answered (s .raised)) now pebbles
+  unfolding afterOf
+  left-accepted e r t s p q a n k =
+      let all : s ≡ afterOf (registersOf block) (toldOf bs (registersOf block) failed) = a ∙ ap (afterOf r) q ∙ ap (λ (r : Registers). afterOf r (toldOf bs r failed)) p in (
+        ap (λ (s : After). answered (s .raised)) all ∙ sym (stepped-line y bs block failed e),
+        (
+          n ∙ ap (λ (s : After). blockOf (s .next)) all ∙ sym (stepped-block y bs block failed e),
+          k ∙ ap (λ (t : Told). pebblesThen y (push (t .from) (t .to)) (t .failed) r) q ∙ ap (λ (r : Registers). pebblesThen y (nextMove bs r) failed r) p ∙ sym (stepped-pebbles y bs block failed e),
+        ),
+      )
+
+  -- the moves left then fit two bytes
+  pub left-fits : stepFault y bs block ≡ none → Bytes block → Bytes bs → (r : Registers) (t : Told) (s : After) → r ≡ registersOf block → t ≡ toldOf bs r failed → s ≡ afterOf r t → s .next .left < 65_536
+  unfolding afterOf
+  left-fits e b c r t s p q a = rw (a, q, p) (then-held y bs block failed e b c .2)

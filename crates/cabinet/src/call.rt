@@ -1,0 +1,88 @@
+// The cabinet's call.
+ghost use mathlib.Core.Path.{_≡_};
+ghost use Prim.Native.Nat.{_≤_};
+ghost use Rattle.model.specs.Given.{given, handed, was, became};
+ghost use Rattle.model.specs.Judge.{Tree};
+ghost use Rattle.model.specs.Push.{push};
+ghost use Rattle.model.specs.Calls.Registers as Call;
+ghost use Rattle.model.specs.Calls.Registers.{wholeMoves, pebblesThen};
+ghost use Rattle.model.specs.Paper.{paperSignalled};
+ghost use Rattle.cabinet.specs.Step.{toldOf};
+use crate::block::load;
+use crate::block::store;
+use crate::registers::Told;
+use crate::registers::lend;
+use crate::test::test_step;
+use model::Done;
+use model::Registers;
+use model::Signalled;
+use yard::step::step;
+
+// What a step is told of the plan: its whole moves and the next of them, of which one is left at least; else any.
+fn tell(plan: &[u8], r: Registers, failed: bool) -> Told
+    requires { ⌜ r .left ≤ wholeMoves (now plan) ⌝ }
+    ensures { λ told. ⌜ told ≡ toldOf (was plan) r failed ⌝ }
+{
+    let moves = plan.len() / 2;
+    if r.left == 0 {
+        return Told {
+            moves,
+            from: 0,
+            to: 0,
+            failed,
+        };
+    }
+    let i = moves - r.left;
+    Told {
+        moves,
+        from: plan[2 * i],
+        to: plan[2 * i + 1],
+        failed,
+    }
+}
+
+// The push of a running step with command 0, unless its pebble failed to arrive.
+fn push_next(parents: &[u8], pebbles: &mut [u8], targets: &[u8], r: Registers, told: Told)
+    requires { ⌜ Tree (handed parents pebbles targets) ⌝ }
+    ensures { λ _. ⌜ became pebbles ≡ pebblesThen (given parents pebbles targets) (push (told .from) (told .to)) (told .failed) r ⌝ }
+{
+    if r.command != 0 {
+        return;
+    }
+    if r.status != 1 {
+        return;
+    }
+    if told.failed {
+        return;
+    }
+    step(parents, pebbles, told.from as usize, told.to as usize, 0);
+}
+
+// A step of the cabinet: obeys the command in the block, or where it runs without one the plan's next move. Answers whether the line is raised. Refusals 1 to
+// 6; 2 for a block of another length; 24, 25; a start as the checker, a running step with command 0 by 9 and 10 to 13. A refusal alters nothing. Linear work.
+pub fn step_block(
+    parents: &[u8],
+    pebbles: &mut [u8],
+    targets: &[u8],
+    plan: &[u8],
+    block: &mut [u8],
+    failed: bool,
+) -> Signalled
+    ensures { λ r. ⌜ paperSignalled r ≡ Call.stepped (given parents pebbles targets) (was plan) (was block) failed .line ⌝ }
+    ensures { λ _. ⌜ became block ≡ Call.stepped (given parents pebbles targets) (was plan) (was block) failed .block ⌝ }
+    ensures { λ _. ⌜ became pebbles ≡ Call.stepped (given parents pebbles targets) (was plan) (was block) failed .pebbles ⌝ }
+{
+    let tested = test_step(parents, pebbles, targets, plan, block);
+    if let Done::Refused(r) = tested {
+        return Signalled::Refused(r);
+    }
+    let r = load(block);
+    let told = tell(plan, r, failed);
+    push_next(parents, pebbles, targets, r, told);
+    let s = lend(r, told);
+    store(block, s.next);
+    if s.raised {
+        return Signalled::Raised;
+    }
+    Signalled::Quiet
+}
