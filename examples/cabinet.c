@@ -8,8 +8,8 @@
 
 #include "javendriky.h"
 
-static uint8_t sheet[4200]; /* more than JAVENDRIKY_MAX_SHEET_BYTES: the rest of a longer input changes no answer */
-static uint8_t parents[JAVENDRIKY_MAX_NODES], pebbles[JAVENDRIKY_MAX_NODES], targets[JAVENDRIKY_MAX_NODES];
+static uint8_t sheet[5200]; /* more than JAVENDRIKY_MAX_SHEET_BYTES: the rest of a longer input changes no answer */
+static uint8_t parents[JAVENDRIKY_MAX_NODES], pebbles[JAVENDRIKY_MAX_NODES], targets[JAVENDRIKY_MAX_NODES], depths[JAVENDRIKY_MAX_NODES];
 static uint8_t start[JAVENDRIKY_MAX_NODES], before[JAVENDRIKY_MAX_NODES];
 static uint8_t registers[JAVENDRIKY_BLOCK_BYTES];
 static uint8_t plan[JAVENDRIKY_LONGEST_PLAN_BYTES], again[JAVENDRIKY_LONGEST_PLAN_BYTES];
@@ -39,7 +39,7 @@ static void expect(const char *what, int holds)
 static int step(uint32_t n, uint32_t moves, uint8_t command, uint8_t failed)
 {
     registers[JAVENDRIKY_REGISTER_COMMAND] = command;
-    return accepted(javendriky_step(parents, n, pebbles, n, targets, n, plan, 2 * moves, registers, sizeof registers, failed)) == 1;
+    return accepted(javendriky_step(parents, n, pebbles, n, targets, n, depths, n, plan, 2 * moves, registers, sizeof registers, failed)) == 1;
 }
 
 static int is(uint8_t status, uint8_t flags)
@@ -107,7 +107,7 @@ static void too_short(uint32_t n, uint32_t moves)
 {
     uint32_t answer;
     memset(again, 0, sizeof again);
-    answer = javendriky_plan(parents, n, start, n, targets, n, again, 2 * moves - 1);
+    answer = javendriky_plan(parents, n, start, n, targets, n, depths, n, again, 2 * moves - 1);
     expect("a short list is refusal 8", JAVENDRIKY_REFUSAL(answer) == JAVENDRIKY_LIST_TOO_SHORT);
     expect("its place is the moves needed", JAVENDRIKY_PLACE(answer) == moves);
     expect("it is left as it was", again[0] == 0 && memcmp(again, again + 1, sizeof again - 1) == 0);
@@ -131,22 +131,22 @@ int main(void)
     same_version();
     bytes = fread(sheet, 1, sizeof sheet, stdin);
     expect("standard input can be read", !ferror(stdin));
-    n = accepted(javendriky_read_sheet(sheet, bytes, parents, sizeof parents, pebbles, sizeof pebbles, targets, sizeof targets));
+    n = accepted(javendriky_read_sheet(sheet, bytes, parents, sizeof parents, pebbles, sizeof pebbles, targets, sizeof targets, depths, sizeof depths));
     /* The bytes of the plan are known before it is made: a cabinet with little memory lends just those. */
-    moves = accepted(javendriky_length_bound(parents, n, pebbles, n, targets, n, &needed));
+    moves = accepted(javendriky_length_bound(parents, n, pebbles, n, targets, n, depths, n, &needed));
     expect("no plan is longer", moves <= javendriky_longest_plan(n) && needed <= sizeof plan);
-    expect("the plan is as long as told", javendriky_plan(parents, n, pebbles, n, targets, n, plan, needed) == moves);
-    expect("the checker accepts the plan", javendriky_check(parents, n, pebbles, n, targets, n, plan, 2 * moves) == 0);
-    expect("no move is spare", javendriky_excess(parents, n, pebbles, n, targets, n, plan, 2 * moves) == 0);
+    expect("the plan is as long as told", javendriky_plan(parents, n, pebbles, n, targets, n, depths, n, plan, needed) == moves);
+    expect("the checker accepts the plan", javendriky_check(parents, n, pebbles, n, targets, n, depths, n, plan, 2 * moves) == 0);
+    expect("no move is spare", javendriky_excess(parents, n, pebbles, n, targets, n, depths, n, plan, 2 * moves) == 0);
 
-    accepted(javendriky_demands(parents, n, pebbles, n, targets, n, demands, n));
+    accepted(javendriky_demands(parents, n, pebbles, n, targets, n, depths, n, demands, n));
 
     memcpy(start, pebbles, n);
     puts("from to");
     drive(n, moves);
     report(n, moves);
-    expect("the pebbles are on the targets", memcmp(pebbles, targets, n) == 0);
-    expect("there is nothing left to do", javendriky_plan(parents, n, pebbles, n, targets, n, plan, 0) == 0);
+    expect("each node holds as many pebbles as its target count", memcmp(pebbles, targets, n) == 0);
+    expect("there is nothing left to do", javendriky_plan(parents, n, pebbles, n, targets, n, depths, n, plan, 0) == 0);
     if (moves > 0)
         too_short(n, moves);
     return 0;

@@ -1,19 +1,19 @@
 /* A keeper's console in small, for the hours of loading: reads the yard sheet that is its argument, works its demands out once, and brings them up to date
- * with each event from standard input, a line each: `arrives 4`, `leaves 3`, `set 0`, `cleared 2`. Prints each event with the demands after it, or with its
- * refusal and place and a sentence, after which everything is as before; at the end the yard sheet as it then is. `restart` goes on with the demands of the
- * start, as a console would that is started again in the middle: events are refused with 23 then, until `afresh` works them out anew. Status 1 if the yard is
- * refused, 2 if the library is not the header's or did not keep to it, or if the input could not be read. */
+ * with each event from standard input, a line each, of one car or one target: `arrives 4`, `leaves 3`, `set 0`, `cleared 2`. Prints each event with the demands
+ * after it, or with its refusal and place and a sentence, after which everything is as before; at the end the yard sheet as it then is. `restart` goes on with
+ * the demands of the start, as a console would that is started again in the middle: events are refused with 23 then, until `afresh` works them out anew. Status
+ * 1 if the yard is refused, 2 if the library is not the header's or did not keep to it, or if the input could not be read. */
 #include <stdio.h>
 #include <stdlib.h>
 #include <string.h>
 
 #include "javendriky.h"
 
-static uint8_t sheet[4200]; /* more than JAVENDRIKY_MAX_SHEET_BYTES: the rest of a longer sheet changes no answer */
-static uint8_t parents[JAVENDRIKY_MAX_NODES], pebbles[JAVENDRIKY_MAX_NODES], targets[JAVENDRIKY_MAX_NODES];
+static uint8_t sheet[5200]; /* more than JAVENDRIKY_MAX_SHEET_BYTES: the rest of a longer sheet changes no answer */
+static uint8_t parents[JAVENDRIKY_MAX_NODES], pebbles[JAVENDRIKY_MAX_NODES], targets[JAVENDRIKY_MAX_NODES], depths[JAVENDRIKY_MAX_NODES];
 static int16_t demands[JAVENDRIKY_MAX_NODES], afresh[JAVENDRIKY_MAX_NODES], at_start[JAVENDRIKY_MAX_NODES];
 
-typedef uint32_t event_call(const uint8_t *, size_t, uint8_t *, size_t, uint8_t *, size_t, int16_t *, size_t, size_t);
+typedef uint32_t event_call(const uint8_t *, size_t, uint8_t *, size_t, uint8_t *, size_t, const uint8_t *, size_t, int16_t *, size_t, size_t);
 
 static event_call *named(const char *word)
 {
@@ -43,7 +43,7 @@ static uint32_t accepted(uint32_t answer)
 /* After an accepted event the list is the one worked out afresh. */
 static void hold_to_the_yard(uint32_t n)
 {
-    accepted(javendriky_demands(parents, n, pebbles, n, targets, n, afresh, n));
+    accepted(javendriky_demands(parents, n, pebbles, n, targets, n, depths, n, afresh, n));
     if (memcmp(demands, afresh, n * sizeof demands[0]) != 0)
         stop(2, "the demands are not those of the yard");
 }
@@ -72,8 +72,8 @@ int main(int count, char **arguments)
     if (ferror(file))
         stop(2, "the yard sheet could not be read");
     fclose(file);
-    n = accepted(javendriky_read_sheet(sheet, bytes, parents, sizeof parents, pebbles, sizeof pebbles, targets, sizeof targets));
-    accepted(javendriky_demands(parents, n, pebbles, n, targets, n, demands, n));
+    n = accepted(javendriky_read_sheet(sheet, bytes, parents, sizeof parents, pebbles, sizeof pebbles, targets, sizeof targets, depths, sizeof depths));
+    accepted(javendriky_demands(parents, n, pebbles, n, targets, n, depths, n, demands, n));
     memcpy(at_start, demands, sizeof demands);
     printf("at the start:");
     print_demands(n);
@@ -84,14 +84,14 @@ int main(int count, char **arguments)
             if (word[0] == 'r')
                 memcpy(demands, at_start, sizeof demands);
             else
-                accepted(javendriky_demands(parents, n, pebbles, n, targets, n, demands, n));
+                accepted(javendriky_demands(parents, n, pebbles, n, targets, n, depths, n, demands, n));
             printf("%s:", word);
             print_demands(n);
             continue;
         }
         if (call == NULL || scanf("%lu", &node) != 1)
             stop(2, "an event is `arrives`, `leaves`, `set` or `cleared`, and a berth");
-        answer = call(parents, n, pebbles, n, targets, n, demands, n, node);
+        answer = call(parents, n, pebbles, n, targets, n, depths, n, demands, n, node);
         printf("%s %lu:", word, node);
         if (JAVENDRIKY_REFUSAL(answer) == 0)
             hold_to_the_yard(n);
@@ -102,7 +102,7 @@ int main(int count, char **arguments)
     if (!feof(stdin))
         stop(2, "the events could not be read");
 
-    bytes = accepted(javendriky_write_sheet(parents, n, pebbles, n, targets, n, sheet, sizeof sheet));
+    bytes = accepted(javendriky_write_sheet(parents, n, pebbles, n, targets, n, depths, n, sheet, sizeof sheet));
     fwrite(sheet, 1, bytes, stdout);
     return 0;
 }

@@ -1,13 +1,14 @@
 /* For a keeper at a berth: reads the yard sheet that is its first argument, and tells of the berth that is its second which car is nearest, and which are at most
- * so many tracks away as its third says. A refusal is told with its place and a sentence. Status 1 if one of the two is refused, 2 if the library is not the
- * header's, or if the input could not be read. */
+ * so many tracks away as its third says: how many cars, and which berths hold them, as one can hold several. A refusal is told with its place and a sentence.
+ * Status 1 if one of the two is refused, 2 if the library is not the header's, or if the input could not be read. */
 #include <stdio.h>
 #include <stdlib.h>
 
 #include "javendriky.h"
 
-static uint8_t sheet[4200]; /* more than JAVENDRIKY_MAX_SHEET_BYTES: the rest of a longer sheet changes no answer */
-static uint8_t parents[JAVENDRIKY_MAX_NODES], pebbles[JAVENDRIKY_MAX_NODES], targets[JAVENDRIKY_MAX_NODES], within[JAVENDRIKY_MAX_NODES];
+static uint8_t sheet[5200]; /* more than JAVENDRIKY_MAX_SHEET_BYTES: the rest of a longer sheet changes no answer */
+static uint8_t parents[JAVENDRIKY_MAX_NODES], pebbles[JAVENDRIKY_MAX_NODES], targets[JAVENDRIKY_MAX_NODES], depths[JAVENDRIKY_MAX_NODES];
+static uint8_t within[JAVENDRIKY_MAX_NODES];
 
 static void stop(int status, const char *what)
 {
@@ -38,7 +39,7 @@ static unsigned long number(const char *word, unsigned long greatest)
 int main(int count, char **arguments)
 {
     unsigned long berth, tracks;
-    uint32_t n, node, distance, cars;
+    uint32_t n, node, distance, berths, cars = 0;
     size_t bytes;
     FILE *file;
 
@@ -53,11 +54,14 @@ int main(int count, char **arguments)
     berth = number(arguments[2], (unsigned long)-1);
     tracks = number(arguments[3], UINT16_MAX);
 
-    n = accepted(javendriky_read_sheet(sheet, bytes, parents, sizeof parents, pebbles, sizeof pebbles, targets, sizeof targets));
-    node = accepted(javendriky_nearest(parents, n, pebbles, n, targets, n, berth, &distance));
+    n = accepted(javendriky_read_sheet(sheet, bytes, parents, sizeof parents, pebbles, sizeof pebbles, targets, sizeof targets, depths, sizeof depths));
+    node = accepted(javendriky_nearest(parents, n, pebbles, n, targets, n, depths, n, berth, &distance));
     printf("nearest car: berth %u, tracks %u\n", (unsigned)node, (unsigned)distance);
-    cars = accepted(javendriky_reach(parents, n, pebbles, n, targets, n, within, n, berth, (uint16_t)tracks));
-    printf("cars within reach: %u, berths", (unsigned)cars);
+    berths = accepted(javendriky_reach(parents, n, pebbles, n, targets, n, depths, n, within, n, berth, (uint16_t)tracks));
+    for (node = 0; node < n; node++)
+        if (within[node] == 1)
+            cars += pebbles[node];
+    printf("cars within reach: %u, berths that hold them (%u):", (unsigned)cars, (unsigned)berths);
     for (node = 0; node < n; node++)
         if (within[node] == 1)
             printf(" %u", (unsigned)node);

@@ -1,10 +1,10 @@
-//! The pusher cabinet (request 2.9): its registers, and a step of it on a yard and a plan.
+//! The pusher cabinet (requests 2.9 and 2.10): its registers, and a step of it on a yard and a plan.
 
 use crate::checker::{check, judge_plan_length, push};
 use crate::yard::{judge, refuse, Answer, Refusal, Yard};
 
 /// The bytes of a register block.
-pub const BLOCK_BYTES: usize = 8;
+pub const BLOCK_BYTES: usize = 9;
 
 /// What the command register can hold.
 pub mod command {
@@ -35,19 +35,22 @@ pub struct Registers {
     pub status: u8,
     pub from: u8,
     pub to: u8,
-    pub left: u16,
+    /// Of its four bytes the block has the three low ones.
+    pub left: u32,
     pub mask: u8,
     pub flags: u8,
 }
 
 impl Registers {
     pub fn read(block: [u8; BLOCK_BYTES]) -> Registers {
-        let [command, status, from, to, low, high, mask, flags] = block;
-        Registers { command, status, from, to, left: u16::from(low) + 256 * u16::from(high), mask, flags }
+        let [command, status, from, to, low, middle, high, mask, flags] = block;
+        let left = u32::from(low) + 256 * u32::from(middle) + 65_536 * u32::from(high);
+        Registers { command, status, from, to, left, mask, flags }
     }
 
     pub fn block(self) -> [u8; BLOCK_BYTES] {
-        [self.command, self.status, self.from, self.to, (self.left % 256) as u8, (self.left / 256) as u8, self.mask, self.flags]
+        let [low, middle, high] = [1, 256, 65_536].map(|unit| (self.left / unit % 256) as u8);
+        [self.command, self.status, self.from, self.to, low, middle, high, self.mask, self.flags]
     }
 
     /// Whether the line is raised.
@@ -57,12 +60,12 @@ impl Registers {
 
     /// The lowest register that holds what it cannot beside a plan of so many whole moves.
     fn wrong(self, moves: usize) -> Option<usize> {
-        let left = usize::from(self.left);
+        let left = self.left as usize;
         let registers = [
             (0, self.command > command::ACKNOWLEDGE),
             (1, self.status > status::STALLED),
             (4, left > moves || (left == 0 && self.status != status::IDLE)),
-            (7, self.flags > flag::BOTH),
+            (8, self.flags > flag::BOTH),
         ];
         registers.into_iter().find(|(_, wrong)| *wrong).map(|(place, _)| place)
     }
@@ -74,7 +77,7 @@ impl Registers {
     }
 }
 
-/// What an accepted step leaves: the pebble marks and the registers.
+/// What an accepted step leaves: the pebbles and the registers.
 #[derive(Clone, Debug, PartialEq, Eq)]
 pub struct Stepped {
     pub pebbles: Vec<u8>,
@@ -98,7 +101,7 @@ pub fn step(yard: &Yard, plan: &[u8], block: &[u8], failed: bool) -> Answer<Step
         (command::START, status::IDLE) => {
             check(yard, plan)?;
             registers.status = status::RUNNING;
-            registers.left = moves as u16;
+            registers.left = moves as u32;
             if moves == 0 {
                 registers.finish();
             }
@@ -116,7 +119,7 @@ pub fn step(yard: &Yard, plan: &[u8], block: &[u8], failed: bool) -> Answer<Step
         }
         (command::NONE, status::RUNNING) => {
             judge_plan_length(plan)?;
-            let place = moves - usize::from(before.left);
+            let place = moves - before.left as usize;
             let (from, to) = (plan[2 * place], plan[2 * place + 1]);
             // A move that cannot be obeyed is refused even if its pebble did not arrive.
             let pushed = push(yard, usize::from(from), usize::from(to)).map_err(|refusal| Refusal { place: place as u32, ..refusal })?;

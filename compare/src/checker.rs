@@ -3,8 +3,8 @@
 use crate::figures::shortest_length;
 use crate::yard::{judge, judge_matched, refuse, Answer, Refusal, Yard};
 
-/// The longest plan that is looked at, in bytes: 65,535 moves.
-pub const MAX_PLAN_BYTES: usize = 131_070;
+/// The longest plan that is looked at, in bytes: 131,072 moves (request 2.10).
+pub const MAX_PLAN_BYTES: usize = 262_144;
 
 /// Moves of an accepted plan, and how many of them a shortest plan does without.
 #[derive(Clone, Copy, Debug, PartialEq, Eq)]
@@ -20,7 +20,7 @@ pub struct Tried {
     pub budget_ended: bool,
 }
 
-/// One push of a tree's pebbles: its marks afterwards.
+/// One push of a tree's pebbles: its counts afterwards.
 pub fn push(yard: &Yard, from: usize, to: usize) -> Answer<Vec<u8>> {
     judge(yard)?;
     let mut pebbles = yard.pebbles.clone();
@@ -35,14 +35,14 @@ pub fn check(yard: &Yard, plan: &[u8]) -> Answer<Checked> {
     judge_plan_length(plan)?;
     let mut pebbles = yard.pebbles.clone();
     obey(yard, &mut pebbles, plan)?;
-    if let Some(node) = (0..yard.nodes()).find(|&node| yard.targets[node] == 1 && pebbles[node] == 0) {
+    if let Some(node) = (0..yard.nodes()).find(|&node| pebbles[node] < yard.targets[node]) {
         return refuse(14, node);
     }
     let moves = (plan.len() / 2) as u32;
     Ok(Checked { moves, excess: moves - shortest_length(yard) })
 }
 
-/// The trial's answer, and the pebble marks that it writes.
+/// The trial's answer, and the pebbles that it writes.
 pub fn trial(yard: &Yard, plan: &[u8], budget: u16) -> Answer<(Tried, Vec<u8>)> {
     judge(yard)?;
     judge_plan_length(plan)?;
@@ -80,10 +80,10 @@ fn step(yard: &Yard, pebbles: &mut [u8], from: usize, to: usize) -> Result<(), u
     if pebbles[from] == 0 {
         return Err(12);
     }
-    if pebbles[to] == 1 {
+    if pebbles[to] >= yard.depths[to] {
         return Err(13);
     }
-    pebbles[from] = 0;
-    pebbles[to] = 1;
+    pebbles[from] -= 1;
+    pebbles[to] += 1;
     Ok(())
 }

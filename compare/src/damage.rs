@@ -5,7 +5,7 @@ use crate::demands::{of_tree, MAX_DEMAND};
 use crate::event::{way, Event};
 use crate::random::Random;
 use crate::shapes::{self, Shape};
-use crate::yard::{Yard, MAX_NODES};
+use crate::yard::{Yard, MAX_DEPTH, MAX_NODES};
 
 /// A number of nodes that the library does not take, or at its edge.
 fn odd_length(random: &mut Random) -> usize {
@@ -18,40 +18,52 @@ fn odd_length(random: &mut Random) -> usize {
     }
 }
 
-/// A value above 1, often at an edge of a byte.
-fn high_mark(random: &mut Random) -> u8 {
+/// A value above another, often just above or at an edge of a byte.
+fn above(limit: u8, random: &mut Random) -> u8 {
+    let next = limit.saturating_add(1);
     match random.below(3) {
-        0 => 2,
+        0 => next,
         1 => 255,
-        _ => random.within(2, 255) as u8,
+        _ => random.within(usize::from(next), 255) as u8,
     }
 }
 
-/// A yard with one to three faults, each of a kind that one of refusals 1 to 7 names.
+/// One pebble or target more or less, within the depth, at a node that all lists have.
+pub fn recount(yard: &mut Yard, node: usize, random: &mut Random) {
+    let events: Vec<Event> = Event::ALL.into_iter().filter(|event| event.fits(yard, node)).collect();
+    // None does where the depth is 0 and nothing is there.
+    if !events.is_empty() {
+        *yard = random.pick(&events).at(yard, node);
+    }
+}
+
+/// A yard with one to three faults, each of a kind that one of refusals 1, 2, 26, 27 and 4 to 7 names.
 pub fn lists(yard: &mut Yard, random: &mut Random) {
     for _ in 0..random.within(1, 3) {
         let n = yard.nodes();
         let any = |list: &[u8], random: &mut Random| random.below(list.len().max(1));
-        match random.below(9) {
+        match random.below(11) {
             // 1: all lists of another length.
             0 if random.once_in(2) => {
                 let length = odd_length(random);
                 for list in [&mut yard.parents, &mut yard.pebbles, &mut yard.targets] {
                     list.resize(length, 0);
                 }
+                yard.depths.resize(length, 1);
             }
             // 2: one list of another length.
             0 | 1 => {
                 let length = if random.once_in(3) { odd_length(random) } else { (n + random.pick(&[1, 2])).saturating_sub(random.below(4)) };
-                let list = random.below(3);
-                [&mut yard.parents, &mut yard.pebbles, &mut yard.targets][list].resize(length, 0);
+                let list = random.below(4);
+                [&mut yard.parents, &mut yard.pebbles, &mut yard.targets, &mut yard.depths][list].resize(length, 1);
             }
-            // 3: a mark above 1.
+            // 27: a count above its depth.
             2 | 3 => {
-                let list = if random.once_in(2) { &mut yard.pebbles } else { &mut yard.targets };
+                let Yard { pebbles, targets, depths, .. } = yard;
+                let list = if random.once_in(2) { pebbles } else { targets };
                 let node = any(list, random);
-                if let Some(mark) = list.get_mut(node) {
-                    *mark = high_mark(random);
+                if let (Some(count), Some(&depth)) = (list.get_mut(node), depths.get(node)) {
+                    *count = above(depth, random);
                 }
             }
             // 4: a parent outside.
@@ -80,12 +92,26 @@ pub fn lists(yard: &mut Yard, random: &mut Random) {
                     *parent = random.below(n) as u8;
                 }
             }
+            // 26: a depth that is none.
+            8 => {
+                let node = any(&yard.depths, random);
+                if let Some(depth) = yard.depths.get_mut(node) {
+                    *depth = if random.once_in(2) { 0 } else { above(MAX_DEPTH, random) };
+                }
+            }
+            // 27 too: a depth below what stands there, or is to.
+            9 => {
+                let node = any(&yard.depths, random);
+                if let Some(depth) = yard.depths.get_mut(node) {
+                    *depth = random.within(1, usize::from((*depth).clamp(1, MAX_DEPTH))) as u8;
+                }
+            }
             // 7: one pebble or target more or less.
             _ => {
-                let list = if random.once_in(2) { &mut yard.pebbles } else { &mut yard.targets };
-                let node = any(list, random);
-                if let Some(mark) = list.get_mut(node) {
-                    *mark ^= 1;
+                let lists = [&yard.pebbles, &yard.targets, &yard.depths];
+                let shortest = lists.map(Vec::len).into_iter().min().unwrap_or(0);
+                if shortest > 0 {
+                    recount(yard, random.below(shortest), random);
                 }
             }
         }
@@ -96,9 +122,11 @@ pub fn lists(yard: &mut Yard, random: &mut Random) {
 pub fn noise(random: &mut Random) -> Yard {
     let n = random.below(7);
     let top = random.pick(&[n.max(1), n.max(1), n.max(1) + 1, 256]);
-    let mark_top = random.pick(&[2, 2, 2, 3, 256]);
-    let mut list = |length: usize, top: usize| -> Vec<u8> { (0..length).map(|_| random.below(top) as u8).collect() };
-    Yard { parents: list(n, top), pebbles: list(n, mark_top), targets: list(n, mark_top) }
+    let (count_top, depth_top) = random.pick(&[(1, 1), (1, 1), (1, 2), (2, 1), (3, 3), (8, 8), (9, 8), (255, 8)]);
+    let lowest_depth = random.pick(&[1, 1, 1, 1, 0, depth_top]);
+    let deepest = random.pick(&[depth_top, depth_top, depth_top, depth_top, 9, 255]);
+    let mut list = |low: usize, high: usize| -> Vec<u8> { (0..n).map(|_| random.within(low, high) as u8).collect() };
+    Yard { parents: list(0, top - 1), pebbles: list(0, count_top), targets: list(0, count_top), depths: list(lowest_depth, deepest) }
 }
 
 /// A move of the yard along some edge if there is one, legal or not; else any two bytes.
@@ -146,25 +174,20 @@ pub fn demands(yard: &Yard, event: Event, node: usize, random: &mut Random) -> V
     let mut list = of_tree(yard);
     match random.below(8) {
         0 => {}
-        // From before one event, two or several: each altered a mark, some perhaps back.
+        // From before one event, two or several: each altered a count, some perhaps back.
         1 | 2 => {
             let mut before = yard.clone();
             for _ in 0..random.pick(&[1, 1, 2, 2, 3, 30]) {
-                let marks = if random.once_in(2) { &mut before.pebbles } else { &mut before.targets };
-                marks[random.below(n)] ^= 1;
+                recount(&mut before, random.below(n), random);
             }
             list = of_tree(&before);
         }
         // From after the event, as if it had been told already.
-        3 => {
-            let mut after = yard.clone();
-            event.of(&mut after.pebbles, &mut after.targets)[node] = event.mark();
-            list = of_tree(&after);
-        }
-        // Of other marks on this tree, of another tree, of none.
+        3 => list = of_tree(&event.at(yard, node)),
+        // Of other counts on this tree, of another tree, of none.
         4 => match random.below(4) {
-            0 => list = of_tree(&Yard { parents: yard.parents.clone(), ..shapes::yard(Shape::Random, n, random) }),
-            1 => list = of_tree(&shapes::yard(random.pick(&Shape::ALL), n, random)),
+            0 => list = of_tree(&Yard { parents: yard.parents.clone(), ..shapes::any_yard(Shape::Random, n, random) }),
+            1 => list = of_tree(&shapes::any_yard(random.pick(&Shape::ALL), n, random)),
             2 => list.fill(0),
             _ => list.fill(random.pick(&[-MAX_DEMAND, MAX_DEMAND])),
         },
@@ -195,8 +218,10 @@ pub fn wander(yard: &Yard, most: usize, random: &mut Random) -> Vec<u8> {
         let [from, to] = any_move(yard, random);
         let (at, next) = (usize::from(from), usize::from(to));
         let inside = at < yard.nodes() && next < yard.nodes();
-        if inside && (yard.parents[at] == to || yard.parents[next] == from) && pebbles[at] == 1 && pebbles[next] == 0 {
-            pebbles.swap(at, next);
+        let adjacent = inside && at != next && (yard.parents[at] == to || yard.parents[next] == from);
+        if adjacent && pebbles[at] > 0 && pebbles[next] < yard.depths[next] {
+            pebbles[at] -= 1;
+            pebbles[next] += 1;
             plan.extend([from, to]);
         }
     }

@@ -2,8 +2,8 @@
 
 use crate::yard::{judge, refuse, Answer, Yard};
 
-/// No demand is farther from 0 (document 01).
-pub const MAX_DEMAND: i16 = 256;
+/// No demand is farther from 0 (request 2.10).
+pub const MAX_DEMAND: i16 = 2_048;
 
 /// The demand of each node of a tree: every node is counted at itself and at each node above it.
 pub fn of_tree(yard: &Yard) -> Vec<i16> {
@@ -20,7 +20,7 @@ pub fn of_tree(yard: &Yard) -> Vec<i16> {
     demands
 }
 
-/// Whether a list of numbers meets equation 2 of the source at every node (request 2.3): target minus pebble, plus what the list has for the children.
+/// Whether a list of numbers meets equation 2 of the source at every node (request 2.3): targets minus pebbles, plus what the list has for the children.
 pub fn meets_equation_2(yard: &Yard, list: &[i16]) -> bool {
     let children = yard.children();
     let asked = |node: usize| -> i16 {

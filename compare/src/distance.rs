@@ -1,6 +1,6 @@
 //! Distances in edges along the tree (request 2.7): the nearest pebble of a node, and the pebbles within reach of it.
 
-use crate::yard::{judge, marked, refuse, Answer, Yard};
+use crate::yard::{having, judge, refuse, Answer, Yard};
 use std::collections::VecDeque;
 
 /// The nearest pebble: the node that it stands on, and how many edges away that is.
@@ -61,13 +61,13 @@ pub fn nearest(yard: &Yard, node: usize) -> Answer<Nearest> {
         return refuse(19, 0);
     }
     let distances = from_node(yard, node);
-    match marked(&yard.pebbles).into_iter().min_by_key(|&pebble| (distances[pebble], pebble)) {
-        Some(pebble) => Ok(Nearest { node: pebble as u32, distance: distances[pebble] as u32 }),
+    match having(&yard.pebbles).into_iter().min_by_key(|&at| (distances[at], at)) {
+        Some(at) => Ok(Nearest { node: at as u32, distance: distances[at] as u32 }),
         None => refuse(22, 0),
     }
 }
 
-/// The call for the pebbles within reach, and what it writes into a list of the given length: 1 for each node that holds one at most so many edges away,
+/// The call for the pebbles within reach, and what it writes into a list of the given length: 1 for each node that holds any at most so many edges away,
 /// and 0 for each other. It answers how many entries are 1. Totals may differ.
 pub fn reach(yard: &Yard, length: usize, node: usize, reach: u16) -> Answer<Vec<u8>> {
     judge(yard)?;
@@ -78,6 +78,6 @@ pub fn reach(yard: &Yard, length: usize, node: usize, reach: u16) -> Answer<Vec<
         return refuse(19, 0);
     }
     let distances = from_node(yard, node);
-    let within = |at: usize| yard.pebbles[at] == 1 && distances[at] <= usize::from(reach);
+    let within = |at: usize| yard.pebbles[at] > 0 && distances[at] <= usize::from(reach);
     Ok((0..yard.nodes()).map(|at| u8::from(within(at))).collect())
 }

@@ -1,5 +1,5 @@
-//! Events at a node (requests 2.5 and 2.8): a pebble arrives or leaves, a target is set or cleared, and a list of demands that is the yard's is brought up
-//! to date.
+//! Events at a node (requests 2.5, 2.8 and 2.10): a pebble arrives or leaves, a target is set or cleared, and a list of demands that is the yard's is brought
+//! up to date.
 
 use crate::demands::of_tree;
 use crate::yard::{judge, refuse, Answer, Yard};
@@ -24,7 +24,7 @@ impl Event {
         }
     }
 
-    /// Of the two lists of marks the one that the event alters.
+    /// Of the two lists of counts the one that the event alters.
     pub fn of<T>(self, pebbles: T, targets: T) -> T {
         match self {
             Event::PebbleArrives | Event::PebbleLeaves => pebbles,
@@ -32,17 +32,25 @@ impl Event {
         }
     }
 
-    /// The mark that it makes.
-    pub fn mark(self) -> u8 {
+    /// The count of a node of this depth after it, if there is a place, or one to take.
+    pub fn next(self, count: u8, depth: u8) -> Option<u8> {
         match self {
-            Event::PebbleArrives | Event::TargetSet => 1,
-            Event::PebbleLeaves | Event::TargetCleared => 0,
+            Event::PebbleArrives | Event::TargetSet => (count < depth).then(|| count + 1),
+            Event::PebbleLeaves | Event::TargetCleared => count.checked_sub(1),
         }
     }
 
-    /// Whether a node of the yard has another mark.
-    pub fn alters(self, yard: &Yard, node: usize) -> bool {
-        self.of(&yard.pebbles, &yard.targets)[node] != self.mark()
+    /// Whether it can be at a node of the yard.
+    pub fn fits(self, yard: &Yard, node: usize) -> bool {
+        self.next(self.of(&yard.pebbles, &yard.targets)[node], yard.depths[node]).is_some()
+    }
+
+    /// The yard afterwards, where it can be at the node; else the same.
+    pub fn at(self, yard: &Yard, node: usize) -> Yard {
+        let mut after = yard.clone();
+        let count = &mut self.of(&mut after.pebbles, &mut after.targets)[node];
+        *count = self.next(*count, yard.depths[node]).unwrap_or(*count);
+        after
     }
 
     /// What it adds to the demand of each subtree that has its node: a demand is targets minus pebbles.
@@ -89,15 +97,14 @@ pub fn happen(kept: &Kept, event: Event, node: usize) -> Answer<Kept> {
     if node >= n {
         return refuse(19, 0);
     }
-    if !event.alters(&kept.yard, node) {
+    if !event.fits(&kept.yard, node) {
         return refuse(20, 0);
     }
     let afresh = of_tree(&kept.yard);
     if let Some(stale) = (0..n).find(|&at| kept.demands[at] != afresh[at]) {
         return refuse(23, stale);
     }
-    let mut after = kept.clone();
-    event.of(&mut after.yard.pebbles, &mut after.yard.targets)[node] = event.mark();
+    let mut after = Kept { yard: event.at(&kept.yard, node), demands: kept.demands.clone() };
     for at in way(&kept.yard, node) {
         after.demands[at] += event.change();
     }

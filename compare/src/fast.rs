@@ -6,40 +6,44 @@ use crate::checker::{Tried, MAX_PLAN_BYTES};
 use crate::distance::Nearest;
 use crate::event::Event;
 use crate::figures::Length;
-use crate::yard::{refuse, Answer, MAX_NODES};
+use crate::yard::{refuse, Answer, MAX_DEPTH, MAX_NODES};
 use std::mem::swap;
 
-/// Refusals 1 to 6.
-pub fn test_yard(parents: &[u8], pebbles: &[u8], targets: &[u8]) -> Answer<()> {
-    fold_up(parents, pebbles, targets, |_, _| {})?;
-    Ok(())
+/// The refusals of a yard: 1, 2, 26, 27 and 4 to 6.
+#[inline]
+pub fn test_yard(parents: &[u8], pebbles: &[u8], targets: &[u8], depths: &[u8]) -> Answer<()> {
+    if all_reach_root(parents, pebbles, targets, depths) {
+        Ok(())
+    } else {
+        refusal_due(parents, pebbles, targets, depths)
+    }
 }
 
-/// Refusals 1 to 7; the moves of the plan and the bytes of its list, from the demands.
-pub fn length_bound(parents: &[u8], pebbles: &[u8], targets: &[u8]) -> Answer<Length> {
-    let (demand, _) = demands(parents, pebbles, targets)?;
+/// The refusals of a yard and 7; the moves of the plan and the bytes of its list, from the demands.
+pub fn length_bound(parents: &[u8], pebbles: &[u8], targets: &[u8], depths: &[u8]) -> Answer<Length> {
+    let (demand, _) = demands(parents, pebbles, targets, depths)?;
     let moves = sizes(&demand);
     Ok(Length { moves, bytes: 2 * moves })
 }
 
-/// Refusals 1 to 7; the pebbles that take part in a move of the plan, from the demands. A node is left by pebbles exactly if its subtree has too many or a
-/// child's too few, and the first to leave it is the one that started there.
-pub fn displaced(parents: &[u8], pebbles: &[u8], targets: &[u8]) -> Answer<u32> {
-    let mut left = [0; MAX_NODES];
-    demands_with(parents, pebbles, targets, |node, parent, demand| {
-        if demand < 0 {
-            left[node] = 1;
-        } else if demand > 0 {
-            left[parent] = 1;
-        }
-    })?;
-    Ok(pebbles.iter().zip(&left).map(|(pebble, left)| u32::from(pebble & left)).sum())
+/// The refusals of a yard and 7; the pebbles that take part in a move of the plan, from the demands. Those of a node that leave it are as many as it ever has
+/// fewer than at the start. It gives what its parent draws from it and what its children lack before it draws anything itself, unless it has none left. Where
+/// pebbles come to it, it has more than at the start before it gives, but for one that it gives if it was full.
+pub fn displaced(parents: &[u8], pebbles: &[u8], targets: &[u8], depths: &[u8]) -> Answer<u32> {
+    let mut lacked = [0; MAX_NODES];
+    let (demand, _) = demands_with(parents, pebbles, targets, depths, |_, parent, demand| lacked[parent] += demand.max(0))?;
+    let of_node = |(((&pebbles, &depth), &demand), &lacked): (((&u8, &u8), &i16), &i16)| {
+        let given = (lacked - demand).clamp(0, i16::from(pebbles));
+        given.max(i16::from(demand > 0 && pebbles == depth)) as u32
+    };
+    Ok(pebbles.iter().zip(depths).zip(&demand).zip(&lacked).map(of_node).sum())
 }
 
-/// Refusals 1 to 6, 2 for the list of demands, 19, 20 and 23, by the demands worked out; alters the mark, and the demands on the way to the root in one climb.
-pub fn event(parents: &[u8], pebbles: &mut [u8], targets: &mut [u8], demands: &mut [i16], event: Event, node: usize) -> Answer<()> {
-    event_afresh(parents, pebbles, targets, demands, event, node)?;
-    event.of(pebbles, targets)[node] = event.mark();
+/// The refusals of a yard, 2 for the list of demands, 19, 20 and 23, by the demands worked out; alters the count, and the demands on the way to the root in one
+/// climb.
+pub fn event(parents: &[u8], pebbles: &mut [u8], targets: &mut [u8], depths: &[u8], demands: &mut [i16], event: Event, node: usize) -> Answer<()> {
+    let count = event_afresh(parents, pebbles, targets, depths, demands, event, node)?;
+    event.of(pebbles, targets)[node] = count;
     let change = event.change();
     let mut at = node;
     loop {
@@ -53,11 +57,19 @@ pub fn event(parents: &[u8], pebbles: &mut [u8], targets: &mut [u8], demands: &m
 }
 
 /// The same, with the list held to equation 2 instead: no demand is worked out but for the place of 23.
-pub fn event_by_equation_2(parents: &[u8], pebbles: &mut [u8], targets: &mut [u8], demands: &mut [i16], event: Event, node: usize) -> Answer<()> {
-    let Some(climbs) = climbs(parents, pebbles, targets, demands, event, node) else {
-        return event_afresh(parents, pebbles, targets, demands, event, node);
+pub fn event_by_equation_2(
+    parents: &[u8],
+    pebbles: &mut [u8],
+    targets: &mut [u8],
+    depths: &[u8],
+    demands: &mut [i16],
+    event: Event,
+    node: usize,
+) -> Answer<()> {
+    let Some((count, climbs)) = climbs(parents, pebbles, targets, depths, demands, event, node) else {
+        return event_afresh(parents, pebbles, targets, depths, demands, event, node).map(|_| ());
     };
-    event.of(pebbles, targets)[node] = event.mark();
+    event.of(pebbles, targets)[node] = count;
     let change = event.change();
     for (demand, climb) in demands.iter_mut().zip(climbs) {
         *demand += if climb == WAY { change } else { 0 };
@@ -65,121 +77,102 @@ pub fn event_by_equation_2(parents: &[u8], pebbles: &mut [u8], targets: &mut [u8
     Ok(())
 }
 
-/// Refusals 1 to 6, 19 and 22; the least distance of a pebble, which many entries at a time can tell, then the first pebble that has it.
-pub fn nearest(parents: &[u8], pebbles: &[u8], targets: &[u8], node: usize) -> Answer<Nearest> {
-    let distances = distances(parents, pebbles, targets, node)?;
+/// The refusals of a yard, 19 and 22; the least distance of a pebble, which many entries at a time can tell, then the first pebble that has it.
+pub fn nearest(parents: &[u8], pebbles: &[u8], targets: &[u8], depths: &[u8], node: usize) -> Answer<Nearest> {
+    let distances = distances(parents, pebbles, targets, depths, node)?;
     if node >= parents.len() {
         return refuse(19, 0);
     }
     // Unknown where there is no pebble.
-    let of_pebbles = distances.iter().zip(pebbles).map(|(&distance, &pebble)| distance | u16::from(pebble).wrapping_sub(1));
+    let of_pebbles = distances.iter().zip(pebbles).map(|(&distance, &pebbles)| distance | u16::from(pebbles == 0).wrapping_neg());
     let least = of_pebbles.fold(UNKNOWN, u16::min);
-    match distances.iter().zip(pebbles).position(|(&distance, &pebble)| pebble == 1 && distance == least) {
-        Some(pebble) => Ok(Nearest { node: pebble as u32, distance: u32::from(least) }),
+    match distances.iter().zip(pebbles).position(|(&distance, &pebbles)| pebbles > 0 && distance == least) {
+        Some(at) => Ok(Nearest { node: at as u32, distance: u32::from(least) }),
         None => refuse(22, 0),
     }
 }
 
-/// Refusals 1 to 6, 2 for the list, 19; marks the pebbles within reach and answers how many they are.
-pub fn reach(parents: &[u8], pebbles: &[u8], targets: &[u8], list: &mut [u8], node: usize, reach: u16) -> Answer<u32> {
-    let distances = distances(parents, pebbles, targets, node)?;
+/// The refusals of a yard, 2 for the list, 19; marks the nodes within reach that hold pebbles and answers how many they are.
+pub fn reach(parents: &[u8], pebbles: &[u8], targets: &[u8], depths: &[u8], list: &mut [u8], node: usize, reach: u16) -> Answer<u32> {
+    let distances = distances(parents, pebbles, targets, depths, node)?;
     if list.len() != parents.len() {
         return refuse(2, 0);
     }
     if node >= parents.len() {
         return refuse(19, 0);
     }
-    for ((mark, &pebble), &distance) in list.iter_mut().zip(pebbles).zip(&distances) {
-        *mark = pebble & u8::from(distance <= reach);
+    for ((mark, &pebbles), &distance) in list.iter_mut().zip(pebbles).zip(&distances) {
+        *mark = u8::from(pebbles > 0) & u8::from(distance <= reach);
     }
     Ok(list.iter().map(|&mark| u32::from(mark)).sum())
 }
 
-/// Refusals 1 to 8; writes the plan at the front of the list and answers its moves.
+/// The refusals of a yard, 7 and 8; the plan goes to the front of the list, its moves are answered.
 ///
 /// Of the children of one sign the neediest are served in rising number, one pebble each. Then their demands are one nearer to 0, the next in need are as
 /// needy as they, and the children are gone through again. So each node keeps for each sign how needy a child must be and where to go on: no pick looks
 /// back, and the children are gone through as often as the greatest of their demands at the start says.
-pub fn plan(parents: &[u8], pebbles: &[u8], targets: &[u8], list: &mut [u8]) -> Answer<u32> {
-    plan_by::<Siblings, true, false>(parents, pebbles, targets, list)
+pub fn plan(parents: &[u8], pebbles: &[u8], targets: &[u8], depths: &[u8], list: &mut [u8]) -> Answer<u32> {
+    plan_by::<Siblings, true, false>(parents, pebbles, targets, depths, list)
 }
 
 /// The same, with the children of a node side by side.
-pub fn plan_by_rows(parents: &[u8], pebbles: &[u8], targets: &[u8], list: &mut [u8]) -> Answer<u32> {
-    plan_by::<Rows, true, false>(parents, pebbles, targets, list)
+pub fn plan_by_rows(parents: &[u8], pebbles: &[u8], targets: &[u8], depths: &[u8], list: &mut [u8]) -> Answer<u32> {
+    plan_by::<Rows, true, false>(parents, pebbles, targets, depths, list)
 }
 
 /// The same, but nothing is kept: each pick looks at all children for the neediest, and its demand follows the move.
-pub fn plan_with_scans(parents: &[u8], pebbles: &[u8], targets: &[u8], list: &mut [u8]) -> Answer<u32> {
-    plan_by::<Siblings, false, false>(parents, pebbles, targets, list)
+pub fn plan_with_scans(parents: &[u8], pebbles: &[u8], targets: &[u8], depths: &[u8], list: &mut [u8]) -> Answer<u32> {
+    plan_by::<Siblings, false, false>(parents, pebbles, targets, depths, list)
 }
 
 /// The same, but Algorithms 2 and 3 do not call themselves: the way down is kept in a list, and its moves are written from the end.
-pub fn plan_by_ways(parents: &[u8], pebbles: &[u8], targets: &[u8], list: &mut [u8]) -> Answer<u32> {
-    plan_by::<Siblings, true, true>(parents, pebbles, targets, list)
+pub fn plan_by_ways(parents: &[u8], pebbles: &[u8], targets: &[u8], depths: &[u8], list: &mut [u8]) -> Answer<u32> {
+    plan_by::<Siblings, true, true>(parents, pebbles, targets, depths, list)
 }
 
-/// Refusals 1 to 7, 9, 10 to 13 for each move, 14.
-pub fn check(parents: &[u8], pebbles: &[u8], targets: &[u8], plan: &[u8]) -> Answer<()> {
-    test_yard(parents, pebbles, targets)?;
-    check_on_tree(parents, pebbles, targets, plan)
+/// The refusals of a yard, 7, 9, 10 to 13 for each move, 14.
+pub fn check(parents: &[u8], pebbles: &[u8], targets: &[u8], depths: &[u8], plan: &[u8]) -> Answer<()> {
+    test_yard(parents, pebbles, targets, depths)?;
+    check_on_tree(parents, pebbles, targets, depths, plan)
 }
 
-/// Refusals 1 to 6, 9, 10 to 13 for each move obeyed; writes the pebbles when all are accepted.
-pub fn trial(parents: &[u8], pebbles: &mut [u8], targets: &[u8], plan: &[u8], budget: u16) -> Answer<Tried> {
-    test_yard(parents, pebbles, targets)?;
+/// The refusals of a yard, 9, 10 to 13 for each move obeyed; writes the pebbles when all are accepted.
+pub fn trial(parents: &[u8], pebbles: &mut [u8], targets: &[u8], depths: &[u8], plan: &[u8], budget: u16) -> Answer<Tried> {
+    test_yard(parents, pebbles, targets, depths)?;
     let plan = whole_moves(plan)?;
     let moves = plan.len() / 2;
     let taken = moves.min(usize::from(budget));
-    let after = &mut copy(pebbles)[..pebbles.len()];
-    obey(parents, after, &plan[..2 * taken])?;
-    pebbles.copy_from_slice(after);
+    let after = obey(parents, pebbles, depths, &plan[..2 * taken])?;
+    pebbles.copy_from_slice(&after[..pebbles.len()]);
     Ok(Tried { taken: taken as u32, budget_ended: taken < moves })
 }
 
-/// Refusals 1 to 6, 2 for the block, 24, 25, then those of a start or of the move that is due; alters pebbles and registers, and answers 1 if the line is
+/// The refusals of a yard, 2 for the block, 24, 25, then those of a start or of the move that is due; alters pebbles and registers, and answers 1 if the line is
 /// raised.
-pub fn step(parents: &[u8], pebbles: &mut [u8], targets: &[u8], plan: &[u8], registers: &mut [u8], failed: u8) -> Answer<u32> {
-    test_yard(parents, pebbles, targets)?;
-    step_on_tree(parents, pebbles, targets, plan, registers, failed)
-}
-
-/// The same, with the yard tested by climbs.
-pub fn step_by_climbs(parents: &[u8], pebbles: &mut [u8], targets: &[u8], plan: &[u8], registers: &mut [u8], failed: u8) -> Answer<u32> {
-    if !all_reach_root(parents, pebbles, targets) {
-        return refusal_due(parents, pebbles, targets);
-    }
-    step_on_tree(parents, pebbles, targets, plan, registers, failed)
+pub fn step(parents: &[u8], pebbles: &mut [u8], targets: &[u8], depths: &[u8], plan: &[u8], registers: &mut [u8], failed: u8) -> Answer<u32> {
+    test_yard(parents, pebbles, targets, depths)?;
+    step_on_tree(parents, pebbles, targets, depths, plan, registers, failed)
 }
 
 /// Tests the yard, and on the way calls `add` with each node and its parent, children first. Answers the root.
-fn fold_up(parents: &[u8], pebbles: &[u8], targets: &[u8], mut add: impl FnMut(usize, usize)) -> Answer<usize> {
+#[inline(always)]
+fn fold_up(parents: &[u8], pebbles: &[u8], targets: &[u8], depths: &[u8], mut add: impl FnMut(usize, usize)) -> Answer<usize> {
+    if !passes_to_4(parents, pebbles, targets, depths) {
+        return refusal_due(parents, pebbles, targets, depths);
+    }
     let n = parents.len();
-    if n == 0 || n > MAX_NODES {
-        return refuse(1, 0);
-    }
-    if pebbles.len() != n || targets.len() != n {
-        return refuse(2, 0);
-    }
-    for marks in [pebbles, targets] {
-        if let Some(node) = first_above(marks, 1) {
-            return refuse(3, node);
-        }
-    }
-    if let Some(node) = first_above(parents, (n - 1) as u8) {
-        return refuse(4, node);
-    }
     let mut root = None;
     let mut children_left = [0u16; MAX_NODES];
     for (node, &parent) in parents.iter().enumerate() {
         if usize::from(parent) != node {
             children_left[usize::from(parent)] += 1;
         } else if root.replace(node).is_some() {
-            return refuse(5, node);
+            return refusal_due(parents, pebbles, targets, depths);
         }
     }
     let Some(root) = root else {
-        return refuse(5, 0);
+        return refusal_due(parents, pebbles, targets, depths);
     };
     let mut added = 1;
     for leaf in 0..n {
@@ -195,44 +188,46 @@ fn fold_up(parents: &[u8], pebbles: &[u8], targets: &[u8], mut add: impl FnMut(u
         }
     }
     if added < n {
-        return refuse(6, lowest_lost(parents, root));
+        return refusal_due(parents, pebbles, targets, depths);
     }
     Ok(root)
 }
 
-/// The first entry above a limit. That there is one is seen by the greatest, which many bytes at a time can tell.
-fn first_above(list: &[u8], limit: u8) -> Option<usize> {
-    let greatest = list.iter().copied().max()?;
-    (greatest > limit).then(|| list.iter().position(|&entry| entry > limit))?
-}
-
-/// Whether none of refusals 1 to 4 is due, by the greatest entries too.
-fn passes_1_to_4(parents: &[u8], pebbles: &[u8], targets: &[u8]) -> bool {
+/// Whether none of refusals 1, 2, 26, 27 and 4 is due. No loop ends at the first wrong entry, so that many bytes at a time can be looked at.
+#[inline(always)]
+fn passes_to_4(parents: &[u8], pebbles: &[u8], targets: &[u8], depths: &[u8]) -> bool {
     let n = parents.len();
-    let below = |list: &[u8], end: usize| list.len() == n && list.iter().copied().max().is_some_and(|greatest| usize::from(greatest) < end);
-    n <= MAX_NODES && below(parents, n) && below(pebbles, 2) && below(targets, 2)
-}
-
-/// The lowest node from which climbing never reaches the root; there is one.
-#[cold]
-fn lowest_lost(parents: &[u8], root: usize) -> usize {
-    let climb = |node| (0..parents.len()).fold(node, |at, _| usize::from(parents[at]));
-    (0..parents.len()).find(|&node| climb(node) != root).unwrap_or(0)
+    if n == 0 || n > MAX_NODES || [pebbles.len(), targets.len(), depths.len()] != [n; 3] {
+        return false;
+    }
+    let last = (n - 1) as u8;
+    let wrong = |(((&parent, &pebbles), &targets), &depth): (((&u8, &u8), &u8), &u8)| {
+        u8::from(parent > last) | u8::from(pebbles.max(targets) > depth) | u8::from(depth.wrapping_sub(1) >= MAX_DEPTH)
+    };
+    parents.iter().zip(pebbles).zip(targets).zip(depths).map(wrong).fold(0, |any, wrong| any | wrong) == 0
 }
 
 /// The climb from an event's node to the root. Any other has the number of the node that it starts from.
 const WAY: u16 = MAX_NODES as u16;
 const NO_CLIMB: u16 = u16::MAX;
 
-/// The climb that passed each node first, if an event is accepted.
+/// The count after an event and the climb that passed each node first, if it is accepted.
 ///
 /// The way comes first. Each other climb ends where an earlier one passed, or there is a circle or a second root. On the way through the nodes the entries of
 /// the children are summed up: a list is the tree's own exactly if it meets equation 2 at every node (request 2.3), and that asks for no order, so no demand is
 /// worked out. Sums that wrap tell no less: from the leaves upwards they too leave one entry for each node.
 #[inline(always)]
-fn climbs(parents: &[u8], pebbles: &[u8], targets: &[u8], demands: &[i16], event: Event, node: usize) -> Option<[u16; MAX_NODES]> {
-    let mark = *event.of(pebbles, targets).get(node)?;
-    if mark == event.mark() || demands.len() != parents.len() || !passes_1_to_4(parents, pebbles, targets) {
+fn climbs(
+    parents: &[u8],
+    pebbles: &[u8],
+    targets: &[u8],
+    depths: &[u8],
+    demands: &[i16],
+    event: Event,
+    node: usize,
+) -> Option<(u8, [u16; MAX_NODES])> {
+    let count = event.next(*event.of(pebbles, targets).get(node)?, *depths.get(node)?)?;
+    if demands.len() != parents.len() || !passes_to_4(parents, pebbles, targets, depths) {
         return None;
     }
     let parent_of = copy(parents);
@@ -272,44 +267,48 @@ fn climbs(parents: &[u8], pebbles: &[u8], targets: &[u8], demands: &[i16], event
         let own = i16::from(targets[at]) - i16::from(pebbles[at]);
         differing |= demands[at] ^ own.wrapping_add(sums[0][at]).wrapping_add(sums[1][at]);
     }
-    (differing == 0).then_some(climbs)
+    (differing == 0).then_some((count, climbs))
 }
 
-/// The refusals of an event, by the demands worked out.
+/// The refusals of an event, by the demands worked out; the count after it.
 #[inline(always)]
-fn event_afresh(parents: &[u8], pebbles: &[u8], targets: &[u8], demands: &[i16], event: Event, node: usize) -> Answer<()> {
+fn event_afresh(parents: &[u8], pebbles: &[u8], targets: &[u8], depths: &[u8], demands: &[i16], event: Event, node: usize) -> Answer<u8> {
     let mut afresh = [0; MAX_NODES];
-    gather(parents, pebbles, targets, &mut afresh, |_, _, _| {})?;
+    gather(parents, pebbles, targets, depths, &mut afresh, |_, _, _| {})?;
     if demands.len() != parents.len() {
         return refuse(2, 0);
     }
-    match event.of(pebbles, targets).get(node) {
-        None => refuse(19, 0),
-        Some(&mark) if mark == event.mark() => refuse(20, 0),
-        Some(_) if *demands == afresh[..demands.len()] => Ok(()),
-        Some(_) => refuse(23, demands.iter().zip(afresh).position(|(&entry, demand)| entry != demand).unwrap_or(0)),
+    let Some(&count) = event.of(pebbles, targets).get(node) else {
+        return refuse(19, 0);
+    };
+    let Some(count) = event.next(count, depths[node]) else {
+        return refuse(20, 0);
+    };
+    if *demands != afresh[..demands.len()] {
+        return refuse(23, demands.iter().zip(afresh).position(|(&entry, demand)| entry != demand).unwrap_or(0));
     }
+    Ok(count)
 }
 
 /// A distance that is not known yet.
 const UNKNOWN: u16 = u16::MAX;
 
-/// Refusals 1 to 6; the distance of each node from one of them, or from the last if it is none.
+/// The refusals of a yard; the distance of each node from one of them, or from the last if it is none.
 ///
 /// The way to the root comes first. Every other node is one edge farther than its parent; where the parent's distance is not known either, a climb finds
 /// the first that is, and a second one writes those on the way. So the yard is tested too: where there is no root or a second one, or a circle, some climb
 /// comes to no end.
-fn distances(parents: &[u8], pebbles: &[u8], targets: &[u8], node: usize) -> Answer<[u16; MAX_NODES]> {
+fn distances(parents: &[u8], pebbles: &[u8], targets: &[u8], depths: &[u8], node: usize) -> Answer<[u16; MAX_NODES]> {
     let n = parents.len();
-    if !passes_1_to_4(parents, pebbles, targets) {
-        return refusal_due(parents, pebbles, targets);
+    if !passes_to_4(parents, pebbles, targets, depths) {
+        return refusal_due(parents, pebbles, targets, depths);
     }
     let parent_of = copy(parents);
     let mut distances = [UNKNOWN; MAX_NODES];
     let (mut at, mut edges) = (node.min(n - 1), 0);
     loop {
         if distances[at] != UNKNOWN {
-            return refusal_due(parents, pebbles, targets);
+            return refusal_due(parents, pebbles, targets, depths);
         }
         distances[at] = edges;
         let parent = usize::from(parent_of[at]);
@@ -330,7 +329,7 @@ fn distances(parents: &[u8], pebbles: &[u8], targets: &[u8], node: usize) -> Ans
         let (mut known, mut edges) = (parent, 1);
         while distances[known] == UNKNOWN {
             if edges == n as u16 {
-                return refusal_due(parents, pebbles, targets);
+                return refusal_due(parents, pebbles, targets, depths);
             }
             (known, edges) = (usize::from(parent_of[known]), edges + 1);
         }
@@ -343,11 +342,11 @@ fn distances(parents: &[u8], pebbles: &[u8], targets: &[u8], node: usize) -> Ans
     Ok(distances)
 }
 
-/// Whether none of refusals 1 to 6 is due. A climb ends at the first node that is known to reach the root, and then all that it passed are known to; where
+/// Whether none of the refusals of a yard is due. A climb ends at the first node that is known to reach the root, and then all that it passed are known to; where
 /// there is a second root or a circle, some climb comes to no end.
 #[inline(always)]
-fn all_reach_root(parents: &[u8], pebbles: &[u8], targets: &[u8]) -> bool {
-    if !passes_1_to_4(parents, pebbles, targets) {
+fn all_reach_root(parents: &[u8], pebbles: &[u8], targets: &[u8], depths: &[u8]) -> bool {
+    if !passes_to_4(parents, pebbles, targets, depths) {
         return false;
     }
     let n = parents.len();
@@ -379,22 +378,56 @@ fn all_reach_root(parents: &[u8], pebbles: &[u8], targets: &[u8]) -> bool {
     true
 }
 
-/// Which of refusals 1 to 6 it is, where one is due.
+/// Which of the refusals of a yard it is, where one is due.
 #[cold]
-fn refusal_due<T>(parents: &[u8], pebbles: &[u8], targets: &[u8]) -> Answer<T> {
-    test_yard(parents, pebbles, targets)?;
-    unreachable!("a tree")
+fn refusal_due<T>(parents: &[u8], pebbles: &[u8], targets: &[u8], depths: &[u8]) -> Answer<T> {
+    let n = parents.len();
+    if n == 0 || n > MAX_NODES {
+        return refuse(1, 0);
+    }
+    if [pebbles.len(), targets.len(), depths.len()] != [n; 3] {
+        return refuse(2, 0);
+    }
+    if let Some(node) = depths.iter().position(|depth| !(1..=MAX_DEPTH).contains(depth)) {
+        return refuse(26, node);
+    }
+    for counts in [pebbles, targets] {
+        if let Some(node) = counts.iter().zip(depths).position(|(count, depth)| count > depth) {
+            return refuse(27, node);
+        }
+    }
+    if let Some(node) = parents.iter().position(|&parent| usize::from(parent) >= n) {
+        return refuse(4, node);
+    }
+    let mut roots = (0..n).filter(|&node| usize::from(parents[node]) == node);
+    let (Some(root), second) = (roots.next(), roots.next()) else {
+        return refuse(5, 0);
+    };
+    if let Some(second) = second {
+        return refuse(5, second);
+    }
+    let climb = |node| (0..n).fold(node, |at, _| usize::from(parents[at]));
+    match (0..n).find(|&node| climb(node) != root) {
+        Some(node) => refuse(6, node),
+        None => unreachable!("a tree"),
+    }
 }
 
-/// Refusals 1 to 7; the demands of all nodes, and the root.
-fn demands(parents: &[u8], pebbles: &[u8], targets: &[u8]) -> Answer<([i16; MAX_NODES], usize)> {
-    demands_with(parents, pebbles, targets, |_, _, _| {})
+/// The refusals of a yard and 7; the demands of all nodes, and the root.
+fn demands(parents: &[u8], pebbles: &[u8], targets: &[u8], depths: &[u8]) -> Answer<([i16; MAX_NODES], usize)> {
+    demands_with(parents, pebbles, targets, depths, |_, _, _| {})
 }
 
 /// The same, and on the way calls `settled` with each node but the root, its parent and its demand, children first.
-fn demands_with(parents: &[u8], pebbles: &[u8], targets: &[u8], settled: impl FnMut(usize, usize, i16)) -> Answer<([i16; MAX_NODES], usize)> {
+fn demands_with(
+    parents: &[u8],
+    pebbles: &[u8],
+    targets: &[u8],
+    depths: &[u8],
+    settled: impl FnMut(usize, usize, i16),
+) -> Answer<([i16; MAX_NODES], usize)> {
     let mut demand = [0; MAX_NODES];
-    let root = gather(parents, pebbles, targets, &mut demand, settled)?;
+    let root = gather(parents, pebbles, targets, depths, &mut demand, settled)?;
     if demand[root] != 0 {
         return refuse(7, 0);
     }
@@ -407,13 +440,14 @@ fn gather(
     parents: &[u8],
     pebbles: &[u8],
     targets: &[u8],
+    depths: &[u8],
     demand: &mut [i16; MAX_NODES],
     mut settled: impl FnMut(usize, usize, i16),
 ) -> Answer<usize> {
     for ((demand, &target), &pebble) in demand.iter_mut().zip(targets).zip(pebbles) {
         *demand = i16::from(target) - i16::from(pebble);
     }
-    fold_up(parents, pebbles, targets, |node, parent| {
+    fold_up(parents, pebbles, targets, depths, |node, parent| {
         settled(node, parent, demand[node]);
         demand[parent] += demand[node];
     })
@@ -423,8 +457,14 @@ fn sizes(demand: &[i16]) -> u32 {
     demand.iter().map(|demand| u32::from(demand.unsigned_abs())).sum()
 }
 
-fn plan_by<C: Children, const TURNS: bool, const WAYS: bool>(parents: &[u8], pebbles: &[u8], targets: &[u8], list: &mut [u8]) -> Answer<u32> {
-    let (of_node, root) = demands(parents, pebbles, targets)?;
+fn plan_by<C: Children, const TURNS: bool, const WAYS: bool>(
+    parents: &[u8],
+    pebbles: &[u8],
+    targets: &[u8],
+    depths: &[u8],
+    list: &mut [u8],
+) -> Answer<u32> {
+    let (of_node, root) = demands(parents, pebbles, targets, depths)?;
     let moves = sizes(&of_node);
     if list.len() < 2 * moves as usize {
         return refuse(8, moves as usize);
@@ -445,8 +485,8 @@ fn plan_by<C: Children, const TURNS: bool, const WAYS: bool>(parents: &[u8], peb
             negative[node].place = place;
         }
     }
-    let pebble = copy(pebbles).map(|mark| mark == 1);
-    let mut state = State::<C, TURNS, WAYS> { children, demand, positive, negative, pebble, way: [0; MAX_NODES], list, written: 0 };
+    let (pebbles, depths) = (copy(pebbles), copy(depths));
+    let mut state = State::<C, TURNS, WAYS> { children, demand, positive, negative, pebbles, depths, way: [0; MAX_NODES], list, written: 0 };
     state.balance(root as u8);
     Ok(moves)
 }
@@ -578,7 +618,8 @@ struct State<'a, C, const TURNS: bool, const WAYS: bool> {
     demand: [i16; MAX_NODES],
     positive: [Turn; MAX_NODES],
     negative: [Turn; MAX_NODES],
-    pebble: [bool; MAX_NODES],
+    pebbles: [u8; MAX_NODES],
+    depths: [u8; MAX_NODES],
     way: [u8; MAX_NODES],
     list: &'a mut [u8],
     written: usize,
@@ -588,16 +629,17 @@ const POSITIVE: i16 = 1;
 const NEGATIVE: i16 = -1;
 
 impl<C: Children, const TURNS: bool, const WAYS: bool> State<'_, C, TURNS, WAYS> {
-    /// Algorithm 1. The demand of u is 0, so a child of the sign wanted is there exactly if one of any sign is.
+    /// Algorithm 1. The demand of u is 0, so if it holds none, no child lacks pebbles unless another has too many.
     fn balance(&mut self, u: u8) {
         loop {
-            if self.pebble[usize::from(u)] {
-                let Some(v) = self.pick::<POSITIVE>(u) else { break };
-                self.inject(v, u);
-            } else {
-                let Some(v) = self.pick::<NEGATIVE>(u) else { break };
-                self.extract(v, u);
+            if self.pebbles[usize::from(u)] > 0 {
+                if let Some(v) = self.pick::<POSITIVE>(u) {
+                    self.inject(v, u);
+                    continue;
+                }
             }
+            let Some(v) = self.pick::<NEGATIVE>(u) else { break };
+            self.extract(v, u);
         }
         let mut from = self.children.begin(u);
         while let Some(place) = self.children.find(u, from, |_| true) {
@@ -611,7 +653,7 @@ impl<C: Children, const TURNS: bool, const WAYS: bool> State<'_, C, TURNS, WAYS>
         if WAYS {
             return self.shift::<POSITIVE>(v, u);
         }
-        if self.pebble[usize::from(v)] {
+        if self.is_full(v) {
             if let Some(w) = self.pick::<POSITIVE>(v) {
                 self.inject(w, v);
             }
@@ -624,7 +666,7 @@ impl<C: Children, const TURNS: bool, const WAYS: bool> State<'_, C, TURNS, WAYS>
         if WAYS {
             return self.shift::<NEGATIVE>(v, u);
         }
-        if !self.pebble[usize::from(v)] {
+        if self.is_empty(v) {
             if let Some(w) = self.pick::<NEGATIVE>(v) {
                 self.extract(w, v);
             }
@@ -632,20 +674,21 @@ impl<C: Children, const TURNS: bool, const WAYS: bool> State<'_, C, TURNS, WAYS>
         self.move_pebble(v, u);
     }
 
-    /// Both at once: down over the picks to the first node that is empty, or holds a pebble where one is extracted; then the moves, the last edge first.
+    /// Both at once: down over the picks to the first node that has a place, or holds a pebble where one is extracted; then the moves, the last edge first.
     /// Of the nodes on the way only the two at the ends are changed by them.
     fn shift<const SIGN: i16>(&mut self, v: u8, u: u8) {
         let injects = SIGN > 0;
         self.way[..2].copy_from_slice(&[u, v]);
         let (mut end, mut edges) = (v, 1);
-        while self.pebble[usize::from(end)] == injects {
+        while if injects { self.is_full(end) } else { self.is_empty(end) } {
             let Some(w) = self.pick::<SIGN>(end) else { break };
             end = w;
             edges += 1;
             self.way[edges] = w;
         }
-        self.pebble[usize::from(u)] = !injects;
-        self.pebble[usize::from(end)] = injects;
+        let (first, last) = if injects { (u, end) } else { (end, u) };
+        self.pebbles[usize::from(first)] -= 1;
+        self.pebbles[usize::from(last)] += 1;
         let moves = self.list[self.written..self.written + 2 * edges].chunks_exact_mut(2);
         for (ends, edge) in moves.zip(self.way[..=edges].windows(2).rev()) {
             let [from, to] = if injects { [edge[0], edge[1]] } else { [edge[1], edge[0]] };
@@ -654,9 +697,17 @@ impl<C: Children, const TURNS: bool, const WAYS: bool> State<'_, C, TURNS, WAYS>
         self.written += 2 * edges;
     }
 
+    fn is_full(&self, node: u8) -> bool {
+        self.pebbles[usize::from(node)] == self.depths[usize::from(node)]
+    }
+
+    fn is_empty(&self, node: u8) -> bool {
+        self.pebbles[usize::from(node)] == 0
+    }
+
     fn move_pebble(&mut self, from: u8, to: u8) {
-        self.pebble[usize::from(from)] = false;
-        self.pebble[usize::from(to)] = true;
+        self.pebbles[usize::from(from)] -= 1;
+        self.pebbles[usize::from(to)] += 1;
         self.list[self.written..self.written + 2].copy_from_slice(&[from, to]);
         self.written += 2;
     }
@@ -705,14 +756,15 @@ fn whole_moves(plan: &[u8]) -> Answer<&[u8]> {
     Ok(plan)
 }
 
-/// What follows refusals 1 to 6 in a step.
+/// What follows the refusals of a yard in a step.
 #[inline(always)]
-fn step_on_tree(parents: &[u8], pebbles: &mut [u8], targets: &[u8], plan: &[u8], registers: &mut [u8], failed: u8) -> Answer<u32> {
+fn step_on_tree(parents: &[u8], pebbles: &mut [u8], targets: &[u8], depths: &[u8], plan: &[u8], registers: &mut [u8], failed: u8) -> Answer<u32> {
     let Ok(block) = <&mut [u8; BLOCK_BYTES]>::try_from(registers) else {
         return refuse(2, 0);
     };
     let [command, status, from, to, left @ .., mask, flags] = block;
-    let (moves, moves_left) = (plan.len() / 2, usize::from(u16::from_le_bytes(*left)));
+    let [low, middle, high] = *left;
+    let (moves, moves_left) = (plan.len() / 2, u32::from_le_bytes([low, middle, high, 0]) as usize);
     if *command > command::ACKNOWLEDGE {
         return refuse(24, 0);
     }
@@ -723,23 +775,23 @@ fn step_on_tree(parents: &[u8], pebbles: &mut [u8], targets: &[u8], plan: &[u8],
         return refuse(24, 4);
     }
     if *flags > flag::BOTH {
-        return refuse(24, 7);
+        return refuse(24, 8);
     }
     match *command {
         command::NONE if *status == status::RUNNING => {
             let (plan, place) = (whole_moves(plan)?, moves - moves_left);
             let ends = [plan[2 * place], plan[2 * place + 1]];
-            if let Some(number) = unfit(parents, pebbles, ends) {
+            if let Some(number) = unfit(parents.len(), parents, pebbles, depths, ends) {
                 return refuse(number, place);
             }
             if failed != 0 {
                 *status = status::STALLED;
                 *flags |= flag::STALLED;
             } else {
-                pebbles[usize::from(ends[0])] = 0;
-                pebbles[usize::from(ends[1])] = 1;
+                pebbles[usize::from(ends[0])] -= 1;
+                pebbles[usize::from(ends[1])] += 1;
                 [*from, *to] = ends;
-                *left = (moves_left as u16 - 1).to_le_bytes();
+                *left = three_bytes(moves_left - 1);
                 if moves_left == 1 {
                     *status = status::IDLE;
                     *flags |= flag::FINISHED;
@@ -749,8 +801,8 @@ fn step_on_tree(parents: &[u8], pebbles: &mut [u8], targets: &[u8], plan: &[u8],
         command::NONE => {}
         command::START if *status != status::IDLE => return refuse(25, 0),
         command::START => {
-            check_on_tree(parents, pebbles, targets, plan)?;
-            *left = (moves as u16).to_le_bytes();
+            check_on_tree(parents, pebbles, targets, depths, plan)?;
+            *left = three_bytes(moves);
             if moves > 0 {
                 *status = status::RUNNING;
             } else {
@@ -759,7 +811,7 @@ fn step_on_tree(parents: &[u8], pebbles: &mut [u8], targets: &[u8], plan: &[u8],
         }
         command::STOP => {
             *status = status::IDLE;
-            *left = [0; 2];
+            *left = [0; 3];
         }
         _ => {
             // Acknowledge: stalled becomes running, idle and running stay.
@@ -771,36 +823,43 @@ fn step_on_tree(parents: &[u8], pebbles: &mut [u8], targets: &[u8], plan: &[u8],
     Ok(u32::from(*flags & *mask != 0))
 }
 
+fn three_bytes(left: usize) -> [u8; 3] {
+    let [low, middle, high, _] = (left as u32).to_le_bytes();
+    [low, middle, high]
+}
+
 /// Refusals 7, 9, 10 to 13 for each move, 14.
-fn check_on_tree(parents: &[u8], pebbles: &[u8], targets: &[u8], plan: &[u8]) -> Answer<()> {
-    let total = |marks: &[u8]| -> u32 { marks.iter().map(|&mark| u32::from(mark)).sum() };
+fn check_on_tree(parents: &[u8], pebbles: &[u8], targets: &[u8], depths: &[u8], plan: &[u8]) -> Answer<()> {
+    let total = |counts: &[u8]| -> u32 { counts.iter().map(|&count| u32::from(count)).sum() };
     if total(pebbles) != total(targets) {
         return refuse(7, 0);
     }
-    let pebbles = &mut copy(pebbles)[..pebbles.len()];
-    obey(parents, pebbles, whole_moves(plan)?)?;
-    match pebbles.iter().zip(targets).position(|(&pebble, &target)| target > pebble) {
+    let after = obey(parents, pebbles, depths, whole_moves(plan)?)?;
+    match after.iter().zip(targets).position(|(pebbles, targets)| pebbles < targets) {
         Some(node) => refuse(14, node),
         None => Ok(()),
     }
 }
 
-fn obey(parents: &[u8], pebbles: &mut [u8], plan: &[u8]) -> Answer<()> {
+/// Refusals 10 to 13 for each move; the pebbles after all of them.
+fn obey(parents: &[u8], pebbles: &[u8], depths: &[u8], plan: &[u8]) -> Answer<[u8; MAX_NODES]> {
+    // Copied, as any byte is a place in 256 entries.
+    let (parent_of, depth_of, mut after) = (copy(parents), copy(depths), copy(pebbles));
     for (place, ends) in plan.chunks_exact(2).enumerate() {
-        if let Some(number) = unfit(parents, pebbles, [ends[0], ends[1]]) {
+        if let Some(number) = unfit(parents.len(), &parent_of, &after, &depth_of, [ends[0], ends[1]]) {
             return refuse(number, place);
         }
-        pebbles[usize::from(ends[0])] = 0;
-        pebbles[usize::from(ends[1])] = 1;
+        after[usize::from(ends[0])] -= 1;
+        after[usize::from(ends[1])] += 1;
     }
-    Ok(())
+    Ok(after)
 }
 
-/// Which of refusals 10 to 13 a move meets.
+/// Which of refusals 10 to 13 a move on n nodes meets.
 #[inline(always)]
-fn unfit(parents: &[u8], pebbles: &[u8], ends: [u8; 2]) -> Option<u32> {
+fn unfit(n: usize, parents: &[u8], pebbles: &[u8], depths: &[u8], ends: [u8; 2]) -> Option<u32> {
     let [from, to] = ends.map(usize::from);
-    if from >= parents.len() || to >= parents.len() {
+    if from >= n || to >= n {
         return Some(10);
     }
     if from == to || (parents[from] != ends[1] && parents[to] != ends[0]) {
@@ -809,7 +868,7 @@ fn unfit(parents: &[u8], pebbles: &[u8], ends: [u8; 2]) -> Option<u32> {
     if pebbles[from] == 0 {
         return Some(12);
     }
-    if pebbles[to] == 1 {
+    if pebbles[to] >= depths[to] {
         return Some(13);
     }
     None

@@ -7,7 +7,7 @@ use crate::figures::Length;
 use crate::yard::{Answer, Refusal};
 
 /// The version of the calls that are declared here: JAVENDRIKY_VERSION of the header. A library of another version must not be called.
-pub const VERSION: u32 = 8;
+pub const VERSION: u32 = 9;
 
 /// What an accepted trial adds to the moves taken where the budget ended it.
 const BUDGET_ENDED: u32 = 500_000;
@@ -18,74 +18,77 @@ pub mod raw {
         pub fn javendriky_version() -> u32;
         pub fn javendriky_plan(
             parents: *const u8, parents_len: usize, pebbles: *const u8, pebbles_len: usize, targets: *const u8, targets_len: usize,
-            plan: *mut u8, plan_len: usize,
+            depths: *const u8, depths_len: usize, plan: *mut u8, plan_len: usize,
         ) -> u32;
         pub fn javendriky_test_yard(
             parents: *const u8, parents_len: usize, pebbles: *const u8, pebbles_len: usize, targets: *const u8, targets_len: usize,
+            depths: *const u8, depths_len: usize,
         ) -> u32;
         pub fn javendriky_demands(
             parents: *const u8, parents_len: usize, pebbles: *const u8, pebbles_len: usize, targets: *const u8, targets_len: usize,
-            list: *mut i16, list_len: usize,
+            depths: *const u8, depths_len: usize, list: *mut i16, list_len: usize,
         ) -> u32;
         pub fn javendriky_length_bound(
             parents: *const u8, parents_len: usize, pebbles: *const u8, pebbles_len: usize, targets: *const u8, targets_len: usize,
-            bytes: *mut u32,
+            depths: *const u8, depths_len: usize, bytes: *mut u32,
         ) -> u32;
         pub fn javendriky_longest_plan(n: usize) -> u32;
         pub fn javendriky_displaced(
             parents: *const u8, parents_len: usize, pebbles: *const u8, pebbles_len: usize, targets: *const u8, targets_len: usize,
+            depths: *const u8, depths_len: usize,
         ) -> u32;
         pub fn javendriky_pebble_arrives(
             parents: *const u8, parents_len: usize, pebbles: *mut u8, pebbles_len: usize, targets: *mut u8, targets_len: usize,
-            demands: *mut i16, demands_len: usize, node: usize,
+            depths: *const u8, depths_len: usize, demands: *mut i16, demands_len: usize, node: usize,
         ) -> u32;
         pub fn javendriky_pebble_leaves(
             parents: *const u8, parents_len: usize, pebbles: *mut u8, pebbles_len: usize, targets: *mut u8, targets_len: usize,
-            demands: *mut i16, demands_len: usize, node: usize,
+            depths: *const u8, depths_len: usize, demands: *mut i16, demands_len: usize, node: usize,
         ) -> u32;
         pub fn javendriky_target_set(
             parents: *const u8, parents_len: usize, pebbles: *mut u8, pebbles_len: usize, targets: *mut u8, targets_len: usize,
-            demands: *mut i16, demands_len: usize, node: usize,
+            depths: *const u8, depths_len: usize, demands: *mut i16, demands_len: usize, node: usize,
         ) -> u32;
         pub fn javendriky_target_cleared(
             parents: *const u8, parents_len: usize, pebbles: *mut u8, pebbles_len: usize, targets: *mut u8, targets_len: usize,
-            demands: *mut i16, demands_len: usize, node: usize,
+            depths: *const u8, depths_len: usize, demands: *mut i16, demands_len: usize, node: usize,
         ) -> u32;
         pub fn javendriky_nearest(
             parents: *const u8, parents_len: usize, pebbles: *const u8, pebbles_len: usize, targets: *const u8, targets_len: usize,
-            node: usize, distance: *mut u32,
+            depths: *const u8, depths_len: usize, node: usize, distance: *mut u32,
         ) -> u32;
         pub fn javendriky_reach(
             parents: *const u8, parents_len: usize, pebbles: *const u8, pebbles_len: usize, targets: *const u8, targets_len: usize,
-            list: *mut u8, list_len: usize, node: usize, reach: u16,
+            depths: *const u8, depths_len: usize, list: *mut u8, list_len: usize, node: usize, reach: u16,
         ) -> u32;
         pub fn javendriky_push(
             parents: *const u8, parents_len: usize, pebbles: *mut u8, pebbles_len: usize, targets: *const u8, targets_len: usize,
-            from: usize, to: usize,
+            depths: *const u8, depths_len: usize, from: usize, to: usize,
         ) -> u32;
         pub fn javendriky_check(
             parents: *const u8, parents_len: usize, pebbles: *const u8, pebbles_len: usize, targets: *const u8, targets_len: usize,
-            plan: *const u8, plan_len: usize,
+            depths: *const u8, depths_len: usize, plan: *const u8, plan_len: usize,
         ) -> u32;
         pub fn javendriky_excess(
             parents: *const u8, parents_len: usize, pebbles: *const u8, pebbles_len: usize, targets: *const u8, targets_len: usize,
-            plan: *const u8, plan_len: usize,
+            depths: *const u8, depths_len: usize, plan: *const u8, plan_len: usize,
         ) -> u32;
         pub fn javendriky_trial(
             parents: *const u8, parents_len: usize, pebbles: *mut u8, pebbles_len: usize, targets: *const u8, targets_len: usize,
-            plan: *const u8, plan_len: usize, budget: u16,
+            depths: *const u8, depths_len: usize, plan: *const u8, plan_len: usize, budget: u16,
         ) -> u32;
         pub fn javendriky_step(
             parents: *const u8, parents_len: usize, pebbles: *mut u8, pebbles_len: usize, targets: *const u8, targets_len: usize,
-            plan: *const u8, plan_len: usize, registers: *mut u8, registers_len: usize, failed: u8,
+            depths: *const u8, depths_len: usize, plan: *const u8, plan_len: usize, registers: *mut u8, registers_len: usize, failed: u8,
         ) -> u32;
         pub fn javendriky_read_sheet(
             sheet: *const u8, sheet_len: usize,
             parents: *mut u8, parents_len: usize, pebbles: *mut u8, pebbles_len: usize, targets: *mut u8, targets_len: usize,
+            depths: *mut u8, depths_len: usize,
         ) -> u32;
         pub fn javendriky_write_sheet(
             parents: *const u8, parents_len: usize, pebbles: *const u8, pebbles_len: usize, targets: *const u8, targets_len: usize,
-            sheet: *mut u8, sheet_len: usize,
+            depths: *const u8, depths_len: usize, sheet: *mut u8, sheet_len: usize,
         ) -> u32;
     }
 }
@@ -111,36 +114,39 @@ pub fn version() -> u32 {
 
 // Each call below gets lists that are borrowed for as long as it runs, the written ones by no one else: that is all that the header asks for.
 
-pub fn plan(parents: &[u8], pebbles: &[u8], targets: &[u8], plan: &mut [u8]) -> Answer<u32> {
+pub fn plan(parents: &[u8], pebbles: &[u8], targets: &[u8], depths: &[u8], plan: &mut [u8]) -> Answer<u32> {
     answer(unsafe {
         raw::javendriky_plan(
             parents.as_ptr(), parents.len(), pebbles.as_ptr(), pebbles.len(), targets.as_ptr(), targets.len(),
-            plan.as_mut_ptr(), plan.len(),
+            depths.as_ptr(), depths.len(), plan.as_mut_ptr(), plan.len(),
         )
     })
 }
 
-pub fn test_yard(parents: &[u8], pebbles: &[u8], targets: &[u8]) -> Answer<()> {
+pub fn test_yard(parents: &[u8], pebbles: &[u8], targets: &[u8], depths: &[u8]) -> Answer<()> {
     done(unsafe {
-        raw::javendriky_test_yard(parents.as_ptr(), parents.len(), pebbles.as_ptr(), pebbles.len(), targets.as_ptr(), targets.len())
+        raw::javendriky_test_yard(
+            parents.as_ptr(), parents.len(), pebbles.as_ptr(), pebbles.len(), targets.as_ptr(), targets.len(),
+            depths.as_ptr(), depths.len(),
+        )
     })
 }
 
-pub fn demands(parents: &[u8], pebbles: &[u8], targets: &[u8], list: &mut [i16]) -> Answer<()> {
+pub fn demands(parents: &[u8], pebbles: &[u8], targets: &[u8], depths: &[u8], list: &mut [i16]) -> Answer<()> {
     done(unsafe {
         raw::javendriky_demands(
             parents.as_ptr(), parents.len(), pebbles.as_ptr(), pebbles.len(), targets.as_ptr(), targets.len(),
-            list.as_mut_ptr(), list.len(),
+            depths.as_ptr(), depths.len(), list.as_mut_ptr(), list.len(),
         )
     })
 }
 
 /// The bytes are written through the pointer, and a refusal leaves what is there.
-pub fn length_bound(parents: &[u8], pebbles: &[u8], targets: &[u8], bytes: &mut u32) -> Answer<Length> {
+pub fn length_bound(parents: &[u8], pebbles: &[u8], targets: &[u8], depths: &[u8], bytes: &mut u32) -> Answer<Length> {
     let moves = answer(unsafe {
         raw::javendriky_length_bound(
             parents.as_ptr(), parents.len(), pebbles.as_ptr(), pebbles.len(), targets.as_ptr(), targets.len(),
-            bytes,
+            depths.as_ptr(), depths.len(), bytes,
         )
     });
     moves.map(|moves| Length { moves, bytes: *bytes })
@@ -151,14 +157,17 @@ pub fn longest_plan(n: usize) -> Answer<u32> {
     answer(unsafe { raw::javendriky_longest_plan(n) })
 }
 
-pub fn displaced(parents: &[u8], pebbles: &[u8], targets: &[u8]) -> Answer<u32> {
+pub fn displaced(parents: &[u8], pebbles: &[u8], targets: &[u8], depths: &[u8]) -> Answer<u32> {
     answer(unsafe {
-        raw::javendriky_displaced(parents.as_ptr(), parents.len(), pebbles.as_ptr(), pebbles.len(), targets.as_ptr(), targets.len())
+        raw::javendriky_displaced(
+            parents.as_ptr(), parents.len(), pebbles.as_ptr(), pebbles.len(), targets.as_ptr(), targets.len(),
+            depths.as_ptr(), depths.len(),
+        )
     })
 }
 
 /// Each event is a call of its own.
-pub fn event(parents: &[u8], pebbles: &mut [u8], targets: &mut [u8], demands: &mut [i16], event: Event, node: usize) -> Answer<()> {
+pub fn event(parents: &[u8], pebbles: &mut [u8], targets: &mut [u8], depths: &[u8], demands: &mut [i16], event: Event, node: usize) -> Answer<()> {
     let call = match event {
         Event::PebbleArrives => raw::javendriky_pebble_arrives,
         Event::PebbleLeaves => raw::javendriky_pebble_leaves,
@@ -168,93 +177,94 @@ pub fn event(parents: &[u8], pebbles: &mut [u8], targets: &mut [u8], demands: &m
     done(unsafe {
         call(
             parents.as_ptr(), parents.len(), pebbles.as_mut_ptr(), pebbles.len(), targets.as_mut_ptr(), targets.len(),
-            demands.as_mut_ptr(), demands.len(), node,
+            depths.as_ptr(), depths.len(), demands.as_mut_ptr(), demands.len(), node,
         )
     })
 }
 
 /// The distance is written through the pointer, and a refusal leaves what is there.
-pub fn nearest(parents: &[u8], pebbles: &[u8], targets: &[u8], node: usize, distance: &mut u32) -> Answer<Nearest> {
+pub fn nearest(parents: &[u8], pebbles: &[u8], targets: &[u8], depths: &[u8], node: usize, distance: &mut u32) -> Answer<Nearest> {
     let nearest = answer(unsafe {
         raw::javendriky_nearest(
             parents.as_ptr(), parents.len(), pebbles.as_ptr(), pebbles.len(), targets.as_ptr(), targets.len(),
-            node, distance,
+            depths.as_ptr(), depths.len(), node, distance,
         )
     });
     nearest.map(|node| Nearest { node, distance: *distance })
 }
 
-pub fn reach(parents: &[u8], pebbles: &[u8], targets: &[u8], list: &mut [u8], node: usize, reach: u16) -> Answer<u32> {
+pub fn reach(parents: &[u8], pebbles: &[u8], targets: &[u8], depths: &[u8], list: &mut [u8], node: usize, reach: u16) -> Answer<u32> {
     answer(unsafe {
         raw::javendriky_reach(
             parents.as_ptr(), parents.len(), pebbles.as_ptr(), pebbles.len(), targets.as_ptr(), targets.len(),
-            list.as_mut_ptr(), list.len(), node, reach,
+            depths.as_ptr(), depths.len(), list.as_mut_ptr(), list.len(), node, reach,
         )
     })
 }
 
-pub fn push(parents: &[u8], pebbles: &mut [u8], targets: &[u8], from: usize, to: usize) -> Answer<()> {
+pub fn push(parents: &[u8], pebbles: &mut [u8], targets: &[u8], depths: &[u8], from: usize, to: usize) -> Answer<()> {
     done(unsafe {
         raw::javendriky_push(
             parents.as_ptr(), parents.len(), pebbles.as_mut_ptr(), pebbles.len(), targets.as_ptr(), targets.len(),
-            from, to,
+            depths.as_ptr(), depths.len(), from, to,
         )
     })
 }
 
-pub fn check(parents: &[u8], pebbles: &[u8], targets: &[u8], plan: &[u8]) -> Answer<()> {
+pub fn check(parents: &[u8], pebbles: &[u8], targets: &[u8], depths: &[u8], plan: &[u8]) -> Answer<()> {
     done(unsafe {
         raw::javendriky_check(
             parents.as_ptr(), parents.len(), pebbles.as_ptr(), pebbles.len(), targets.as_ptr(), targets.len(),
-            plan.as_ptr(), plan.len(),
+            depths.as_ptr(), depths.len(), plan.as_ptr(), plan.len(),
         )
     })
 }
 
-pub fn excess(parents: &[u8], pebbles: &[u8], targets: &[u8], plan: &[u8]) -> Answer<u32> {
+pub fn excess(parents: &[u8], pebbles: &[u8], targets: &[u8], depths: &[u8], plan: &[u8]) -> Answer<u32> {
     answer(unsafe {
         raw::javendriky_excess(
             parents.as_ptr(), parents.len(), pebbles.as_ptr(), pebbles.len(), targets.as_ptr(), targets.len(),
-            plan.as_ptr(), plan.len(),
+            depths.as_ptr(), depths.len(), plan.as_ptr(), plan.len(),
         )
     })
 }
 
-pub fn trial(parents: &[u8], pebbles: &mut [u8], targets: &[u8], plan: &[u8], budget: u16) -> Answer<Tried> {
+pub fn trial(parents: &[u8], pebbles: &mut [u8], targets: &[u8], depths: &[u8], plan: &[u8], budget: u16) -> Answer<Tried> {
     let tried = |value| Tried { taken: value % BUDGET_ENDED, budget_ended: value >= BUDGET_ENDED };
     answer(unsafe {
         raw::javendriky_trial(
             parents.as_ptr(), parents.len(), pebbles.as_mut_ptr(), pebbles.len(), targets.as_ptr(), targets.len(),
-            plan.as_ptr(), plan.len(), budget,
+            depths.as_ptr(), depths.len(), plan.as_ptr(), plan.len(), budget,
         )
     })
     .map(tried)
 }
 
 /// 1 if the line is raised.
-pub fn step(parents: &[u8], pebbles: &mut [u8], targets: &[u8], plan: &[u8], registers: &mut [u8], failed: u8) -> Answer<u32> {
+pub fn step(parents: &[u8], pebbles: &mut [u8], targets: &[u8], depths: &[u8], plan: &[u8], registers: &mut [u8], failed: u8) -> Answer<u32> {
     answer(unsafe {
         raw::javendriky_step(
             parents.as_ptr(), parents.len(), pebbles.as_mut_ptr(), pebbles.len(), targets.as_ptr(), targets.len(),
-            plan.as_ptr(), plan.len(), registers.as_mut_ptr(), registers.len(), failed,
+            depths.as_ptr(), depths.len(), plan.as_ptr(), plan.len(), registers.as_mut_ptr(), registers.len(), failed,
         )
     })
 }
 
-pub fn read_sheet(sheet: &[u8], parents: &mut [u8], pebbles: &mut [u8], targets: &mut [u8]) -> Answer<u32> {
+pub fn read_sheet(sheet: &[u8], parents: &mut [u8], pebbles: &mut [u8], targets: &mut [u8], depths: &mut [u8]) -> Answer<u32> {
     answer(unsafe {
         raw::javendriky_read_sheet(
             sheet.as_ptr(), sheet.len(),
             parents.as_mut_ptr(), parents.len(), pebbles.as_mut_ptr(), pebbles.len(), targets.as_mut_ptr(), targets.len(),
+            depths.as_mut_ptr(), depths.len(),
         )
     })
 }
 
-pub fn write_sheet(parents: &[u8], pebbles: &[u8], targets: &[u8], sheet: &mut [u8]) -> Answer<u32> {
+pub fn write_sheet(parents: &[u8], pebbles: &[u8], targets: &[u8], depths: &[u8], sheet: &mut [u8]) -> Answer<u32> {
     answer(unsafe {
         raw::javendriky_write_sheet(
             parents.as_ptr(), parents.len(), pebbles.as_ptr(), pebbles.len(), targets.as_ptr(), targets.len(),
-            sheet.as_mut_ptr(), sheet.len(),
+            depths.as_ptr(), depths.len(), sheet.as_mut_ptr(), sheet.len(),
         )
     })
 }

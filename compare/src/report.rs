@@ -1,4 +1,4 @@
-//! The crossing report that is due under a yard's move sheet (request 2.1), from the marks at the start alone. `sheet` counts the report that it prints
+//! The crossing report that is due under a yard's move sheet (request 2.1), from the counts at the start alone. `sheet` counts the report that it prints
 //! from the moves, so where the two are the same, each edge is crossed as often as pebbles and targets beyond it differ in number, and one way only.
 
 use crate::yard::Yard;
@@ -7,7 +7,7 @@ use crate::yard::Yard;
 pub fn judge(yard: &Yard, printed: &[u8]) -> Result<(), String> {
     let (report, sum) = due(yard);
     let Some(front) = printed.strip_suffix(report.as_bytes()) else {
-        return Err(format!("the marks ask for the report {report:?}, printed is {:?}", String::from_utf8_lossy(printed)));
+        return Err(format!("the counts ask for the report {report:?}, printed is {:?}", String::from_utf8_lossy(printed)));
     };
     let lines = front.iter().filter(|&&byte| byte == b'\n').count();
     if lines != 1 + sum {
@@ -22,7 +22,7 @@ fn due(yard: &Yard) -> (String, usize) {
     let mut report = String::from("track up down\n");
     let mut sum = 0;
     for node in (0..yard.nodes()).filter(|&node| !yard.is_root(node)) {
-        let [pebbles, targets] = [&yard.pebbles, &yard.targets].map(|marks| beyond(marks, &children, node));
+        let [pebbles, targets] = [&yard.pebbles, &yard.targets].map(|counts| beyond(counts, &children, node));
         // Pebbles too many leave, those too few come: one of the two is 0.
         let (up, down) = (pebbles.saturating_sub(targets), targets.saturating_sub(pebbles));
         report += &format!("{node} {up} {down}\n");
@@ -32,7 +32,7 @@ fn due(yard: &Yard) -> (String, usize) {
     (report, sum)
 }
 
-/// How many nodes of a subtree are marked.
-fn beyond(marks: &[u8], children: &[Vec<usize>], node: usize) -> usize {
-    usize::from(marks[node]) + children[node].iter().map(|&child| beyond(marks, children, child)).sum::<usize>()
+/// How many there are in a subtree.
+fn beyond(counts: &[u8], children: &[Vec<usize>], node: usize) -> usize {
+    usize::from(counts[node]) + children[node].iter().map(|&child| beyond(counts, children, child)).sum::<usize>()
 }

@@ -1,7 +1,7 @@
 //! Trees of many shapes, their roots and numbers anywhere, with pebbles and targets.
 
 use crate::random::Random;
-use crate::yard::Yard;
+use crate::yard::{judge, total, Yard, MAX_DEPTH};
 
 #[derive(Clone, Copy, Debug, PartialEq, Eq)]
 pub enum Shape {
@@ -59,63 +59,116 @@ pub fn rooted(mut parents: Vec<usize>, root: usize) -> Vec<usize> {
 }
 
 /// The same yard with node v called `names[v]`.
-pub fn renamed(parents: &[usize], pebbles: &[u8], targets: &[u8], names: &[usize]) -> Yard {
-    let n = parents.len();
-    let mut yard = Yard { parents: vec![0; n], pebbles: vec![0; n], targets: vec![0; n] };
-    for node in 0..n {
-        yard.parents[names[node]] = names[parents[node]] as u8;
-        yard.pebbles[names[node]] = pebbles[node];
-        yard.targets[names[node]] = targets[node];
-    }
-    yard
+fn renamed(parents: &[usize], counts: [&[u8]; 3], names: &[usize]) -> Yard {
+    let moved = |list: &[u8]| {
+        let mut moved = vec![0; list.len()];
+        for (&name, &entry) in names.iter().zip(list) {
+            moved[name] = entry;
+        }
+        moved
+    };
+    let named: Vec<u8> = parents.iter().map(|&parent| names[parent] as u8).collect();
+    let [pebbles, targets, depths] = counts.map(moved);
+    Yard { parents: moved(&named), pebbles, targets, depths }
 }
 
-/// Marks for k of n nodes, anywhere.
-pub fn marks(n: usize, k: usize, random: &mut Random) -> Vec<u8> {
-    let mut marks: Vec<u8> = (0..n).map(|node| u8::from(node < k)).collect();
-    random.shuffle(&mut marks);
-    marks
+/// Counts from places that are taken or not, all those of a node side by side.
+fn counted(depths: &[u8], mut places: &[u8]) -> Vec<u8> {
+    let count = |&depth: &u8| {
+        let (own, others) = places.split_at(usize::from(depth));
+        places = others;
+        own.iter().sum()
+    };
+    depths.iter().map(count).collect()
+}
+
+/// The k first places taken.
+fn first(depths: &[u8], k: usize) -> Vec<u8> {
+    counted(depths, &Vec::from_iter((0..total(depths)).map(|place| u8::from(place < k))))
+}
+
+/// The k last places taken.
+fn last(depths: &[u8], k: usize) -> Vec<u8> {
+    let places = total(depths);
+    counted(depths, &Vec::from_iter((0..places).map(|place| u8::from(place >= places - k))))
+}
+
+/// Any k places taken.
+pub fn scattered(depths: &[u8], k: usize, random: &mut Random) -> Vec<u8> {
+    let mut places: Vec<u8> = (0..total(depths)).map(|place| u8::from(place < k)).collect();
+    random.shuffle(&mut places);
+    counted(depths, &places)
 }
 
 /// Pebbles and targets, equally many, for a tree numbered parents first.
-fn pebbles_and_targets(n: usize, random: &mut Random) -> (Vec<u8>, Vec<u8>) {
-    let k = random.within(0, n);
+fn pebbles_and_targets(depths: &[u8], random: &mut Random) -> (Vec<u8>, Vec<u8>) {
+    let k = random.within(0, total(depths));
     match random.below(6) {
         // As far apart as can be, both ways: long plans.
-        0 => ((0..n).map(|v| u8::from(v < k)).collect(), (0..n).map(|v| u8::from(v >= n - k)).collect()),
-        1 => ((0..n).map(|v| u8::from(v >= n - k)).collect(), (0..n).map(|v| u8::from(v < k)).collect()),
+        0 => (first(depths, k), last(depths, k)),
+        1 => (last(depths, k), first(depths, k)),
         // Nothing to do.
         2 if random.once_in(4) => {
-            let pebbles = marks(n, k, random);
+            let pebbles = scattered(depths, k, random);
             (pebbles.clone(), pebbles)
         }
         // A few pebbles in an empty yard.
         3 => {
             let k = k.min(random.within(1, 3));
-            (marks(n, k, random), marks(n, k, random))
+            (scattered(depths, k, random), scattered(depths, k, random))
         }
-        _ => (marks(n, k, random), marks(n, k, random)),
+        _ => (scattered(depths, k, random), scattered(depths, k, random)),
     }
 }
 
-/// A tree of the shape with n nodes, as many pebbles as targets, root and numbers anywhere.
+/// A tree of the shape with n nodes of depth 1, as many pebbles as targets, root and numbers anywhere.
 pub fn yard(shape: Shape, n: usize, random: &mut Random) -> Yard {
+    with_depths(shape, &vec![1; n], random)
+}
+
+/// The same with other depths.
+pub fn deep_yard(shape: Shape, n: usize, random: &mut Random) -> Yard {
+    with_depths(shape, &depths(n, MAX_DEPTH, random), random)
+}
+
+/// One of the two.
+pub fn any_yard(shape: Shape, n: usize, random: &mut Random) -> Yard {
+    if random.once_in(2) {
+        yard(shape, n, random)
+    } else {
+        deep_yard(shape, n, random)
+    }
+}
+
+/// A tree of the shape whose nodes, numbered parents first, have these depths, as many pebbles as targets, root and numbers anywhere.
+pub fn with_depths(shape: Shape, depths: &[u8], random: &mut Random) -> Yard {
+    let n = depths.len();
     let parents = shape.parents(n, random);
-    let (pebbles, targets) = pebbles_and_targets(n, random);
+    let (pebbles, targets) = pebbles_and_targets(depths, random);
     let parents = rooted(parents, random.below(n));
     let mut names: Vec<usize> = (0..n).collect();
     random.shuffle(&mut names);
-    renamed(&parents, &pebbles, &targets, &names)
+    renamed(&parents, [&pebbles, &targets, depths], &names)
 }
 
-/// The tree of the shape with root 0 and parents first, pebbles on the first half of the nodes, targets on the last: for a line this is yard I
-/// of document 01.
-pub fn far(shape: Shape, n: usize, random: &mut Random) -> Yard {
+/// The depths of n nodes, up to a greatest: any, all the same, or a few that are not 1.
+pub fn depths(n: usize, most: u8, random: &mut Random) -> Vec<u8> {
+    let mut any = || random.within(1, usize::from(most)) as u8;
+    let (same, all) = (any(), Vec::from_iter((0..n).map(|_| any())));
+    match random.below(4) {
+        0 => vec![same; n],
+        1 => all.into_iter().map(|depth| if random.once_in(4) { depth } else { 1 }).collect(),
+        _ => all,
+    }
+}
+
+/// The tree of the shape with root 0 and parents first, all nodes of this depth, the first half of them full, the last to be filled: for a line of depth 1
+/// this is yard I of document 01.
+pub fn far(shape: Shape, n: usize, depth: u8, random: &mut Random) -> Yard {
     let parents = shape.parents(n, random);
-    let half: Vec<u8> = (0..n).map(|v| u8::from(v < n / 2)).collect();
-    let other: Vec<u8> = (0..n).map(|v| u8::from(v >= n - n / 2)).collect();
-    let names: Vec<usize> = (0..n).collect();
-    renamed(&parents, &half, &other, &names)
+    let depths = vec![depth; n];
+    let half = usize::from(depth) * (n / 2);
+    renamed(&parents, [&first(&depths, half), &last(&depths, half), &depths], &Vec::from_iter(0..n))
 }
 
 /// A number of nodes from `low` to `high`, small ones as likely as large ones.
@@ -128,15 +181,32 @@ pub fn size(low: usize, high: usize, random: &mut Random) -> usize {
 pub fn every_tree(n: usize) -> Vec<Vec<u8>> {
     let lists = (0..n.pow(n as u32)).map(|code| (0..n).map(|node| (code / n.pow(node as u32) % n) as u8).collect::<Vec<u8>>());
     let zeros = vec![0; n];
-    lists.filter(|parents| crate::yard::judge(&Yard { parents: parents.clone(), pebbles: zeros.clone(), targets: zeros.clone() }).is_ok()).collect()
+    lists.filter(|parents| judge(&Yard::shallow(parents, &zeros, &zeros)).is_ok()).collect()
 }
 
-/// All rooted trees on n numbered nodes, with all pebbles and targets.
-pub fn every_yard(n: usize) -> impl Iterator<Item = Yard> {
-    every_tree(n).into_iter().flat_map(move |parents| {
-        (0..1usize << (2 * n)).map(move |marks| {
-            let mark = |at: usize| (marks >> at & 1) as u8;
-            Yard { parents: parents.clone(), pebbles: (0..n).map(mark).collect(), targets: (n..2 * n).map(mark).collect() }
-        })
+/// All lists with entries from 0 to those of a list: the first changes from one to the next.
+pub fn every_count(most: &[u8]) -> Vec<Vec<u8>> {
+    most.iter().fold(vec![vec![]], |lists, &most| {
+        let longer = |entry: u8| lists.iter().map(move |list| [&list[..], &[entry]].concat());
+        (0..=most).flat_map(longer).collect()
+    })
+}
+
+/// All lists of n depths up to a greatest.
+pub fn every_depths(n: usize, most: u8) -> impl Iterator<Item = Vec<u8>> {
+    every_count(&vec![most - 1; n]).into_iter().map(|list| list.into_iter().map(|less| less + 1).collect())
+}
+
+/// All rooted trees on numbered nodes of these depths, with all pebbles and targets.
+pub fn every_yard(depths: Vec<u8>) -> impl Iterator<Item = Yard> {
+    let counts = every_count(&depths);
+    every_tree(depths.len()).into_iter().flat_map(move |parents| {
+        let filled = |pebbles: &Vec<u8>, targets: &Vec<u8>| Yard {
+            parents: parents.clone(),
+            pebbles: pebbles.clone(),
+            targets: targets.clone(),
+            depths: depths.clone(),
+        };
+        counts.iter().flat_map(|pebbles| counts.iter().map(move |targets| filled(pebbles, targets))).collect::<Vec<Yard>>()
     })
 }

@@ -1,18 +1,21 @@
 //! Yard sheets read and written, move sheets with their crossing report and refusals as bytes, and the move program as a function.
 
 use crate::planner;
-use crate::yard::{refuse, Answer, Refusal, Yard, MAX_NODES};
+use crate::yard::{judge_lengths, refuse, Answer, Refusal, Yard, MAX_NODES};
 
-const HEADER: &str = "berth parent car target\n";
+pub const HEADER: &str = "berth parent car target depth\n";
 
 /// The most bytes that a sheet can have: three digits wherever a value allows them.
-pub const MAX_SHEET_BYTES: usize = 4_010;
+pub const MAX_SHEET_BYTES: usize = 5_040;
 
 /// The move program looks at no byte behind these.
-pub const JUDGED_BYTES: usize = 4_200;
+pub const JUDGED_BYTES: usize = 5_200;
+
+/// The bytes of its plan list: 32,768 moves. Longer plans are refused (request 2.10).
+pub const PROGRAM_PLAN_BYTES: usize = 65_536;
 
 /// The reader with lists of `lengths` entries lent to it.
-pub fn read(sheet: &[u8], lengths: [usize; 3]) -> Answer<Yard> {
+pub fn read(sheet: &[u8], lengths: [usize; 4]) -> Answer<Yard> {
     if lengths.iter().any(|&length| length < MAX_NODES) {
         return refuse(18, 0);
     }
@@ -29,15 +32,16 @@ pub fn read(sheet: &[u8], lengths: [usize; 3]) -> Answer<Yard> {
         let Some(end) = rest.iter().position(|&byte| byte == b'\n') else {
             return refuse(16, line);
         };
-        let Some([own, parent, pebble, target]) = four_values(&rest[..end]) else {
+        let Some([own, parent, pebbles, targets, depth]) = five_values(&rest[..end]) else {
             return refuse(16, line);
         };
         if usize::from(own) != node {
             return refuse(17, line);
         }
         yard.parents.push(parent);
-        yard.pebbles.push(pebble);
-        yard.targets.push(target);
+        yard.pebbles.push(pebbles);
+        yard.targets.push(targets);
+        yard.depths.push(depth);
         rest = &rest[end + 1..];
     }
     if yard.nodes() == 0 {
@@ -48,13 +52,7 @@ pub fn read(sheet: &[u8], lengths: [usize; 3]) -> Answer<Yard> {
 
 /// The writer with a list of `room` bytes lent to it.
 pub fn write(yard: &Yard, room: usize) -> Answer<Vec<u8>> {
-    let n = yard.nodes();
-    if n == 0 || n > MAX_NODES {
-        return refuse(1, 0);
-    }
-    if yard.pebbles.len() != n || yard.targets.len() != n {
-        return refuse(2, 0);
-    }
+    judge_lengths(yard)?;
     let sheet = unjudged(yard);
     if sheet.len() > room {
         return refuse(8, sheet.len());
@@ -62,11 +60,12 @@ pub fn write(yard: &Yard, room: usize) -> Answer<Vec<u8>> {
     Ok(sheet)
 }
 
-/// The sheet of any three equally long lists, legal or not.
+/// The sheet of any four equally long lists, legal or not.
 pub fn unjudged(yard: &Yard) -> Vec<u8> {
     let mut sheet = String::from(HEADER);
     for node in 0..yard.nodes() {
-        sheet += &format!("{node} {} {} {}\n", yard.parents[node], yard.pebbles[node], yard.targets[node]);
+        let [parent, pebbles, targets, depth] = [&yard.parents, &yard.pebbles, &yard.targets, &yard.depths].map(|list| list[node]);
+        sheet += &format!("{node} {parent} {pebbles} {targets} {depth}\n");
     }
     sheet.into_bytes()
 }
@@ -108,12 +107,12 @@ pub fn refusal_sheet(refusal: Refusal) -> Vec<u8> {
 /// What the move program prints for what it is fed.
 pub fn program(input: &[u8]) -> Vec<u8> {
     let judged = &input[..input.len().min(JUDGED_BYTES)];
-    let printed = read(judged, [MAX_NODES; 3]).and_then(|yard| Ok(move_sheet(&yard, &planner::plan(&yard, usize::MAX)?)));
+    let printed = read(judged, [MAX_NODES; 4]).and_then(|yard| Ok(move_sheet(&yard, &planner::plan(&yard, PROGRAM_PLAN_BYTES)?)));
     printed.unwrap_or_else(refusal_sheet)
 }
 
-/// The values of a line of four, one space between.
-fn four_values(line: &[u8]) -> Option<[u8; 4]> {
+/// The values of a line of five, one space between.
+fn five_values(line: &[u8]) -> Option<[u8; 5]> {
     let words: Vec<&[u8]> = line.split(|&byte| byte == b' ').collect();
     let values: Option<Vec<u8>> = words.into_iter().map(value).collect();
     values?.try_into().ok()

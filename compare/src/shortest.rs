@@ -1,40 +1,89 @@
-//! The least number of moves by two methods that know nothing of demands: a search through all pebble sets of a small tree, and the cheapest
+//! The least number of moves by two methods that know nothing of demands: a search through all that the nodes of a small tree can hold, and the cheapest
 //! matching of pebbles to targets by their distances (the older optimal method that the source reviews).
 
-use crate::yard::{marked, Yard};
+use crate::random::Random;
+use crate::yard::{each, Yard};
 use std::collections::VecDeque;
 
-/// For each set of nodes (bit v for node v) the least number of moves from the yard's pebbles to it; none where no moves lead there.
-/// Asks for a tree of few nodes: there are two to the power of n sets.
+/// All that the nodes of a yard can hold, in the order of `shapes::every_count`: one more at a node is `units[node]` places further on.
+struct Places<'a> {
+    yard: &'a Yard,
+    units: Vec<usize>,
+    /// Each edge both ways, first the node that is left.
+    ways: Vec<(usize, usize)>,
+}
+
+impl Places<'_> {
+    fn of(yard: &Yard) -> Places<'_> {
+        let units = (0..=yard.nodes()).map(|node| yard.depths[..node].iter().map(|&depth| usize::from(depth) + 1).product()).collect();
+        let edges = (0..yard.nodes()).filter(|&v| !yard.is_root(v));
+        Places { yard, units, ways: edges.flat_map(|v| [(v, yard.parent(v)), (yard.parent(v), v)]).collect() }
+    }
+
+    fn len(&self) -> usize {
+        self.units[self.yard.nodes()]
+    }
+
+    fn count(&self, at: usize, node: usize) -> usize {
+        at / self.units[node] % (usize::from(self.yard.depths[node]) + 1)
+    }
+
+    /// Where a move leads, if it is legal.
+    fn moved(&self, at: usize, (from, to): (usize, usize)) -> Option<usize> {
+        let legal = self.count(at, from) > 0 && self.count(at, to) < usize::from(self.yard.depths[to]);
+        legal.then(|| at + self.units[to] - self.units[from])
+    }
+
+    fn place(&self, counts: &[u8]) -> usize {
+        counts.iter().zip(&self.units).map(|(&count, unit)| usize::from(count) * unit).sum()
+    }
+}
+
+/// For each list of counts that the depths allow, in the order of `shapes::every_count`, the least number of moves from the yard's pebbles to it; none where
+/// no moves lead there. Asks for a tree of few nodes: there are as many lists as the product of all depths, each one more, says.
 pub fn by_search(yard: &Yard) -> Vec<Option<u32>> {
-    let mut least = vec![None; 1 << yard.nodes()];
-    let start = set(&yard.pebbles);
+    let places = Places::of(yard);
+    let mut least = vec![None; places.len()];
+    let start = places.place(&yard.pebbles);
     least[start] = Some(0);
     let mut open = VecDeque::from([(start, 0)]);
-    while let Some((pebbles, moves)) = open.pop_front() {
-        for v in (0..yard.nodes()).filter(|&v| !yard.is_root(v)) {
-            let edge = 1 << v | 1 << yard.parent(v);
-            // A pebble can cross an edge that has one at exactly one end; it then is at the other.
-            let crossed = pebbles ^ edge;
-            if (pebbles & edge).count_ones() == 1 && least[crossed].is_none() {
-                least[crossed] = Some(moves + 1);
-                open.push_back((crossed, moves + 1));
+    while let Some((at, moves)) = open.pop_front() {
+        for next in places.ways.iter().filter_map(|&way| places.moved(at, way)) {
+            if least[next].is_none() {
+                least[next] = Some(moves + 1);
+                open.push_back((next, moves + 1));
             }
         }
     }
     least
 }
 
-/// The set of the nodes that are marked.
-pub fn set(marks: &[u8]) -> usize {
-    marks.iter().enumerate().fold(0, |set, (node, &mark)| set | usize::from(mark) << node)
+/// The place of a list of counts in that order.
+pub fn place(yard: &Yard, counts: &[u8]) -> usize {
+    Places::of(yard).place(counts)
+}
+
+/// Any one of the plans that have the least number of moves, backwards from the targets through what the search found; none where there is no plan.
+pub fn any_plan(yard: &Yard, least: &[Option<u32>], random: &mut Random) -> Option<Vec<u8>> {
+    let places = Places::of(yard);
+    let mut at = places.place(&yard.targets);
+    let mut moves = Vec::new();
+    for left in (0..least[at]?).rev() {
+        let before = |&(from, to): &(usize, usize)| Some((places.moved(at, (to, from))?, [from as u8, to as u8]));
+        let nearer: Vec<(usize, [u8; 2])> = places.ways.iter().filter_map(before).filter(|(at, _)| least[*at] == Some(left)).collect();
+        let (previous, ends) = random.pick(&nearer);
+        moves.push(ends);
+        at = previous;
+    }
+    moves.reverse();
+    Some(moves.concat())
 }
 
 /// The least sum of distances when each pebble gets a target of its own. Asks for a tree with equal totals.
 pub fn by_matching(yard: &Yard) -> u32 {
-    let targets = marked(&yard.targets);
+    let targets = each(&yard.targets);
     let costs: Vec<Vec<i64>> =
-        marked(&yard.pebbles).into_iter().map(|pebble| targets.iter().map(|&target| distance(yard, pebble, target)).collect()).collect();
+        each(&yard.pebbles).into_iter().map(|pebble| targets.iter().map(|&target| distance(yard, pebble, target)).collect()).collect();
     cheapest_assignment(&costs) as u32
 }
 

@@ -3,12 +3,17 @@
 /// The largest yard (document 01).
 pub const MAX_NODES: usize = 256;
 
-/// Three lists with an entry for each node: its parent, its pebble mark, its target mark. They may hold anything, and differ in length.
+/// The most pebbles that a node can hold (request 2.10).
+pub const MAX_DEPTH: u8 = 8;
+
+/// Four lists with an entry for each node: its parent, how many pebbles it holds, how many it is to hold, and how many it can hold. They may hold anything, and
+/// differ in length.
 #[derive(Clone, Debug, Default, PartialEq, Eq)]
 pub struct Yard {
     pub parents: Vec<u8>,
     pub pebbles: Vec<u8>,
     pub targets: Vec<u8>,
+    pub depths: Vec<u8>,
 }
 
 /// Document 01's refusal: its number in the table there, and its place.
@@ -26,6 +31,18 @@ pub fn refuse<T>(number: u32, place: usize) -> Answer<T> {
 }
 
 impl Yard {
+    /// A yard of before request 2.10: every node can hold one pebble.
+    pub fn shallow(parents: &[u8], pebbles: &[u8], targets: &[u8]) -> Yard {
+        let depths = vec![1; parents.len()];
+        Yard { parents: parents.to_vec(), pebbles: pebbles.to_vec(), targets: targets.to_vec(), depths }
+    }
+
+    /// The same tree with nothing on it.
+    pub fn emptied(self) -> Yard {
+        let none = vec![0; self.nodes()];
+        Yard { pebbles: none.clone(), targets: none, ..self }
+    }
+
     pub fn nodes(&self) -> usize {
         self.parents.len()
     }
@@ -36,6 +53,10 @@ impl Yard {
 
     pub fn is_root(&self, node: usize) -> bool {
         self.parent(node) == node
+    }
+
+    pub fn is_shallow(&self) -> bool {
+        self.depths.iter().all(|&depth| depth == 1)
     }
 
     /// The children of each node, in rising number. Asks for a tree.
@@ -50,28 +71,31 @@ impl Yard {
     }
 }
 
-/// How many marks of a list are set.
-pub fn total(marks: &[u8]) -> usize {
-    marks.iter().filter(|&&mark| mark == 1).count()
+/// The sum of a list of counts.
+pub fn total(counts: &[u8]) -> usize {
+    counts.iter().map(|&count| usize::from(count)).sum()
 }
 
-/// The nodes whose marks are set, in rising number.
-pub fn marked(marks: &[u8]) -> Vec<usize> {
-    (0..marks.len()).filter(|&node| marks[node] == 1).collect()
+/// The nodes that have any, in rising number.
+pub fn having(counts: &[u8]) -> Vec<usize> {
+    (0..counts.len()).filter(|&node| counts[node] > 0).collect()
 }
 
-/// Refusals 1 to 6: whether the lists are a tree with its marks.
+/// The nodes in rising number, each as often as it counts.
+pub fn each(counts: &[u8]) -> Vec<usize> {
+    (0..counts.len()).flat_map(|node| std::iter::repeat_n(node, usize::from(counts[node]))).collect()
+}
+
+/// Refusals 1, 2, 26, 27, 4, 5 and 6, in this order: whether the lists are a tree with its counts.
 pub fn judge(yard: &Yard) -> Answer<()> {
+    judge_lengths(yard)?;
     let n = yard.nodes();
-    if n == 0 || n > MAX_NODES {
-        return refuse(1, 0);
+    if let Some(node) = yard.depths.iter().position(|&depth| depth == 0 || depth > MAX_DEPTH) {
+        return refuse(26, node);
     }
-    if yard.pebbles.len() != n || yard.targets.len() != n {
-        return refuse(2, 0);
-    }
-    for marks in [&yard.pebbles, &yard.targets] {
-        if let Some(node) = marks.iter().position(|&mark| mark > 1) {
-            return refuse(3, node);
+    for counts in [&yard.pebbles, &yard.targets] {
+        if let Some(node) = (0..n).find(|&node| counts[node] > yard.depths[node]) {
+            return refuse(27, node);
         }
     }
     if let Some(node) = (0..n).find(|&node| yard.parent(node) >= n) {
@@ -91,7 +115,19 @@ pub fn judge(yard: &Yard) -> Answer<()> {
     }
 }
 
-/// Refusals 1 to 7: a tree with as many pebbles as targets, so that it has a plan.
+/// Refusals 1 and 2.
+pub fn judge_lengths(yard: &Yard) -> Answer<()> {
+    let n = yard.nodes();
+    if n == 0 || n > MAX_NODES {
+        return refuse(1, 0);
+    }
+    if [&yard.pebbles, &yard.targets, &yard.depths].iter().any(|list| list.len() != n) {
+        return refuse(2, 0);
+    }
+    Ok(())
+}
+
+/// The same and 7: a tree with as many pebbles as targets, so that it has a plan.
 pub fn judge_matched(yard: &Yard) -> Answer<()> {
     judge(yard)?;
     if total(&yard.pebbles) != total(&yard.targets) {

@@ -4,21 +4,18 @@ use std::hint::black_box;
 use std::process::ExitCode;
 use std::time::Instant;
 use unrelated::cabinet::{status, Registers};
-use unrelated::checker::Tried;
+use unrelated::checker::{Tried, MAX_PLAN_BYTES};
 use unrelated::distance::{self, Nearest};
 use unrelated::event::{way, Event, Kept};
 use unrelated::figures::Length;
 use unrelated::random::Random;
 use unrelated::shapes::{far, Shape};
-use unrelated::yard::{marked, Answer, Yard};
+use unrelated::yard::{having, Answer, Yard, MAX_DEPTH};
 use unrelated::{fast, library, planner};
 
 const SAMPLES: usize = 301;
 /// Each sample repeats its call until it takes this long: far above what reading the clock takes.
 const SAMPLE_NS: f64 = 20_000.0;
-/// Room for any plan.
-const PLAN_BYTES: usize = 32_768;
-
 /// Times of one call, in nanoseconds.
 struct Times {
     library: f64,
@@ -63,13 +60,14 @@ fn measure<T>(mut library: impl FnMut() -> T, mut plain: impl FnMut() -> T) -> T
     Times { library: median(of_library), plain: median(of_plain) }
 }
 
-type Planner = fn(&[u8], &[u8], &[u8], &mut [u8]) -> Answer<u32>;
+type Planner = fn(&[u8], &[u8], &[u8], &[u8], &mut [u8]) -> Answer<u32>;
 
 /// The plan and the times of two planners, or nothing if they differ.
 fn plans(yard: &Yard, plain: Planner) -> Option<(Vec<u8>, Times)> {
-    let Yard { parents, pebbles, targets } = yard;
-    let call = |planner: Planner, list: &mut [u8]| planner(black_box(parents), black_box(pebbles), black_box(targets), black_box(list));
-    let (mut list, mut plain_list) = (vec![0; PLAN_BYTES], vec![0; PLAN_BYTES]);
+    let Yard { parents, pebbles, targets, depths } = yard;
+    let call =
+        |planner: Planner, list: &mut [u8]| planner(black_box(parents), black_box(pebbles), black_box(targets), black_box(depths), black_box(list));
+    let (mut list, mut plain_list) = (vec![0; MAX_PLAN_BYTES], vec![0; MAX_PLAN_BYTES]);
     let answer = call(library::plan, &mut list);
     if answer != call(plain, &mut plain_list) || list != plain_list {
         return None;
@@ -80,9 +78,9 @@ fn plans(yard: &Yard, plain: Planner) -> Option<(Vec<u8>, Times)> {
 }
 
 fn checks(yard: &Yard, plan: &[u8]) -> Option<Times> {
-    let Yard { parents, pebbles, targets } = yard;
-    type Checker = fn(&[u8], &[u8], &[u8], &[u8]) -> Answer<()>;
-    let call = |checker: Checker| checker(black_box(parents), black_box(pebbles), black_box(targets), black_box(plan));
+    let Yard { parents, pebbles, targets, depths } = yard;
+    type Checker = fn(&[u8], &[u8], &[u8], &[u8], &[u8]) -> Answer<()>;
+    let call = |checker: Checker| checker(black_box(parents), black_box(pebbles), black_box(targets), black_box(depths), black_box(plan));
     if call(library::check) != Ok(()) || call(fast::check) != Ok(()) {
         return None;
     }
@@ -90,32 +88,43 @@ fn checks(yard: &Yard, plan: &[u8]) -> Option<Times> {
 }
 
 fn trials(yard: &Yard, plan: &[u8]) -> Option<Times> {
-    let Yard { parents, pebbles, targets } = yard;
-    type Trial = fn(&[u8], &mut [u8], &[u8], &[u8], u16) -> Answer<Tried>;
-    let call = |trial: Trial, marks: &mut [u8]| {
-        marks.copy_from_slice(pebbles);
-        trial(black_box(parents), black_box(marks), black_box(targets), black_box(plan), black_box(u16::MAX))
+    let Yard { parents, pebbles, targets, depths } = yard;
+    type Trial = fn(&[u8], &mut [u8], &[u8], &[u8], &[u8], u16) -> Answer<Tried>;
+    let call = |trial: Trial, counts: &mut [u8]| {
+        counts.copy_from_slice(pebbles);
+        trial(black_box(parents), black_box(counts), black_box(targets), black_box(depths), black_box(plan), black_box(u16::MAX))
     };
-    let (mut marks, mut plain_marks) = (pebbles.clone(), pebbles.clone());
-    if call(library::trial, &mut marks) != call(fast::trial, &mut plain_marks) || marks != plain_marks || marks != *targets {
+    let (mut counts, mut plain_counts) = (pebbles.clone(), pebbles.clone());
+    let tried = call(library::trial, &mut counts);
+    // The longest plans have more moves than a budget.
+    let ended = tried.is_ok_and(|tried| tried.budget_ended || counts == *targets);
+    if !ended || tried != call(fast::trial, &mut plain_counts) || counts != plain_counts {
         return None;
     }
-    Some(measure(|| call(library::trial, &mut marks), || call(fast::trial, &mut plain_marks)))
+    Some(measure(|| call(library::trial, &mut counts), || call(fast::trial, &mut plain_counts)))
 }
 
 /// Of the nodes that are wanted the one farthest from the root, the last among equals.
-fn deepest(yard: &Yard, wanted: impl Fn(usize) -> bool) -> Option<usize> {
+fn farthest(yard: &Yard, wanted: impl Fn(usize) -> bool) -> Option<usize> {
     (0..yard.nodes()).filter(|&node| wanted(node)).max_by_key(|&node| way(yard, node).len())
 }
 
-type EventCall = fn(&[u8], &mut [u8], &mut [u8], &mut [i16], Event, usize) -> Answer<()>;
+type EventCall = fn(&[u8], &mut [u8], &mut [u8], &[u8], &mut [i16], Event, usize) -> Answer<()>;
 
-/// A pebble arrives at the deepest empty node and leaves it, which brings back what was; the time of one of the two.
+/// A pebble arrives at the farthest node with a place and leaves it, which brings back what was; the time of one of the two.
 fn events(yard: &Yard, plain: EventCall) -> Option<Times> {
-    let deepest = deepest(yard, |node| yard.pebbles[node] == 0)?;
+    let farthest = farthest(yard, |node| yard.pebbles[node] < yard.depths[node])?;
     let call = |call: EventCall, kept: &mut Kept, event: Event| {
-        let Yard { parents, pebbles, targets } = &mut kept.yard;
-        call(black_box(parents), black_box(pebbles), black_box(targets), black_box(&mut kept.demands), black_box(event), black_box(deepest))
+        let Yard { parents, pebbles, targets, depths } = &mut kept.yard;
+        call(
+            black_box(parents),
+            black_box(pebbles),
+            black_box(targets),
+            black_box(depths),
+            black_box(&mut kept.demands),
+            black_box(event),
+            black_box(farthest),
+        )
     };
     let begun = Kept::right(yard.clone());
     let (mut kept, mut plain_kept) = (begun.clone(), begun.clone());
@@ -135,13 +144,13 @@ fn events(yard: &Yard, plain: EventCall) -> Option<Times> {
     Some(Times { library: both.library / 2.0, plain: both.plain / 2.0 })
 }
 
-/// The nearest pebble of the deepest node.
+/// The nearest pebble of the farthest node.
 fn nearest(yard: &Yard) -> Option<Times> {
-    let Yard { parents, pebbles, targets } = yard;
-    type Call = fn(&[u8], &[u8], &[u8], usize) -> Answer<Nearest>;
-    let node = deepest(yard, |_| true)?;
-    let call = |call: Call| call(black_box(parents), black_box(pebbles), black_box(targets), black_box(node));
-    let library: Call = |parents, pebbles, targets, node| library::nearest(parents, pebbles, targets, node, &mut 0);
+    let Yard { parents, pebbles, targets, depths } = yard;
+    type Call = fn(&[u8], &[u8], &[u8], &[u8], usize) -> Answer<Nearest>;
+    let node = farthest(yard, |_| true)?;
+    let call = |call: Call| call(black_box(parents), black_box(pebbles), black_box(targets), black_box(depths), black_box(node));
+    let library: Call = |parents, pebbles, targets, depths, node| library::nearest(parents, pebbles, targets, depths, node, &mut 0);
     let answer = call(library);
     if answer.is_err() || answer != call(fast::nearest) {
         return None;
@@ -149,16 +158,16 @@ fn nearest(yard: &Yard) -> Option<Times> {
     Some(measure(|| call(library), || call(fast::nearest)))
 }
 
-/// The pebbles within reach of the deepest node. The reach ends halfway between the nearest and the farthest, so that some are within it and some are not.
+/// The pebbles within reach of the farthest node. The reach ends halfway between the nearest and the farthest, so that some are within it and some are not.
 fn reaches(yard: &Yard) -> Option<Times> {
-    let Yard { parents, pebbles, targets } = yard;
-    type Call = fn(&[u8], &[u8], &[u8], &mut [u8], usize, u16) -> Answer<u32>;
-    let node = deepest(yard, |_| true)?;
+    let Yard { parents, pebbles, targets, depths } = yard;
+    type Call = fn(&[u8], &[u8], &[u8], &[u8], &mut [u8], usize, u16) -> Answer<u32>;
+    let node = farthest(yard, |_| true)?;
     let distances = distance::from_node(yard, node);
-    let of_pebbles: Vec<usize> = marked(pebbles).into_iter().map(|pebble| distances[pebble]).collect();
+    let of_pebbles: Vec<usize> = having(pebbles).into_iter().map(|held| distances[held]).collect();
     let reach = ((of_pebbles.iter().min()? + of_pebbles.iter().max()?) / 2) as u16;
     let call = |call: Call, list: &mut [u8]| {
-        call(black_box(parents), black_box(pebbles), black_box(targets), black_box(list), black_box(node), black_box(reach))
+        call(black_box(parents), black_box(pebbles), black_box(targets), black_box(depths), black_box(list), black_box(node), black_box(reach))
     };
     let (mut list, mut plain_list) = (vec![2; yard.nodes()], vec![2; yard.nodes()]);
     let within = call(library::reach, &mut list);
@@ -168,41 +177,49 @@ fn reaches(yard: &Yard) -> Option<Times> {
     Some(measure(|| call(library::reach, &mut list), || call(fast::reach, &mut plain_list)))
 }
 
-type Step = fn(&[u8], &mut [u8], &[u8], &[u8], &mut [u8], u8) -> Answer<u32>;
+type Step = fn(&[u8], &mut [u8], &[u8], &[u8], &[u8], &mut [u8], u8) -> Answer<u32>;
 
 /// A running step obeys the plan's first move, and a second one takes it back. Then the block is put back, within the time; the time of one of the two.
-fn steps(yard: &Yard, plan: &[u8], plain: Step) -> Option<Times> {
-    let Yard { parents, pebbles, targets } = yard;
+fn steps(yard: &Yard, plan: &[u8]) -> Option<Times> {
+    let Yard { parents, pebbles, targets, depths } = yard;
     let there_and_back = [plan[0], plan[1], plan[1], plan[0]];
     let begun = Registers { status: status::RUNNING, left: 2, ..Registers::default() }.block();
     let call = |step: Step, pebbles: &mut [u8], block: &mut [u8]| {
-        step(black_box(parents), black_box(pebbles), black_box(targets), black_box(&there_and_back), black_box(block), black_box(0))
+        step(
+            black_box(parents),
+            black_box(pebbles),
+            black_box(targets),
+            black_box(depths),
+            black_box(&there_and_back),
+            black_box(block),
+            black_box(0),
+        )
     };
     let twice = |step: Step, pebbles: &mut [u8]| {
         let mut block = begun;
         [call(step, pebbles, &mut block), call(step, pebbles, &mut block)]
     };
-    let (mut marks, mut plain_marks) = (pebbles.clone(), pebbles.clone());
+    let (mut counts, mut plain_counts) = (pebbles.clone(), pebbles.clone());
     let (mut block, mut plain_block) = (begun, begun);
     for _ in 0..2 {
-        let answer = call(library::step, &mut marks, &mut block);
-        if answer != Ok(0) || answer != call(plain, &mut plain_marks, &mut plain_block) || marks != plain_marks || block != plain_block {
+        let answer = call(library::step, &mut counts, &mut block);
+        if answer != Ok(0) || answer != call(fast::step, &mut plain_counts, &mut plain_block) || counts != plain_counts || block != plain_block {
             return None;
         }
     }
-    if marks != *pebbles || block[1] != status::IDLE {
+    if counts != *pebbles || block[1] != status::IDLE {
         return None;
     }
-    let both = measure(|| twice(library::step, &mut marks), || twice(plain, &mut plain_marks));
+    let both = measure(|| twice(library::step, &mut counts), || twice(fast::step, &mut plain_counts));
     Some(Times { library: both.library / 2.0, plain: both.plain / 2.0 })
 }
 
-type Figure<T> = fn(&[u8], &[u8], &[u8]) -> Answer<T>;
+type Figure<T> = fn(&[u8], &[u8], &[u8], &[u8]) -> Answer<T>;
 
 /// The times of two calls that take the yard alone, or nothing if they differ or refuse it.
 fn figures<T: PartialEq>(yard: &Yard, library: Figure<T>, plain: Figure<T>) -> Option<Times> {
-    let Yard { parents, pebbles, targets } = yard;
-    let call = |figure: Figure<T>| figure(black_box(parents), black_box(pebbles), black_box(targets));
+    let Yard { parents, pebbles, targets, depths } = yard;
+    let call = |figure: Figure<T>| figure(black_box(parents), black_box(pebbles), black_box(targets), black_box(depths));
     let answer = call(library);
     if answer.is_err() || answer != call(plain) {
         return None;
@@ -210,26 +227,20 @@ fn figures<T: PartialEq>(yard: &Yard, library: Figure<T>, plain: Figure<T>) -> O
     Some(measure(|| call(library), || call(plain)))
 }
 
-fn bound(parents: &[u8], pebbles: &[u8], targets: &[u8]) -> Answer<Length> {
-    library::length_bound(parents, pebbles, targets, &mut 0)
+fn bound(parents: &[u8], pebbles: &[u8], targets: &[u8], depths: &[u8]) -> Answer<Length> {
+    library::length_bound(parents, pebbles, targets, depths, &mut 0)
 }
 
-/// The yards of the benchmark: root 0, parents before children, pebbles on the first half of the nodes, targets on the other. The line is yard I.
-fn yard(shape: Shape, n: usize) -> Yard {
-    far(shape, n, &mut Random::new(n as u64))
+/// The yards of the benchmark: root 0, parents before children, the first half of the nodes full, the other to be filled. The line of depth 1 is yard I.
+fn yard(shape: Shape, n: usize, depth: u8) -> Yard {
+    far(shape, n, depth, &mut Random::new(n as u64))
 }
 
-/// The highest ratio of the table, or nothing if answers differ.
-fn run() -> Option<f64> {
-    println!("Medians of {SAMPLES} samples in turn. Plan lists are not cleared before a call. A trial's pebbles are set anew before each one,");
-    println!("on both sides and within the time (256 bytes copied). An event is a pebble's arrival at the deepest empty node, or its leaving it.");
-    println!("Nearest and reach are asked from the deepest node; the reach ends halfway between its nearest and its farthest pebble.");
-    println!("A step obeys the plan's first move or takes it back; the 8 bytes of its block are put back after both, within the time.");
-    println!("'Plain' is the same algorithm in safe Rust, with the same tests first.\n");
-    println!("256 nodes    call        moves  library µs    plain µs   ratio");
+/// Every call on 256 nodes of one depth. The highest ratio, or nothing if answers differ.
+fn all_calls(depth: u8) -> Option<f64> {
     let mut highest = 0.0;
     for shape in Shape::ALL {
-        let yard = yard(shape, 256);
+        let yard = yard(shape, 256, depth);
         let (plan, planned) = plans(&yard, fast::plan)?;
         let rows = [
             ("plan", planned),
@@ -240,31 +251,44 @@ fn run() -> Option<f64> {
             ("event", events(&yard, fast::event)?),
             ("nearest", nearest(&yard)?),
             ("reach", reaches(&yard)?),
-            ("step", steps(&yard, &plan, fast::step)?),
+            ("step", steps(&yard, &plan)?),
             ("test_yard", figures(&yard, library::test_yard, fast::test_yard)?),
         ];
         for (call, times) in rows {
             let (library, plain, ratio) = (times.library / 1e3, times.plain / 1e3, times.ratio());
-            println!("{:<13}{call:<10}{:>7}{library:>12.2}{plain:>12.2}{ratio:>8.2}", shape.name(), plan.len() / 2);
+            println!("{:<13}{depth:>5}  {call:<10}{:>7}{library:>12.2}{plain:>12.2}{ratio:>8.2}", shape.name(), plan.len() / 2);
             highest = ratio.max(highest);
         }
     }
-    println!("\nPlan, time a move  nodes   moves  library ns    plain ns   ratio");
-    for shape in [Shape::Line, Shape::Caterpillar, Shape::Random] {
+    Some(highest)
+}
+
+/// The highest ratio of the first table, or nothing if answers differ.
+fn run() -> Option<f64> {
+    println!("Medians of {SAMPLES} samples in turn. Plan lists are not cleared before a call. A trial's pebbles are set anew before each one,");
+    println!("on both sides and within the time (256 bytes copied); its budget is 65,535 moves, fewer than the longest plans have. An event is");
+    println!("a pebble's arrival at the node farthest from the root that has a place, or its leaving it. Nearest and reach are asked from the");
+    println!("farthest node; the reach ends halfway between its nearest and its farthest pebble. A step obeys the plan's first move or takes it");
+    println!("back; the 9 bytes of its block are put back after both, within the time. 'Plain' is the same algorithm in safe Rust, with the same");
+    println!("tests first.\n");
+    println!("256 nodes    depth  call        moves  library µs    plain µs   ratio");
+    let highest = all_calls(1)?.max(all_calls(MAX_DEPTH)?);
+    println!("\nPlan, time a move  nodes  depth   moves  library ns    plain ns   ratio");
+    for (shape, depth) in [Shape::Line, Shape::Caterpillar, Shape::Random].into_iter().flat_map(|shape| [(shape, 1), (shape, MAX_DEPTH)]) {
         for n in [16, 32, 64, 128, 256] {
-            let (plan, times) = plans(&yard(shape, n), fast::plan)?;
+            let (plan, times) = plans(&yard(shape, n, depth), fast::plan)?;
             let moves = plan.len() / 2;
             let (library, plain) = (times.library / moves as f64, times.plain / moves as f64);
-            println!("{:<19}{n:>5}{moves:>8}{library:>12.2}{plain:>12.2}{:>8.2}", shape.name(), times.ratio());
+            println!("{:<19}{n:>5}{depth:>7}{moves:>8}{library:>12.2}{plain:>12.2}{:>8.2}", shape.name(), times.ratio());
         }
     }
-    println!("\nFor information, plan in µs and the library's ratio to it: plain Rust with the children of a node chained as siblings (as above),");
-    println!("in a row, chained with nothing kept, so that each pick looks at all children for the neediest, and chained as above with the");
-    println!("way of each pebble kept in a list instead of calls within calls.\n");
+    println!("\nFor information, at depth 1, plan in µs and the library's ratio to it: plain Rust with the children of a node chained as siblings");
+    println!("(as above), in a row, chained with nothing kept, so that each pick looks at all children for the neediest, and chained as above with");
+    println!("the way of each pebble kept in a list instead of calls within calls.\n");
     println!("256 nodes    moves    siblings, ratio    in a row, ratio       scans, ratio        ways, ratio");
     for shape in Shape::ALL {
-        let yard = yard(shape, 256);
-        print!("{:<11}{:>7}", shape.name(), planner::plan(&yard, PLAN_BYTES).ok()?.len() / 2);
+        let yard = yard(shape, 256, 1);
+        print!("{:<11}{:>7}", shape.name(), planner::plan(&yard, MAX_PLAN_BYTES).ok()?.len() / 2);
         for planner in [fast::plan, fast::plan_by_rows, fast::plan_with_scans, fast::plan_by_ways] {
             let (_, times) = plans(&yard, planner)?;
             print!("{:>12.2} {:>6.2}", times.plain / 1e3, times.ratio());
@@ -272,18 +296,11 @@ fn run() -> Option<f64> {
         println!();
     }
     println!(
-        "\nFor information, an event in µs and the library's ratio to it: plain Rust that works no demand out but holds the list to equation 2.\n"
+        "\nFor information, at depth 1, an event in µs and the library's ratio to it: plain Rust that works no demand out but holds the list to"
     );
+    println!("equation 2.\n");
     for shape in Shape::ALL {
-        let times = events(&yard(shape, 256), fast::event_by_equation_2)?;
-        println!("{:<11}{:>12.2} {:>6.2}", shape.name(), times.plain / 1e3, times.ratio());
-    }
-    println!(
-        "\nFor information, a step in µs and the library's ratio to it: plain Rust that tests the yard by climbs that end where one was before.\n"
-    );
-    for shape in Shape::ALL {
-        let yard = yard(shape, 256);
-        let times = steps(&yard, &planner::plan(&yard, PLAN_BYTES).ok()?, fast::step_by_climbs)?;
+        let times = events(&yard(shape, 256, 1), fast::event_by_equation_2)?;
         println!("{:<11}{:>12.2} {:>6.2}", shape.name(), times.plain / 1e3, times.ratio());
     }
     Some(highest)

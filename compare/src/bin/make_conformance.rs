@@ -3,7 +3,7 @@
 
 use std::path::Path;
 use std::process::ExitCode;
-use unrelated::planner::{plan_by, Choice};
+use unrelated::planner::{plan_by, Choice, Turn};
 use unrelated::random::Random;
 use unrelated::shapes::{self, Shape};
 use unrelated::yard::{Yard, MAX_NODES};
@@ -25,6 +25,7 @@ fn main() -> ExitCode {
     // Behind the others, so that those keep their numbers; the later set behind the earlier.
     reports(&mut sheets);
     neediest(&mut sheets);
+    deep(&mut sheets);
     match sheets.write(Path::new(&folder)) {
         Ok(()) => {
             println!("{} sheets", sheets.all.len());
@@ -85,12 +86,13 @@ impl Sheets {
 
 fn tree(parents: &[u8], pebbles: &[usize], targets: &[usize]) -> Yard {
     let marks = |nodes: &[usize]| -> Vec<u8> { (0..parents.len()).map(|node| u8::from(nodes.contains(&node))).collect() };
-    Yard { parents: parents.to_vec(), pebbles: marks(pebbles), targets: marks(targets) }
+    Yard::shallow(parents, &marks(pebbles), &marks(targets))
 }
 
 /// How many moves of the plan are not those that stand there by the choice of before request 2.6.
 fn differing(yard: &Yard) -> usize {
-    let [neediest, lowest] = [Choice::Neediest, Choice::Lowest].map(|choice| plan_by(choice, yard, usize::MAX).expect("a yard with a plan"));
+    let [neediest, lowest] =
+        [Choice::Neediest, Choice::Lowest].map(|choice| plan_by(choice, Turn::HoldsAndWanted, yard, usize::MAX).expect("a yard with a plan"));
     neediest.chunks(2).zip(lowest.chunks(2)).filter(|(one, other)| one != other).count()
 }
 
@@ -103,7 +105,7 @@ fn worked(sheets: &mut Sheets) {
     sheets.tree("yard-d-one", &[0, 0], &[0], &[0]);
     sheets.tree("yard-d-both", &[0, 0], &[0, 1], &[0, 1]);
     sheets.tree("yard-d-none", &[0, 0], &[], &[]);
-    sheets.yard("yard-i", &shapes::far(Shape::Line, MAX_NODES, &mut Random::new(0)));
+    sheets.yard("yard-i", &shapes::far(Shape::Line, MAX_NODES, 1, &mut Random::new(0)));
 }
 
 /// Yards with two children to choose from at a place where the algorithms say 'pick', or with something else that only one order of moves gets right.
@@ -154,21 +156,20 @@ fn large(sheets: &mut Sheets) {
         }
     }
     for shape in [Shape::Star, Shape::Caterpillar, Shape::Broom] {
-        sheets.yard(&format!("{}-{MAX_NODES}-far", shape.name()), &shapes::far(shape, MAX_NODES, &mut random));
+        sheets.yard(&format!("{}-{MAX_NODES}-far", shape.name()), &shapes::far(shape, MAX_NODES, 1, &mut random));
     }
 }
 
 /// Sheets that are read, with yards that have no plan.
 fn refused_yards(sheets: &mut Sheets) {
     let mut lists = |number: u32, name: &str, parents: &[u8], pebbles: &[u8], targets: &[u8]| {
-        let yard = Yard { parents: parents.to_vec(), pebbles: pebbles.to_vec(), targets: targets.to_vec() };
-        sheets.refused(number, name, sheet::unjudged(&yard));
+        sheets.refused(number, name, sheet::unjudged(&Yard::shallow(parents, pebbles, targets)));
     };
-    lists(3, "pebbles", &[0, 0], &[0, 2], &[0, 0]);
-    lists(3, "targets", &[0, 0], &[0, 0], &[255, 0]);
-    lists(3, "pebbles-before-targets", &[0, 0, 0], &[0, 0, 2], &[2, 0, 0]);
-    lists(3, "lowest-of-two", &[0, 0, 0], &[0, 3, 2], &[0, 0, 0]);
-    lists(3, "before-4", &[0, 9], &[0, 0], &[0, 2]);
+    lists(27, "pebbles", &[0, 0], &[0, 2], &[0, 0]);
+    lists(27, "targets", &[0, 0], &[0, 0], &[255, 0]);
+    lists(27, "pebbles-before-targets", &[0, 0, 0], &[0, 0, 2], &[2, 0, 0]);
+    lists(27, "lowest-of-two", &[0, 0, 0], &[0, 3, 2], &[0, 0, 0]);
+    lists(27, "before-4", &[0, 9], &[0, 0], &[0, 2]);
     lists(4, "alone", &[0, 2], &[0, 0], &[0, 0]);
     lists(4, "is-n", &[0, 0, 3], &[0, 0, 0], &[0, 0, 0]);
     lists(4, "lowest-of-two", &[0, 255, 3], &[0, 0, 0], &[0, 0, 0]);
@@ -196,7 +197,7 @@ fn refused_yards(sheets: &mut Sheets) {
         damage(&mut yard);
         sheets.refused(number, "of-256", sheet::unjudged(&yard));
     };
-    fault(3, |yard| yard.targets[255] = 2);
+    fault(27, |yard| yard.targets[255] = 2);
     fault(5, |yard| {
         let child = (0..yard.nodes()).rfind(|&node| !yard.is_root(node)).expect("more than a root");
         yard.parents[child] = child as u8;
@@ -207,40 +208,41 @@ fn refused_yards(sheets: &mut Sheets) {
     });
     // The nodes of a line in a ring, but for the root.
     let ring: Vec<u8> = (0..MAX_NODES).map(|node| if node == 1 { 255 } else { node.max(1) as u8 - 1 }).collect();
-    let unmarked = vec![0; MAX_NODES];
-    sheets.refused(6, "of-256", sheet::unjudged(&Yard { parents: ring, pebbles: unmarked.clone(), targets: unmarked }));
+    let none = [0; MAX_NODES];
+    sheets.refused(6, "of-256", sheet::unjudged(&Yard::shallow(&ring, &none, &none)));
 }
 
 /// Inputs that are no yard sheets.
 fn refused_sheets(sheets: &mut Sheets) {
-    let header = "berth parent car target\n";
+    let header = sheet::HEADER;
     sheets.refused(1, "header-only", header);
-    let rows = |n: usize| -> String { (0..n).map(|node| format!("{node} 0 0 0\n")).collect() };
+    let rows = |n: usize| -> String { (0..n).map(|node| format!("{node} 0 0 0 1\n")).collect() };
     let full = header.to_string() + &rows(MAX_NODES);
-    for (name, more) in [("a-257th-line", "0 0 0 0\n"), ("a-number-above-255", "256 0 0 0\n"), ("a-byte-more", "x"), ("a-line-feed-more", "\n")] {
+    for (name, more) in [("a-257th-line", "0 0 0 0 1\n"), ("a-number-above-255", "256 0 0 0 1\n"), ("a-byte-more", "x"), ("a-line-feed-more", "\n")] {
         sheets.refused(1, name, full.clone() + more);
     }
     sheets.refused(1, "many-lines", header.to_string() + &rows(700));
-    let longest = Yard { parents: vec![255; MAX_NODES], pebbles: vec![255; MAX_NODES], targets: vec![255; MAX_NODES] };
-    sheets.refused(3, "longest-sheet", sheet::unjudged(&longest));
+    let [parents, pebbles, targets, depths] = [(); 4].map(|()| vec![255; MAX_NODES]);
+    let longest = Yard { parents, pebbles, targets, depths };
+    sheets.refused(26, "longest-sheet", sheet::unjudged(&longest));
     sheets.refused(1, "longest-sheet-and-more", [sheet::unjudged(&longest), b"junk ".repeat(1000)].concat());
 
     for (name, text) in [
         ("empty", ""),
         ("line-feed-only", "\n"),
-        ("no-line-feed", "berth parent car target"),
-        ("short", "berth parent\n0 0 0 0\n"),
-        ("other-words", "node parent pebble target\n0 0 0 0\n"),
-        ("capital", "Berth parent car target\n0 0 0 0\n"),
-        ("leading-space", " berth parent car target\n0 0 0 0\n"),
-        ("trailing-space", "berth parent car target \n0 0 0 0\n"),
-        ("two-spaces", "berth  parent car target\n0 0 0 0\n"),
-        ("tab", "berth\tparent car target\n0 0 0 0\n"),
-        ("carriage-return", "berth parent car target\r\n0 0 0 0\r\n"),
-        ("line-feed-before", "\nberth parent car target\n0 0 0 0\n"),
-        ("left-out", "0 0 0 0\n"),
-        ("byte-order-mark", "\u{feff}berth parent car target\n0 0 0 0\n"),
-        ("cut", "berth parent car targe"),
+        ("no-line-feed", "berth parent car target depth"),
+        ("short", "berth parent\n0 0 0 0 1\n"),
+        ("other-words", "node parent pebble target depth\n0 0 0 0 1\n"),
+        ("capital", "Berth parent car target depth\n0 0 0 0 1\n"),
+        ("leading-space", " berth parent car target depth\n0 0 0 0 1\n"),
+        ("trailing-space", "berth parent car target depth \n0 0 0 0 1\n"),
+        ("two-spaces", "berth  parent car target depth\n0 0 0 0 1\n"),
+        ("tab", "berth\tparent car target depth\n0 0 0 0 1\n"),
+        ("carriage-return", "berth parent car target depth\r\n0 0 0 0 1\r\n"),
+        ("line-feed-before", "\nberth parent car target depth\n0 0 0 0 1\n"),
+        ("left-out", "0 0 0 0 1\n"),
+        ("byte-order-mark", "\u{feff}berth parent car target depth\n0 0 0 0 1\n"),
+        ("cut", "berth parent car target dept"),
         ("move-sheet", "from to\n1 0\n"),
     ] {
         sheets.refused(15, name, text);
@@ -248,67 +250,67 @@ fn refused_sheets(sheets: &mut Sheets) {
 
     // The line after a good one of node 0.
     for (name, line) in [
-        ("leading-zero-number", "01 0 0 0\n"),
-        ("leading-zero-parent", "1 00 0 0\n"),
-        ("leading-zero-pebble", "1 0 01 0\n"),
-        ("leading-zero-target", "1 0 0 00\n"),
-        ("leading-zeros-255", "1 0255 0 0\n"),
-        ("256-number", "256 0 0 0\n"),
-        ("256-parent", "1 256 0 0\n"),
-        ("256-pebble", "1 0 256 0\n"),
-        ("256-target", "1 0 0 256\n"),
-        ("260", "1 260 0 0\n"),
-        ("300", "1 300 0 0\n"),
-        ("1000", "1 1000 0 0\n"),
-        ("two-to-the-32", "1 4294967296 0 0\n"),
-        ("two-to-the-64", "1 18446744073709551616 0 0\n"),
-        ("minus", "1 -1 0 0\n"),
-        ("minus-zero", "1 -0 0 0\n"),
-        ("plus", "1 +0 0 0\n"),
-        ("letter", "1 a 0 0\n"),
-        ("hexadecimal", "1 0x0 0 0\n"),
-        ("point", "1 0.0 0 0\n"),
-        ("three-values", "1 0 0\n"),
-        ("five-values", "1 0 0 0 0\n"),
+        ("leading-zero-number", "01 0 0 0 1\n"),
+        ("leading-zero-parent", "1 00 0 0 1\n"),
+        ("leading-zero-pebble", "1 0 01 0 1\n"),
+        ("leading-zero-target", "1 0 0 00 1\n"),
+        ("leading-zeros-255", "1 0255 0 0 1\n"),
+        ("256-number", "256 0 0 0 1\n"),
+        ("256-parent", "1 256 0 0 1\n"),
+        ("256-pebble", "1 0 256 0 1\n"),
+        ("256-target", "1 0 0 256 1\n"),
+        ("260", "1 260 0 0 1\n"),
+        ("300", "1 300 0 0 1\n"),
+        ("1000", "1 1000 0 0 1\n"),
+        ("two-to-the-32", "1 4294967296 0 0 1\n"),
+        ("two-to-the-64", "1 18446744073709551616 0 0 1\n"),
+        ("minus", "1 -1 0 0 1\n"),
+        ("minus-zero", "1 -0 0 0 1\n"),
+        ("plus", "1 +0 0 0 1\n"),
+        ("letter", "1 a 0 0 1\n"),
+        ("hexadecimal", "1 0x0 0 0 1\n"),
+        ("point", "1 0.0 0 0 1\n"),
+        ("four-values", "1 0 0 1\n"),
+        ("six-values", "1 0 0 0 0 1\n"),
         ("one-value", "1\n"),
-        ("leading-space", " 1 0 0 0\n"),
-        ("trailing-space", "1 0 0 0 \n"),
-        ("two-spaces", "1  0 0 0\n"),
-        ("tab", "1\t0 0 0\n"),
-        ("comma", "1,0,0,0\n"),
-        ("carriage-return", "1 0 0 0\r\n"),
-        ("carriage-return-alone", "1 0 0 0\r"),
-        ("zero-byte", "1 0 0 0\0\n"),
-        ("byte-above-ascii", "1 0 0 \u{660}\n"),
+        ("leading-space", " 1 0 0 0 1\n"),
+        ("trailing-space", "1 0 0 0 1 \n"),
+        ("two-spaces", "1  0 0 0 1\n"),
+        ("tab", "1\t0 0 0 1\n"),
+        ("comma", "1,0,0,0,1\n"),
+        ("carriage-return", "1 0 0 0 1\r\n"),
+        ("carriage-return-alone", "1 0 0 0 1\r"),
+        ("zero-byte", "1 0 0 0 1\0\n"),
+        ("byte-above-ascii", "1 0 0 \u{660} 1\n"),
         ("empty-line", "\n"),
         ("space-only", " \n"),
-        ("empty-last-line", "1 0 0 0\n\n"),
-        ("no-line-feed", "1 0 0 0"),
+        ("empty-last-line", "1 0 0 0 1\n\n"),
+        ("no-line-feed", "1 0 0 0 1"),
         ("one-digit-no-line-feed", "1"),
-        ("no-line-feed-and-wrong-number", "7 0 0 0"),
-        ("wrong-number-too", "7 0 0 256\n"),
-        ("later-line", "1 0 0 0\n2 0 0 0\n3 0 0\n4 0 0 0\n"),
-        ("header-again", "berth parent car target\n"),
+        ("no-line-feed-and-wrong-number", "7 0 0 0 1"),
+        ("wrong-number-too", "7 0 0 256 1\n"),
+        ("later-line", "1 0 0 0 1\n2 0 0 0 1\n3 0 0 1\n4 0 0 0 1\n"),
+        ("header-again", "berth parent car target depth\n"),
     ] {
-        sheets.refused(16, name, format!("{header}0 0 0 0\n{line}"));
+        sheets.refused(16, name, format!("{header}0 0 0 0 1\n{line}"));
     }
-    sheets.refused(16, "first-line", format!("{header}0 00 1 1\n"));
-    sheets.refused(16, "long-word", format!("{header}0 0 0 {}\n", "1".repeat(5000)));
-    sheets.refused(16, "long-word-of-zeros", format!("{header}0 {} 0 0\n", "0".repeat(300)));
+    sheets.refused(16, "first-line", format!("{header}0 00 1 1 1\n"));
+    sheets.refused(16, "long-word", format!("{header}0 0 0 {} 1\n", "1".repeat(5000)));
+    sheets.refused(16, "long-word-of-zeros", format!("{header}0 {} 0 0 1\n", "0".repeat(300)));
     sheets.refused(16, "long-spaces", format!("{header}{}", " ".repeat(5000)));
-    sheets.refused(16, "last-of-256", full.strip_suffix("0\n").expect("the last line's end").to_string() + "256\n");
+    sheets.refused(16, "last-of-256", full.strip_suffix("0 1\n").expect("the last line's end").to_string() + "256 1\n");
 
     for (name, lines) in [
-        ("first-is-1", "1 0 1 1\n"),
-        ("repeated", "0 0 0 0\n0 0 0 0\n"),
-        ("left-out", "0 0 0 0\n2 0 0 0\n"),
-        ("falling", "2 0 0 0\n1 0 0 0\n0 0 0 0\n"),
-        ("before-3", "0 0 9 9\n2 0 0 0\n"),
-        ("before-a-later-16", "0 0 0 0\n2 0 0 0\n02 0 0 0\n"),
+        ("first-is-1", "1 0 1 1 1\n"),
+        ("repeated", "0 0 0 0 1\n0 0 0 0 1\n"),
+        ("left-out", "0 0 0 0 1\n2 0 0 0 1\n"),
+        ("falling", "2 0 0 0 1\n1 0 0 0 1\n0 0 0 0 1\n"),
+        ("before-27", "0 0 9 9 1\n2 0 0 0 1\n"),
+        ("before-a-later-16", "0 0 0 0 1\n2 0 0 0 1\n02 0 0 0 1\n"),
     ] {
         sheets.refused(17, name, format!("{header}{lines}"));
     }
-    sheets.refused(17, "last-of-256", full.strip_suffix("255 0 0 0\n").expect("the last line").to_string() + "254 0 0 0\n");
+    sheets.refused(17, "last-of-256", full.strip_suffix("255 0 0 0 1\n").expect("the last line").to_string() + "254 0 0 0 1\n");
 }
 
 /// Yards whose crossing report has something that no other sheet's has, or not alone.
@@ -367,8 +369,8 @@ fn neediest(sheets: &mut Sheets) {
     // With all numbers turned round, 6 and 7 are the equal ones and 8 the lesser.
     let reversed = |yard: &Yard| {
         let turned = |list: &[u8]| -> Vec<u8> { list.iter().rev().copied().collect() };
-        let parents = yard.parents.iter().rev().map(|parent| yard.nodes() as u8 - 1 - parent).collect();
-        Yard { parents, pebbles: turned(&yard.pebbles), targets: turned(&yard.targets) }
+        let parents: Vec<u8> = yard.parents.iter().rev().map(|parent| yard.nodes() as u8 - 1 - parent).collect();
+        Yard::shallow(&parents, &turned(&yard.pebbles), &turned(&yard.targets))
     };
     let down = [[9, 6], [0, 9], [9, 7], [1, 9], [6, 4], [9, 6], [2, 9], [7, 5], [9, 7], [3, 9], [9, 8]];
     sheets.choice("equal-ones-root-last", &reversed(&tree(&parents, &outer, &inner)), &down);
@@ -416,4 +418,86 @@ fn neediest(sheets: &mut Sheets) {
     let yards = (0..100).map(|_| shapes::yard(Shape::Random, MAX_NODES, &mut random));
     let most = yards.max_by_key(differing).expect("a hundred");
     sheets.choice(&format!("random-{MAX_NODES}"), &most, &[]);
+}
+
+/// Yards with nodes that have room for several pebbles (request 2.10).
+fn deep(sheets: &mut Sheets) {
+    let yard = |parents: &[u8], pebbles: &[u8], targets: &[u8], depths: &[u8]| Yard {
+        parents: parents.to_vec(),
+        pebbles: pebbles.to_vec(),
+        targets: targets.to_vec(),
+        depths: depths.to_vec(),
+    };
+    let mut by_hand = |name: &str, moves: &[[usize; 2]], parents: &[u8], pebbles: &[u8], targets: &[u8], depths: &[u8]| {
+        let lines: String = moves.iter().map(|[from, to]| format!("{from} {to}\n")).collect();
+        let yard = yard(parents, pebbles, targets, depths);
+        sheets.yard(&format!("deep-{name}"), &yard);
+        let begins = format!("from to\n{lines}track up down\n");
+        assert!(sheet::program(&sheet::unjudged(&yard)).starts_with(begins.as_bytes()), "{name} is not planned by {lines:?}");
+    };
+    by_hand("one-node-eight-stay", &[], &[0], &[8], &[8], &[8]);
+    by_hand("two-of-five-leave", &[[0, 1], [0, 1]], &[0, 0], &[5, 0], &[3, 2], &[8, 8]);
+    by_hand("a-full-node-is-cleared", &[[1, 2], [0, 1]], &[0, 0, 1], &[1, 1, 0], &[0, 1, 1], &[1, 1, 1]);
+    by_hand("a-node-with-room-is-not-cleared", &[[0, 1], [1, 2]], &[0, 0, 1], &[1, 1, 0], &[0, 1, 1], &[1, 2, 1]);
+    by_hand("cleared-once-it-is-full", &[[0, 1], [1, 2], [0, 1], [1, 2]], &[0, 0, 1], &[2, 1, 0], &[0, 1, 2], &[2, 2, 2]);
+    by_hand("full-below-full", &[[2, 3], [1, 2], [0, 1]], &[0, 0, 1, 2], &[1, 2, 2, 0], &[0, 2, 2, 1], &[1, 2, 2, 1]);
+    by_hand("holds-one-and-no-child-lacks-one", &[[1, 0]], &[0, 0], &[1, 1], &[2, 0], &[2, 1]);
+    by_hand("holds-one-and-fills-before-it-draws", &[[0, 2], [1, 0], [0, 2], [1, 0], [0, 2]], &[0, 0, 0], &[1, 2, 0], &[0, 0, 3], &[2, 2, 3]);
+    by_hand("empty-and-draws-each-time", &[[1, 0], [0, 2], [1, 0], [0, 2]], &[0, 0, 0], &[0, 2, 0], &[0, 0, 2], &[2, 2, 2]);
+    by_hand("drawn-through-an-empty-node", &[[2, 1], [1, 0], [2, 1], [1, 0]], &[0, 0, 1], &[0, 0, 2], &[2, 0, 0], &[2, 3, 2]);
+    by_hand("neediest-in-turn", &[[0, 1], [0, 1], [0, 2], [0, 1], [0, 2]], &[0, 0, 0], &[5, 0, 0], &[0, 3, 2], &[5, 3, 2]);
+
+    // Of each shape two yards of each number of nodes, then large ones; a plan that the program has no room for is not printed.
+    let mut random = Random::new(105);
+    for shape in Shape::ALL {
+        for n in (2..=16).chain([19, 23, 28, 34, 41, 50, 61, 75]) {
+            for which in ["", "-again"] {
+                let yard = shapes::deep_yard(shape, n, &mut random);
+                sheets.yard(&format!("deep-{}-{n}{which}", shape.name()), &yard);
+            }
+        }
+    }
+    for shape in Shape::ALL {
+        for n in [150, MAX_NODES - 1, MAX_NODES] {
+            // One whose plan can be printed.
+            let yard = loop {
+                let yard = shapes::deep_yard(shape, n, &mut random);
+                if sheet::program(&sheet::unjudged(&yard)).starts_with(b"from to\n") {
+                    break yard;
+                }
+            };
+            sheets.yard(&format!("deep-{}-{n}", shape.name()), &yard);
+        }
+    }
+    // The longest plan that is printed, of 32,768 moves, and longer ones.
+    sheets.yard("deep-line-256-two-deep-far", &shapes::far(Shape::Line, MAX_NODES, 2, &mut random));
+    let far = |shape: Shape, depth: u8| sheet::unjudged(&shapes::far(shape, MAX_NODES, depth, &mut Random::new(0)));
+    sheets.refused(8, "line-256-three-deep", far(Shape::Line, 3));
+    sheets.refused(8, "line-256-eight-deep", far(Shape::Line, 8));
+    sheets.refused(8, "caterpillar-256-eight-deep", far(Shape::Caterpillar, 8));
+    let mut one_more = shapes::far(Shape::Line, MAX_NODES, 2, &mut random);
+    (one_more.depths[0], one_more.pebbles[0], one_more.depths[1], one_more.targets[1]) = (3, 3, 3, 1);
+    sheets.refused(8, "one-move-more", sheet::unjudged(&one_more));
+
+    let mut lists = |number: u32, name: &str, parents: &[u8], pebbles: &[u8], targets: &[u8], depths: &[u8]| {
+        sheets.refused(number, name, sheet::unjudged(&yard(parents, pebbles, targets, depths)));
+    };
+    lists(26, "depth-0", &[0, 0], &[0, 0], &[0, 0], &[1, 0]);
+    lists(26, "depth-9", &[0, 0], &[0, 0], &[0, 0], &[8, 9]);
+    lists(26, "depth-255", &[0, 0], &[1, 0], &[0, 1], &[255, 1]);
+    lists(26, "lowest-of-two", &[0, 0, 0], &[0, 0, 0], &[0, 0, 0], &[1, 9, 0]);
+    lists(26, "before-27", &[0, 0], &[2, 0], &[0, 2], &[1, 0]);
+    lists(26, "before-4", &[9, 0], &[0, 0], &[0, 0], &[1, 0]);
+    lists(26, "before-7", &[0, 0], &[1, 0], &[1, 1], &[1, 9]);
+    lists(27, "one-above-a-depth-of-8", &[0, 0], &[9, 0], &[8, 1], &[8, 8]);
+    lists(27, "above-its-own-depth", &[0, 0], &[3, 3], &[3, 3], &[4, 2]);
+    lists(27, "targets-above-their-depth", &[0, 0], &[3, 1], &[1, 3], &[4, 2]);
+    lists(27, "deep-pebbles-before-targets", &[0, 0, 0], &[0, 0, 5], &[5, 0, 0], &[4, 4, 4]);
+    lists(27, "before-7-of-counts", &[0, 0], &[3, 0], &[1, 1], &[2, 2]);
+    lists(7, "sums-of-counts", &[0, 0, 0], &[3, 0, 1], &[1, 2, 2], &[3, 3, 3]);
+
+    let header = "berth parent car target depth\n";
+    sheets.refused(15, "without-depth", "berth parent car target\n0 0 1 1\n");
+    sheets.refused(16, "256-depth", format!("{header}0 0 1 1 256\n"));
+    sheets.refused(16, "leading-zero-depth", format!("{header}0 0 1 1 01\n"));
 }

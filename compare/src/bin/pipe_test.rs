@@ -8,10 +8,10 @@ use std::sync::mpsc;
 use std::thread;
 use std::time::{Duration, Instant};
 use unrelated::random::Random;
-use unrelated::shapes::{every_yard, far, yard, Shape};
-use unrelated::sheet::{program, unjudged, JUDGED_BYTES};
-use unrelated::yard::{judge_matched, Yard, MAX_NODES};
-use unrelated::{damage, report};
+use unrelated::shapes::{any_yard, every_yard, far, Shape};
+use unrelated::sheet::{program, unjudged, HEADER, JUDGED_BYTES, PROGRAM_PLAN_BYTES};
+use unrelated::yard::{Yard, MAX_DEPTH, MAX_NODES};
+use unrelated::{damage, planner, report};
 
 /// A program that has not ended by then hangs.
 const PATIENCE: Duration = Duration::from_secs(10);
@@ -55,7 +55,7 @@ impl Tried {
     /// The sheet of a tree, whole. What is printed for it, the report too, is the unrelated planner's, which must be the one due.
     fn prints(&self, yard: &Yard) -> Outcome {
         let sheet = unjudged(yard);
-        if judge_matched(yard).is_ok() {
+        if planner::plan(yard, PROGRAM_PLAN_BYTES).is_ok() {
             report::judge(yard, &program(&sheet))?;
         }
         self.answers(&sheet, sheet.len())
@@ -168,7 +168,7 @@ fn family(name: &str, outcomes: impl Iterator<Item = (Vec<u8>, Outcome)>) -> boo
 /// Small inputs of all kinds: bytes at random, beginnings of a sheet, spoilt sheets.
 fn nonsense(random: &mut Random) -> Vec<u8> {
     let n = random.within(1, 12);
-    let mut sheet = unjudged(&yard(random.pick(&Shape::ALL), n, random));
+    let mut sheet = unjudged(&any_yard(random.pick(&Shape::ALL), n, random));
     match random.below(4) {
         0 => (0..random.below(100)).map(|_| random.byte()).collect(),
         1 => {
@@ -191,16 +191,16 @@ fn main() -> ExitCode {
         return ExitCode::from(2);
     }
     let mut random = Random::new(201);
-    let line = unjudged(&far(Shape::Line, MAX_NODES, &mut random));
-    let small = unjudged(&far(Shape::Binary, 9, &mut random));
+    let line = unjudged(&far(Shape::Line, MAX_NODES, 1, &mut random));
+    let small = unjudged(&far(Shape::Binary, 9, 2, &mut random));
     let refused = small[..small.len() - 1].to_vec();
 
     // A sheet and junk behind it up to a megabyte; nothing behind the bytes that are judged counts.
     let megabyte = |sheet: &[u8], junk: &[u8]| -> Vec<u8> { sheet.iter().chain(junk.iter().cycle()).copied().take(1 << 20).collect() };
-    let mut large: Vec<Vec<u8>> = [&b"junk"[..], b"\n", b"\0", b"9 0 0 0\n", b" "].iter().map(|junk| megabyte(&small, junk)).collect();
-    large.push(megabyte(&line, b"256 0 0 0\n"));
-    large.push(megabyte(b"", b"berth parent car target\n"));
-    large.push(megabyte(&small[..24], b"0"));
+    let mut large: Vec<Vec<u8>> = [&b"junk"[..], b"\n", b"\0", b"9 0 0 0 1\n", b" "].iter().map(|junk| megabyte(&small, junk)).collect();
+    large.push(megabyte(&line, b"256 0 0 0 1\n"));
+    large.push(megabyte(b"", HEADER.as_bytes()));
+    large.push(megabyte(HEADER.as_bytes(), b"0"));
     // Just as many bytes as are judged, one fewer and one more.
     large.extend((JUDGED_BYTES - 1..=JUDGED_BYTES + 1).map(|length| megabyte(&line, b"1")[..length].to_vec()));
 
@@ -213,11 +213,14 @@ fn main() -> ExitCode {
     let some: Vec<Vec<u8>> = (0..400).map(|_| nonsense(&mut random)).collect();
 
     let shapes = Shape::ALL.into_iter().flat_map(|shape| [4, 9, 10, 11, 99, 100, 101, MAX_NODES].map(|n| (shape, n)));
-    let large_yards: Vec<Yard> = shapes.map(|(shape, n)| yard(shape, n, &mut random)).collect();
+    let mut large_yards: Vec<Yard> = shapes.map(|(shape, n)| any_yard(shape, n, &mut random)).collect();
+    // Just as many moves as the program has room for, and more.
+    large_yards.extend([128, 129, MAX_NODES].map(|n| far(Shape::Line, n, MAX_DEPTH, &mut random)));
+    let small_yards = [vec![1], vec![1; 2], vec![1; 3], vec![3], vec![2; 2]].into_iter().flat_map(every_yard);
 
     let passed = family(
-        "every tree up to 3 nodes with all marks, six shapes up to 256",
-        (1..=3).flat_map(every_yard).chain(large_yards).map(|yard| (unjudged(&yard), tried.prints(&yard))),
+        "every tree up to 3 nodes with all counts, six shapes up to 256",
+        small_yards.chain(large_yards).map(|yard| (unjudged(&yard), tried.prints(&yard))),
     ) && family(
         "a byte at a time",
         slow.into_iter().map(|(input, pause)| (input.clone(), tried.answers_slowly(&input, 1, Duration::from_micros(pause)))),

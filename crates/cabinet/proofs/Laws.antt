@@ -1,4 +1,4 @@
--- The block's eight stores; the next move by its two bytes, and what a step is told of it; the tests of a step, and what an accepted one leaves.
+-- The block's nine stores; the next move by its two bytes, and what a step is told of it; the tests of a step, and what an accepted one leaves.
 use mathlib.Core.Path.{_≡_, refl, sym, ap, _∙_}
 use mathlib.Core.Bool.{Bool, not, _&&_, _||_}
 use mathlib.Core.List.{List, [], _∷_}
@@ -25,19 +25,20 @@ use Rattle.cabinet.specs.declared.registers.Told.{Told}
 use Rattle.cabinet.specs.declared.registers.After.{After}
 use Rattle.cabinet.specs.Step.{toldOf, afterOf}
 
--- eight stores into a list of eight leave the eight values
-pub eight : (xs : List ℕ) (a b c d e f g h : ℕ) → length xs ≡ 8
-    → set (set (set (set (set (set (set (set xs 0 a) 1 b) 2 c) 3 d) 4 e) 5 f) 6 g) 7 h ≡ a ∷ b ∷ c ∷ d ∷ e ∷ f ∷ g ∷ h ∷ []
-eight (_ ∷ _ ∷ _ ∷ _ ∷ _ ∷ _ ∷ _ ∷ _ ∷ []) a b c d e f g h l = refl
-eight (_ ∷ _ ∷ _ ∷ _ ∷ _ ∷ _ ∷ _ ∷ _ ∷ _ ∷ xs) a b c d e f g h l = absurd (omega (arith, l))
-eight [] a b c d e f g h l = absurd (omega (arith, l))
-eight (_ ∷ []) a b c d e f g h l = absurd (omega (arith, l))
-eight (_ ∷ _ ∷ []) a b c d e f g h l = absurd (omega (arith, l))
-eight (_ ∷ _ ∷ _ ∷ []) a b c d e f g h l = absurd (omega (arith, l))
-eight (_ ∷ _ ∷ _ ∷ _ ∷ []) a b c d e f g h l = absurd (omega (arith, l))
-eight (_ ∷ _ ∷ _ ∷ _ ∷ _ ∷ []) a b c d e f g h l = absurd (omega (arith, l))
-eight (_ ∷ _ ∷ _ ∷ _ ∷ _ ∷ _ ∷ []) a b c d e f g h l = absurd (omega (arith, l))
-eight (_ ∷ _ ∷ _ ∷ _ ∷ _ ∷ _ ∷ _ ∷ []) a b c d e f g h l = absurd (omega (arith, l))
+-- nine stores into a list of nine leave the nine values
+pub nine : (xs : List ℕ) (a b c d e f g h i : ℕ) → length xs ≡ 9
+    → set (set (set (set (set (set (set (set (set xs 0 a) 1 b) 2 c) 3 d) 4 e) 5 f) 6 g) 7 h) 8 i ≡ a ∷ b ∷ c ∷ d ∷ e ∷ f ∷ g ∷ h ∷ i ∷ []
+nine (_ ∷ _ ∷ _ ∷ _ ∷ _ ∷ _ ∷ _ ∷ _ ∷ _ ∷ []) a b c d e f g h i l = refl
+nine (_ ∷ _ ∷ _ ∷ _ ∷ _ ∷ _ ∷ _ ∷ _ ∷ _ ∷ _ ∷ xs) a b c d e f g h i l = absurd (omega (arith, l))
+nine [] a b c d e f g h i l = absurd (omega (arith, l))
+nine (_ ∷ []) a b c d e f g h i l = absurd (omega (arith, l))
+nine (_ ∷ _ ∷ []) a b c d e f g h i l = absurd (omega (arith, l))
+nine (_ ∷ _ ∷ _ ∷ []) a b c d e f g h i l = absurd (omega (arith, l))
+nine (_ ∷ _ ∷ _ ∷ _ ∷ []) a b c d e f g h i l = absurd (omega (arith, l))
+nine (_ ∷ _ ∷ _ ∷ _ ∷ _ ∷ []) a b c d e f g h i l = absurd (omega (arith, l))
+nine (_ ∷ _ ∷ _ ∷ _ ∷ _ ∷ _ ∷ []) a b c d e f g h i l = absurd (omega (arith, l))
+nine (_ ∷ _ ∷ _ ∷ _ ∷ _ ∷ _ ∷ _ ∷ []) a b c d e f g h i l = absurd (omega (arith, l))
+nine (_ ∷ _ ∷ _ ∷ _ ∷ _ ∷ _ ∷ _ ∷ _ ∷ []) a b c d e f g h i l = absurd (omega (arith, l))
 
 -- the next move
 module _ (bs : List ℕ) (r : Registers) where
@@ -79,7 +80,7 @@ leftRight moves r = (leb (r .left) moves) && ((eqb (r .status) idle) || (ltb 0 (
 
 -- past 9, a running step with command 0 is refused as its move is
 pub next-tests : (y : Yard) (bs : List ℕ) (r : Registers) (m : Move) (i : ℕ) {a : Option Fault} → bytesFault bs ≡ none → m ≡ nextMove bs r → i ≡ nextNumber bs r
-    → a ≡ moveFault (yardOf (y .parents) (y .pebbles) []) m i → a ≡ firstOf (nextTests y bs r)
+    → a ≡ moveFault (yardOf (y .parents) (y .pebbles) [] (y .depths)) m i → a ≡ firstOf (nextTests y bs r)
 unfolding moveFault
 next-tests y bs r m i p e n k =
     k ∙ ap (λ (m : Move). moveFault y m i) e ∙ ap (moveFault y (nextMove bs r)) n ∙ sym (single (moveFault y (nextMove bs r) (nextNumber bs r))) ∙ rw p
@@ -104,7 +105,7 @@ module _ (y : Yard) (bs block : List ℕ) (failed : Bool) where
         ),
       )
 
-  -- the moves left then fit two bytes
-  pub left-fits : stepFault y bs block ≡ none → Bytes block → Bytes bs → (r : Registers) (t : Told) (s : After) → r ≡ registersOf block → t ≡ toldOf bs r failed → s ≡ afterOf r t → s .next .left < 65_536
+  -- the moves left then fit three bytes
+  pub left-fits : stepFault y bs block ≡ none → Bytes block → Bytes bs → (r : Registers) (t : Told) (s : After) → r ≡ registersOf block → t ≡ toldOf bs r failed → s ≡ afterOf r t → s .next .left < 16_777_216
   unfolding afterOf
   left-fits e b c r t s p q a = rw (a, q, p) (then-held y bs block failed e b c .2)

@@ -42,9 +42,16 @@ fn tell(plan: &[u8], r: Registers, failed: bool) -> Told
 }
 
 // The push of a running step with command 0, unless its pebble failed to arrive.
-fn push_next(parents: &[u8], pebbles: &mut [u8], targets: &[u8], r: Registers, told: Told)
-    requires { ⌜ Tree (handed parents pebbles targets) ⌝ }
-    ensures { λ _. ⌜ became pebbles ≡ pebblesThen (given parents pebbles targets) (push (told .from) (told .to)) (told .failed) r ⌝ }
+fn push_next(
+    parents: &[u8],
+    pebbles: &mut [u8],
+    targets: &[u8],
+    depths: &[u8],
+    r: Registers,
+    told: Told,
+)
+    requires { ⌜ Tree (handed parents pebbles targets depths) ⌝ }
+    ensures { λ _. ⌜ became pebbles ≡ pebblesThen (given parents pebbles targets depths) (push (told .from) (told .to)) (told .failed) r ⌝ }
 {
     if r.command != 0 {
         return;
@@ -55,30 +62,38 @@ fn push_next(parents: &[u8], pebbles: &mut [u8], targets: &[u8], r: Registers, t
     if told.failed {
         return;
     }
-    step(parents, pebbles, told.from as usize, told.to as usize, 0);
+    step(
+        parents,
+        pebbles,
+        depths,
+        told.from as usize,
+        told.to as usize,
+        0,
+    );
 }
 
 // A step of the cabinet: obeys the command in the block, or where it runs without one the plan's next move. Answers whether the line is raised. Refusals 1 to
-// 6; 2 for a block of another length; 24, 25; a start as the checker, a running step with command 0 by 9 and 10 to 13. A refusal alters nothing. Linear work.
+// 6, 26 and 27; 2 for a block of another length; 24, 25; a start as the checker, a running step with command 0 by 9 and 10 to 13. A refusal alters nothing. Linear work.
 pub fn step_block(
     parents: &[u8],
     pebbles: &mut [u8],
     targets: &[u8],
+    depths: &[u8],
     plan: &[u8],
     block: &mut [u8],
     failed: bool,
 ) -> Signalled
-    ensures { λ r. ⌜ paperSignalled r ≡ Call.stepped (given parents pebbles targets) (was plan) (was block) failed .line ⌝ }
-    ensures { λ _. ⌜ became block ≡ Call.stepped (given parents pebbles targets) (was plan) (was block) failed .block ⌝ }
-    ensures { λ _. ⌜ became pebbles ≡ Call.stepped (given parents pebbles targets) (was plan) (was block) failed .pebbles ⌝ }
+    ensures { λ r. ⌜ paperSignalled r ≡ Call.stepped (given parents pebbles targets depths) (was plan) (was block) failed .line ⌝ }
+    ensures { λ _. ⌜ became block ≡ Call.stepped (given parents pebbles targets depths) (was plan) (was block) failed .block ⌝ }
+    ensures { λ _. ⌜ became pebbles ≡ Call.stepped (given parents pebbles targets depths) (was plan) (was block) failed .pebbles ⌝ }
 {
-    let tested = test_step(parents, pebbles, targets, plan, block);
+    let tested = test_step(parents, pebbles, targets, depths, plan, block);
     if let Done::Refused(r) = tested {
         return Signalled::Refused(r);
     }
     let r = load(block);
     let told = tell(plan, r, failed);
-    push_next(parents, pebbles, targets, r, told);
+    push_next(parents, pebbles, targets, depths, r, told);
     let s = lend(r, told);
     store(block, s.next);
     if s.raised {

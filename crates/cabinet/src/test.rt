@@ -44,15 +44,22 @@ fn test_registers(r: Registers, moves: usize) -> Done
         return Done::Refused(Refusal::Register(4));
     }
     if r.flags > 3 {
-        return Done::Refused(Refusal::Register(7));
+        return Done::Refused(Refusal::Register(8));
     }
     Done::Accepted
 }
 
 // 9, then 10 to 13 of the next move with its number, for a running step with command 0.
-fn test_next(parents: &[u8], pebbles: &[u8], targets: &[u8], plan: &[u8], r: Registers) -> Done
-    requires { ⌜ Tree (handed parents pebbles targets) × (0 < r .left) × (r .left ≤ wholeMoves (now plan)) ⌝ }
-    ensures { λ t. ⌜ paperDone t ≡ firstOf (nextTests (given parents pebbles targets) (was plan) r) ⌝ }
+fn test_next(
+    parents: &[u8],
+    pebbles: &[u8],
+    targets: &[u8],
+    depths: &[u8],
+    plan: &[u8],
+    r: Registers,
+) -> Done
+    requires { ⌜ Tree (handed parents pebbles targets depths) × (0 < r .left) × (r .left ≤ wholeMoves (now plan)) ⌝ }
+    ensures { λ t. ⌜ paperDone t ≡ firstOf (nextTests (given parents pebbles targets depths) (was plan) r) ⌝ }
 {
     if !whole_plan(plan) {
         return Done::Refused(Refusal::PlanLength);
@@ -61,6 +68,7 @@ fn test_next(parents: &[u8], pebbles: &[u8], targets: &[u8], plan: &[u8], r: Reg
     test_move(
         parents,
         pebbles,
+        depths,
         plan[2 * i] as usize,
         plan[2 * i + 1] as usize,
         i,
@@ -68,15 +76,22 @@ fn test_next(parents: &[u8], pebbles: &[u8], targets: &[u8], plan: &[u8], r: Reg
 }
 
 // 25 and the checker's refusals for a start; those of the next move where one is obeyed.
-fn test_task(parents: &[u8], pebbles: &[u8], targets: &[u8], plan: &[u8], r: Registers) -> Done
-    requires { ⌜ Tree (handed parents pebbles targets) × (registerFault (wholeMoves (now plan)) r ≡ none) ⌝ }
-    ensures { λ t. ⌜ paperDone t ≡ taskFault (given parents pebbles targets) (was plan) r ⌝ }
+fn test_task(
+    parents: &[u8],
+    pebbles: &[u8],
+    targets: &[u8],
+    depths: &[u8],
+    plan: &[u8],
+    r: Registers,
+) -> Done
+    requires { ⌜ Tree (handed parents pebbles targets depths) × (registerFault (wholeMoves (now plan)) r ≡ none) ⌝ }
+    ensures { λ t. ⌜ paperDone t ≡ taskFault (given parents pebbles targets depths) (was plan) r ⌝ }
 {
     if r.command == 1 {
         if r.status != 0 {
             return Done::Refused(Refusal::NotIdle);
         }
-        return test_plan(parents, pebbles, targets, plan);
+        return test_plan(parents, pebbles, targets, depths, plan);
     }
     if r.command != 0 {
         return Done::Accepted;
@@ -84,18 +99,25 @@ fn test_task(parents: &[u8], pebbles: &[u8], targets: &[u8], plan: &[u8], r: Reg
     if r.status != 1 {
         return Done::Accepted;
     }
-    test_next(parents, pebbles, targets, plan, r)
+    test_next(parents, pebbles, targets, depths, plan, r)
 }
 
 // All refusals of a step, in their order.
-pub fn test_step(parents: &[u8], pebbles: &[u8], targets: &[u8], plan: &[u8], block: &[u8]) -> Done
-    ensures { λ t. ⌜ paperDone t ≡ stepFault (given parents pebbles targets) (was plan) (was block) ⌝ }
+pub fn test_step(
+    parents: &[u8],
+    pebbles: &[u8],
+    targets: &[u8],
+    depths: &[u8],
+    plan: &[u8],
+    block: &[u8],
+) -> Done
+    ensures { λ t. ⌜ paperDone t ≡ stepFault (given parents pebbles targets depths) (was plan) (was block) ⌝ }
 {
-    let tested = test_yard(parents, pebbles, targets);
+    let tested = test_yard(parents, pebbles, targets, depths);
     if let Done::Refused(r) = tested {
         return Done::Refused(r);
     }
-    if block.len() != 8 {
+    if block.len() != 9 {
         return Done::Refused(Refusal::ListLength);
     }
     let registers = load(block);
@@ -103,5 +125,5 @@ pub fn test_step(parents: &[u8], pebbles: &[u8], targets: &[u8], plan: &[u8], bl
     if let Done::Refused(r) = right {
         return Done::Refused(r);
     }
-    test_task(parents, pebbles, targets, plan, registers)
+    test_task(parents, pebbles, targets, depths, plan, registers)
 }

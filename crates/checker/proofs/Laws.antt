@@ -35,19 +35,19 @@ module _ (bs : List ℕ) (count : ℕ) (h : 2 * count ≤ length bs) where
 pub front-all : (bs : List ℕ) → take (length bs / 2) (movesOf bs) ≡ movesOf bs
 front-all bs = take-all (length bs / 2) (movesOf bs) (omega (arith, moves-half bs))
 
--- the first n entries of an array of 256 zeros, and what the array is when other marks come back from where they were lent
+-- the first n entries of an array of 256 zeros, and what the array is when other counts come back from where they were lent
 pub front-zeros : (n : ℕ) → n ≤ 256 → length (take n (replicate {A = ℕ} 256 0)) ≡ n
 front-zeros n l = length-take-le n (replicate 256 0) l
 
-pub record Back (n : ℕ) (marks : List ℕ) : Type 0 where
-  pub fits : n ≤ length (marks ++ drop n (replicate 256 0))
-  pub long : n ≡ length (take n (marks ++ drop n (replicate 256 0)))
-  pub is : take n (marks ++ drop n (replicate 256 0)) ≡ marks
+pub record Back (n : ℕ) (counts : List ℕ) : Type 0 where
+  pub fits : n ≤ length (counts ++ drop n (replicate 256 0))
+  pub long : n ≡ length (take n (counts ++ drop n (replicate 256 0)))
+  pub is : take n (counts ++ drop n (replicate 256 0)) ≡ counts
 
-pub came-back : (n : ℕ) (marks : List ℕ) → n ≤ 256 → length marks ≡ length (take n (replicate {A = ℕ} 256 0)) → Back n marks
-came-back n marks l k =
-    let fits : n ≤ length (marks ++ drop n (replicate 256 0)) = rw (length-front (replicate 256 0) marks n k) l in
-    record { fits = fits; long = sym (length-take-le n _ fits); is = take-at marks (drop n (replicate 256 0)) n (k ∙ front-zeros n l) }
+pub came-back : (n : ℕ) (counts : List ℕ) → n ≤ 256 → length counts ≡ length (take n (replicate {A = ℕ} 256 0)) → Back n counts
+came-back n counts l k =
+    let fits : n ≤ length (counts ++ drop n (replicate 256 0)) = rw (length-front (replicate 256 0) counts n k) l in
+    record { fits = fits; long = sym (length-take-le n _ fits); is = take-at counts (drop n (replicate 256 0)) n (k ∙ front-zeros n l) }
 
 -- a test that stands alone, and a refusal, which is not none
 alone : (f : Option Fault) → firstOf (f ∷ []) ≡ f
@@ -94,11 +94,11 @@ module _ (y : Yard) (ms : List Move) where
       next : drop i ms ≡ m ∷ drop (suc i) ms
       next = drop-cons ms i (push 0 0) l ∙ rw e
 
-      pub left-refused : (f : Fault) (place : ℕ) → moveFault (yardOf (y .parents) qs []) m place ≡ some f → place ≡ i → (some f ≡ movesFault 0 y ms) × (f .place ≡ i)
+      pub left-refused : (f : Fault) (place : ℕ) → moveFault (yardOf (y .parents) qs [] (y .depths)) m place ≡ some f → place ≡ i → (some f ≡ movesFault 0 y ms) × (f .place ≡ i)
       unfolding movesFault moveFault
-      left-refused f place k q = (sym (h .1 ∙ rw (next, ← q, k)), moveFault-at (yardOf (y .parents) qs []) m place k ∙ q)
+      left-refused f place k q = (sym (h .1 ∙ rw (next, ← q, k)), moveFault-at (yardOf (y .parents) qs [] (y .depths)) m place k ∙ q)
 
-      pub left-next : moveFault (yardOf (y .parents) qs []) m i ≡ none → Left (i + 1) (shifted qs m)
+      pub left-next : moveFault (yardOf (y .parents) qs [] (y .depths)) m i ≡ none → Left (i + 1) (shifted qs m)
       unfolding moveFault
       left-next k =
           let z = holding y qs in

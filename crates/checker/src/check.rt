@@ -16,24 +16,25 @@ use model::Done;
 use model::Refusal;
 
 // Obeys a whole plan on a copy of the pebbles of a tree: refusals 10 to 13 move by move, then 14.
-fn obey_to_end(parents: &[u8], pebbles: &[u8], targets: &[u8], plan: &[u8]) -> Done
-    requires { ⌜ Tree (handed parents pebbles targets) ⌝ }
-    ensures { λ r. ⌜ paperDone r ≡ firstOf (obeyTests (given parents pebbles targets) (movesOf (was plan))) ⌝ }
+fn obey_to_end(parents: &[u8], pebbles: &[u8], targets: &[u8], depths: &[u8], plan: &[u8]) -> Done
+    requires { ⌜ Tree (handed parents pebbles targets depths) ⌝ }
+    ensures { λ r. ⌜ paperDone r ≡ firstOf (obeyTests (given parents pebbles targets depths) (movesOf (was plan))) ⌝ }
 {
     let n = parents.len();
-    let mut marks = [0u8; 256];
+    let mut counts = [0u8; 256];
     let done = obey_copy(
         parents,
         pebbles,
-        &mut marks[..n],
+        &mut counts[..n],
         targets,
+        depths,
         plan,
         plan.len() / 2,
     );
     if let Done::Refused(r) = done {
         return Done::Refused(r);
     }
-    let empty = first_below(&marks[..n], targets);
+    let empty = first_below(&counts[..n], targets);
     if empty < n {
         return Done::Refused(Refusal::TargetEmpty(empty));
     }
@@ -41,37 +42,43 @@ fn obey_to_end(parents: &[u8], pebbles: &[u8], targets: &[u8], plan: &[u8]) -> D
 }
 
 // Judges a plan for a tree with as many pebbles as targets: refusals 9, 10 to 13 move by move, 14.
-fn test_matched_plan(parents: &[u8], pebbles: &[u8], targets: &[u8], plan: &[u8]) -> Done
-    requires { ⌜ Tree (handed parents pebbles targets) × Matched (handed parents pebbles targets) ⌝ }
-    ensures { λ r. ⌜ paperDone r ≡ checkFault (given parents pebbles targets) (was plan) ⌝ }
+fn test_matched_plan(
+    parents: &[u8],
+    pebbles: &[u8],
+    targets: &[u8],
+    depths: &[u8],
+    plan: &[u8],
+) -> Done
+    requires { ⌜ Tree (handed parents pebbles targets depths) × Matched (handed parents pebbles targets depths) ⌝ }
+    ensures { λ r. ⌜ paperDone r ≡ checkFault (given parents pebbles targets depths) (was plan) ⌝ }
 {
     if !whole_plan(plan) {
         return Done::Refused(Refusal::PlanLength);
     }
-    obey_to_end(parents, pebbles, targets, plan)
+    obey_to_end(parents, pebbles, targets, depths, plan)
 }
 
-// The checker without its figures: refusals 1 to 6, 7, 9, 10 to 13 for each move in turn with its number as place, then 14 with the lowest empty
-// target. A plan need not be shortest.
-pub fn test_plan(parents: &[u8], pebbles: &[u8], targets: &[u8], plan: &[u8]) -> Done
-    ensures { λ r. ⌜ paperDone r ≡ checkFault (given parents pebbles targets) (was plan) ⌝ }
+// The checker without its figures: refusals 1 to 6, 7, 9, 10 to 13 for each move in turn with its number as place, then 14 with the lowest node
+// that lacks a pebble. A plan need not be shortest.
+pub fn test_plan(parents: &[u8], pebbles: &[u8], targets: &[u8], depths: &[u8], plan: &[u8]) -> Done
+    ensures { λ r. ⌜ paperDone r ≡ checkFault (given parents pebbles targets depths) (was plan) ⌝ }
 {
-    let tested = test_matched(parents, pebbles, targets);
+    let tested = test_matched(parents, pebbles, targets, depths);
     if let Done::Refused(fault) = tested {
         return Done::Refused(fault);
     }
-    test_matched_plan(parents, pebbles, targets, plan)
+    test_matched_plan(parents, pebbles, targets, depths, plan)
 }
 
 // The checker: refused as above, else the number of moves and the excess (spare), moves minus shortest length.
-pub fn check(parents: &[u8], pebbles: &[u8], targets: &[u8], plan: &[u8]) -> Checked
-    ensures { λ r. ⌜ paperChecked r ≡ checkAnswer (given parents pebbles targets) (was plan) ⌝ }
+pub fn check(parents: &[u8], pebbles: &[u8], targets: &[u8], depths: &[u8], plan: &[u8]) -> Checked
+    ensures { λ r. ⌜ paperChecked r ≡ checkAnswer (given parents pebbles targets depths) (was plan) ⌝ }
 {
-    let tested = test_plan(parents, pebbles, targets, plan);
+    let tested = test_plan(parents, pebbles, targets, depths, plan);
     if let Done::Refused(r) = tested {
         return Checked::Refused(r);
     }
-    let length = shortest_length(parents, pebbles, targets);
+    let length = shortest_length(parents, pebbles, targets, depths);
     let moves = plan.len() / 2;
     Checked::Accepted(moves, moves - length)
 }

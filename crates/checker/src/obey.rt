@@ -12,28 +12,35 @@ use lists::copy::copy;
 use model::Done;
 use yard::step::step;
 
-// Whether a plan's length is even and at most 131,070 bytes: else refusal 9 meets it.
+// Whether a plan's length is even and at most 262,144 bytes: else refusal 9 meets it.
 pub fn whole_plan(plan: &[u8]) -> bool
     ensures { λ r. ⌜ bytesFault (was plan) ≡ unless r (fault 9 0) ⌝ }
 {
     if plan.len() % 2 != 0 {
         return false;
     }
-    plan.len() <= 131070
+    plan.len() <= 262144
 }
 
 // Obeys the first `count` moves of a plan on the pebbles of a tree. A refusal is that of the first move that is refused, with its number as
 // place; the moves before it are obeyed, so callers lend a copy.
-fn obey(parents: &[u8], pebbles: &mut [u8], targets: &[u8], plan: &[u8], count: usize) -> Done
-    requires { ⌜ Tree (handed parents pebbles targets) × (2 * count ≤ length (now plan)) ⌝ }
-    ensures { λ r. ⌜ paperDone r ≡ movesFault 0 (given parents pebbles targets) (within (was plan) count) ⌝ }
-    ensures { λ r. ⌜ became pebbles ≡ after (given parents pebbles targets) (obeyed (paperDone r) (was plan) count) ⌝ }
+fn obey(
+    parents: &[u8],
+    pebbles: &mut [u8],
+    targets: &[u8],
+    depths: &[u8],
+    plan: &[u8],
+    count: usize,
+) -> Done
+    requires { ⌜ Tree (handed parents pebbles targets depths) × (2 * count ≤ length (now plan)) ⌝ }
+    ensures { λ r. ⌜ paperDone r ≡ movesFault 0 (given parents pebbles targets depths) (within (was plan) count) ⌝ }
+    ensures { λ r. ⌜ became pebbles ≡ after (given parents pebbles targets depths) (obeyed (paperDone r) (was plan) count) ⌝ }
 {
     let mut i = 0;
     while i < count {
         let from = plan[2 * i] as usize;
         let to = plan[2 * i + 1] as usize;
-        let done = step(parents, pebbles, from, to, i);
+        let done = step(parents, pebbles, depths, from, to, i);
         if let Done::Refused(r) = done {
             return Done::Refused(r);
         }
@@ -42,20 +49,21 @@ fn obey(parents: &[u8], pebbles: &mut [u8], targets: &[u8], plan: &[u8], count: 
     Done::Accepted
 }
 
-// The same, on a copy of the pebbles: `marks` is written, whatever it held.
+// The same, on a copy of the pebbles: `counts` is written, whatever it held.
 pub fn obey_copy(
     parents: &[u8],
     pebbles: &[u8],
-    marks: &mut [u8],
+    counts: &mut [u8],
     targets: &[u8],
+    depths: &[u8],
     plan: &[u8],
     count: usize,
 ) -> Done
-    requires { ⌜ Tree (handed parents pebbles targets) × (2 * count ≤ length (now plan)) ⌝ }
-    requires { ⌜ length (now marks) ≡ length (now pebbles) ⌝ }
-    ensures { λ r. ⌜ paperDone r ≡ movesFault 0 (given parents pebbles targets) (within (was plan) count) ⌝ }
-    ensures { λ r. ⌜ became marks ≡ after (given parents pebbles targets) (obeyed (paperDone r) (was plan) count) ⌝ }
+    requires { ⌜ Tree (handed parents pebbles targets depths) × (2 * count ≤ length (now plan)) ⌝ }
+    requires { ⌜ length (now counts) ≡ length (now pebbles) ⌝ }
+    ensures { λ r. ⌜ paperDone r ≡ movesFault 0 (given parents pebbles targets depths) (within (was plan) count) ⌝ }
+    ensures { λ r. ⌜ became counts ≡ after (given parents pebbles targets depths) (obeyed (paperDone r) (was plan) count) ⌝ }
 {
-    copy(pebbles, marks);
-    obey(parents, marks, targets, plan, count)
+    copy(pebbles, counts);
+    obey(parents, counts, targets, depths, plan, count)
 }

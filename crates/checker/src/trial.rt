@@ -16,35 +16,51 @@ use model::Done;
 use model::Refusal;
 use model::Tried;
 
-// Obeys the first `count` moves of a plan on a copy of the pebbles of a tree, and writes the new marks if none is refused.
+// Obeys the first `count` moves of a plan on a copy of the pebbles of a tree, and writes the new counts if none is refused.
 fn obey_or_leave(
     parents: &[u8],
     pebbles: &mut [u8],
     targets: &[u8],
+    depths: &[u8],
     plan: &[u8],
     count: usize,
 ) -> Done
-    requires { ⌜ Tree (handed parents pebbles targets) × (2 * count ≤ length (now plan)) ⌝ }
-    ensures { λ r. ⌜ paperDone r ≡ movesFault 0 (given parents pebbles targets) (within (was plan) count) ⌝ }
-    ensures { λ r. ⌜ became pebbles ≡ obeyedOrLeft (paperDone r) (given parents pebbles targets) (within (was plan) count) ⌝ }
+    requires { ⌜ Tree (handed parents pebbles targets depths) × (2 * count ≤ length (now plan)) ⌝ }
+    ensures { λ r. ⌜ paperDone r ≡ movesFault 0 (given parents pebbles targets depths) (within (was plan) count) ⌝ }
+    ensures { λ r. ⌜ became pebbles ≡ obeyedOrLeft (paperDone r) (given parents pebbles targets depths) (within (was plan) count) ⌝ }
 {
     let n = parents.len();
-    let mut marks = [0u8; 256];
-    let done = obey_copy(parents, pebbles, &mut marks[..n], targets, plan, count);
+    let mut counts = [0u8; 256];
+    let done = obey_copy(
+        parents,
+        pebbles,
+        &mut counts[..n],
+        targets,
+        depths,
+        plan,
+        count,
+    );
     if let Done::Refused(r) = done {
         return Done::Refused(r);
     }
-    copy(&marks[..n], pebbles);
+    copy(&counts[..n], pebbles);
     Done::Accepted
 }
 
-// Refusals 1 to 6, 9, then 10 to 13 on the moves obeyed; it writes the new marks, and answers the moves taken and which of the two ended it
-// (together: the plan). Moves past the budget are not examined, totals may differ, and a refusal leaves the marks as they were.
-pub fn trial(parents: &[u8], pebbles: &mut [u8], targets: &[u8], plan: &[u8], budget: u16) -> Tried
-    ensures { λ r. ⌜ paperTried r ≡ trialAnswer (given parents pebbles targets) (was plan) budget ⌝ }
-    ensures { λ r. ⌜ became pebbles ≡ trialPebbles (given parents pebbles targets) (was plan) budget ⌝ }
+// Refusals 1 to 6, 9, then 10 to 13 on the moves obeyed; it writes the new counts, and answers the moves taken and which of the two ended it
+// (together: the plan). Moves past the budget are not examined, totals may differ, and a refusal leaves the counts as they were.
+pub fn trial(
+    parents: &[u8],
+    pebbles: &mut [u8],
+    targets: &[u8],
+    depths: &[u8],
+    plan: &[u8],
+    budget: u16,
+) -> Tried
+    ensures { λ r. ⌜ paperTried r ≡ trialAnswer (given parents pebbles targets depths) (was plan) budget ⌝ }
+    ensures { λ r. ⌜ became pebbles ≡ trialPebbles (given parents pebbles targets depths) (was plan) budget ⌝ }
 {
-    let tested = test_yard(parents, pebbles, targets);
+    let tested = test_yard(parents, pebbles, targets, depths);
     if let Done::Refused(r) = tested {
         return Tried::Refused(r);
     }
@@ -54,7 +70,7 @@ pub fn trial(parents: &[u8], pebbles: &mut [u8], targets: &[u8], plan: &[u8], bu
     let moves = plan.len() / 2;
     let limit = budget as usize;
     let taken = smaller(moves, limit);
-    let done = obey_or_leave(parents, pebbles, targets, plan, taken);
+    let done = obey_or_leave(parents, pebbles, targets, depths, plan, taken);
     if let Done::Refused(r) = done {
         return Tried::Refused(r);
     }

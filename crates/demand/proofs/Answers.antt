@@ -9,7 +9,7 @@ use lib.ListN.{length, getD, take, replicate, length-replicate}
 use lib.Seq.{take-at, getD-take}
 use lib.IntN.{ℤ, pos, natAbs}
 use borrow.Author.Tests.{eq-eqb, ne-eqb}
-use Rattle.model.specs.Yard.{Yard, size, maxSize, sum, demand, imbalance, shortest}
+use Rattle.model.specs.Yard.{Yard, size, maxSize, maxDemand, sum, demand, imbalance, shortest}
 use Rattle.model.specs.Judge.{Fault, fault, judge, Tree}
 use Rattle.model.specs.Calls.Answers.{lent}
 use Rattle.model.specs.Calls.Demands.{demandsFault, demandsOf}
@@ -47,10 +47,10 @@ module _ (y : Yard) where
 
   module _ (t : Tree y) where
     -- a list of all demands
-    pub demands-small : {list : List ℤ} → list ≡ demandsOf y → (length list ≤ maxSize) × ((v : ℕ) → natAbs (getD list v (pos 0)) ≤ maxSize)
+    pub demands-small : {list : List ℤ} → list ≡ demandsOf y → (length list ≤ maxSize) × ((v : ℕ) → natAbs (getD list v (pos 0)) ≤ maxDemand)
     demands-small e = rw e (
       omega (arith, length-range (demand y) 0 (size y), facts y t .few),
-      all-listed (λ z. natAbs z ≤ maxSize) (demand y) (omega arith) (demand-range y t) 0 (size y),
+      all-listed (λ z. natAbs z ≤ maxDemand) (demand y) (omega arith) (demand-range y t) 0 (size y),
     )
 
     -- an array of 256 has room for it

@@ -1,4 +1,4 @@
--- Demands as i16: numbers of size 256 at most fit, also taken from 0, and so do differences of two bytes; a number below 0 taken from 0,
+-- Demands as i16: numbers of size 2,048 at most fit, also taken from 0, and so do differences of two bytes; a number below 0 taken from 0,
 -- and any other as it is, is its size. By cases on the sign.
 use mathlib.Core.Path.{_≡_, refl, ap}
 use mathlib.Core.Bool.{Bool, true, false}
@@ -11,21 +11,21 @@ use borrow.Author.Tests.{ltb-true, le-ltb}
 use mir.Syntax.{w16, w64}
 use mir.Val.{SFits, Fits, toZ}
 use mir.ValLaws.{toZ-pos}
-use Rattle.model.specs.Yard.{maxSize}
+use Rattle.model.specs.Yard.{maxDemand}
 
-pub small-fits : (z : ℤ) → natAbs z ≤ maxSize → SFits w16 z
+pub small-fits : (z : ℤ) → natAbs z ≤ maxDemand → SFits w16 z
 small-fits (pos n) h = record { sfits = omega arith }
 small-fits (negsuc n) h = record { sfits = omega arith }
 
-pub sub-small : (a b : ℕ) → a ≤ maxSize → b ≤ maxSize → natAbs (subℕ a b) ≤ maxSize
+pub sub-small : (a b : ℕ) → a ≤ maxDemand → b ≤ maxDemand → natAbs (subℕ a b) ≤ maxDemand
 sub-small a b h k = go (ltb a b) refl
   where
-    go : (c : Bool) → ltb a b ≡ c → natAbs (subℕ a b) ≤ maxSize
+    go : (c : Bool) → ltb a b ≡ c → natAbs (subℕ a b) ≤ maxDemand
     go true e = rw e (omega (arith, ltb-true a b e))
     go false e = rw e (omega arith)
 
 -- a number taken from 0
-pub neg-fits : (z : ℤ) → natAbs z ≤ maxSize → SFits w16 (pos 0 -ℤ z)
+pub neg-fits : (z : ℤ) → natAbs z ≤ maxDemand → SFits w16 (pos 0 -ℤ z)
 neg-fits (pos zero) h = record { sfits = omega arith }
 neg-fits (pos (suc n)) h = small-fits (subℕ 0 (suc n)) (sub-small 0 (suc n) (omega arith) h)
 neg-fits (negsuc n) h = record { sfits = omega arith }
@@ -51,5 +51,5 @@ kept (pos n) h = refl
 kept (negsuc n) h = let no : _≡_ {A = ℕ} 0 1 = cc in absurd (omega arith)
 
 -- a number that is n goes to a `usize`
-pub as-usize : (z : ℤ) (n : ℕ) → z ≡ pos n → n ≤ maxSize → T (nonNeg z) × Fits w64 (natAbs z)
+pub as-usize : (z : ℤ) (n : ℕ) → z ≡ pos n → n ≤ maxDemand → T (nonNeg z) × Fits w64 (natAbs z)
 as-usize z n e h = rw e (tt, record { fits = omega arith })

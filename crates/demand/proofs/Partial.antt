@@ -12,12 +12,12 @@ use lib.Seq.{getD-set-same, getD-set-other}
 use lib.Dec.{ltb, eqb}
 use lib.IntN.{ℤ, pos, natAbs, subℕ, _+ℤ_, +ℤ-idr, +ℤ-assoc}
 use borrow.Author.Tests.{lt-ltb, eqb-true, eq-eqb, ne-eqb, not-true}
-use Rattle.model.specs.Yard.{Yard, size, maxSize, parent, pebble, target, one, sum, below, isChild, root, climbs, sumℤ, entry, Equation2}
+use Rattle.model.specs.Yard.{Yard, size, maxDemand, parent, pebble, target, one, sum, below, isChild, root, climbs, sumℤ, entry, Equation2}
 use Rattle.model.specs.Judge.{Tree}
 use Rattle.model.proofs.Basics.{eqb-sym, one-le, all-below, none-below}
 use Rattle.model.proofs.Found.{below-cong}
 use Rattle.model.proofs.Ranges.{map-all}
-use Rattle.model.proofs.Sums.{sum-cong, sum-mono, sum-ones, sum-add, sum-zero, sum-pick, sum-term, sum-some}
+use Rattle.model.proofs.Sums.{sum-cong, sum-mono, sum-ones, sum-add, sum-zero, sum-pick, sum-term, sum-some, sum-scale}
 use Rattle.model.proofs.Climb.{climbs-self, climbs-fixed, climbs-up, climbs-inside}
 use Rattle.model.proofs.Trees.{Wood, Child, is-child, child-is, child-off-root}
 use Rattle.model.proofs.Judged.{Flat, wood}
@@ -59,7 +59,7 @@ pub record Partial (y : Yard) (pending : List ℕ) (list : List ℤ) : Type 0 wh
   pub long : length list ≡ size y
   pub waits : (v : ℕ) → v < size y → getD pending v 0 ≡ waiting pending v + overWaiting y pending (under y v)
   pub entry : (v : ℕ) → v < size y → entry list v ≡ subℕ (target y v) (pebble y v) +ℤ taken y pending list v
-  pub sizes : overWaiting y pending (sizeAt list) ≤ maxSize
+  pub sizes : overWaiting y pending (sizeAt list) ≤ maxDemand
   pub reach : (v : ℕ) → v < size y → Reaches y pending v
 
 waits-one : (pending : List ℕ) (v : ℕ) → 0 < getD pending v 0 → waiting pending v ≡ 1
@@ -76,7 +76,7 @@ starts y pending list f room long counts own = record {
   long = long;
   waits = λ v l. counts v l ∙ rw (all v l) (ap (λ (x : ℕ). 1 + x) (sum-cong (size y) _ _ (λ c k. rw (all c k) (omega arith))));
   entry = λ v l. own v l ∙ sym (ap (λ (vs : List ℕ). subℕ (target y v) (pebble y v) +ℤ sumℤ (map (entry list) vs)) (none v) ∙ +ℤ-idr (subℕ (target y v) (pebble y v)));
-  sizes = omega (arith, sum-mono (size y) (λ v. sizeAt list v * waiting pending v) (λ _. 1) (λ v l. rw (own v l, all v l) (omega (arith, sub-size (target y v) (pebble y v), f .target-le v l, f .pebble-le v l))), sum-ones (size y), f .few);
+  sizes = omega (arith, sum-mono (size y) (λ v. sizeAt list v * waiting pending v) (λ _. 8 * 1) (λ v l. rw (own v l, all v l) (omega (arith, sub-size (target y v) (pebble y v), f .target-le v l, f .pebble-le v l, f .capacity-le v l))), sum-scale (size y) 8 (λ _. 1), sum-ones (size y), f .few);
   reach = λ v l. (v, l, all v l, (0, climbs-self 0 (y .parents) v));
 }
   where
@@ -86,8 +86,8 @@ starts y pending list f room long counts own = record {
     none : (v : ℕ) → below (size y) (added y pending v) ≡ []
     none v = none-below (size y) (added y pending v) (λ c l. rw (lt-ltb 0 (getD pending c 0) (omega (arith, counts c l))) (and-false (isChild (y .parents) v c)))
 
--- the entry of a node that waits is a number from −256 to 256
-pub small : {y : Yard} {pending : List ℕ} {list : List ℤ} → Partial y pending list → (v : ℕ) → v < size y → waiting pending v ≡ 1 → sizeAt list v ≤ maxSize
+-- the entry of a node that waits is a number from −2,048 to 2,048
+pub small : {y : Yard} {pending : List ℕ} {list : List ℤ} → Partial y pending list → (v : ℕ) → v < size y → waiting pending v ≡ 1 → sizeAt list v ≤ maxDemand
 small {y} {pending} {list} h v l w = omega (arith, h .sizes, sum-term (size y) v (λ c. sizeAt list c * waiting pending c) l, ap (λ (x : ℕ). sizeAt list v * x) w)
 
 -- at the start all nodes wait
@@ -209,7 +209,7 @@ module _ {y : Yard} {pending : List ℕ} {list : List ℤ} {u : ℕ} (r : Ready 
       at : (c : ℕ) → c ≡ parent y u → not (ltb 0 (getD next c 0)) ≡ true → ⊥
       at c q e = omega (arith, stays, ap (waiting next) q, ap one (not-true (ltb 0 (getD next c 0)) e))
 
-  pub joined-small : natAbs (getD list (parent y u) (pos 0) +ℤ getD list u (pos 0)) ≤ maxSize
+  pub joined-small : natAbs (getD list (parent y u) (pos 0) +ℤ getD list u (pos 0)) ≤ maxDemand
   joined-small = omega (
     arith,
     size-add (getD list (parent y u) (pos 0)) (getD list u (pos 0)),
@@ -220,7 +220,7 @@ module _ {y : Yard} {pending : List ℕ} {list : List ℤ} {u : ℕ} (r : Ready 
   )
 
   -- what waits is no larger than before
-  sized : {z : ℤ} → z ≡ getD list (parent y u) (pos 0) +ℤ getD list u (pos 0) → overWaiting y next (sizeAt (set list (parent y u) z)) ≤ maxSize
+  sized : {z : ℤ} → z ≡ getD list (parent y u) (pos 0) +ℤ getD list u (pos 0) → overWaiting y next (sizeAt (set list (parent y u) z)) ≤ maxDemand
   sized {z} q = omega (
     arith,
     r .state .sizes,

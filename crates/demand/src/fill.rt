@@ -11,21 +11,27 @@ use crate::signed::difference;
 use crate::signed::plus;
 
 // Writes the demand of each node of a tree into a list of one entry a node: the only list that meets equation 2 at every node.
-pub fn fill(parents: &[u8], pebbles: &[u8], targets: &[u8], list: &mut [i16])
-    requires { ⌜ Tree (handed parents pebbles targets) × (length (now list) ≡ length (now parents)) ⌝ }
-    ensures { λ _. ⌜ became list ≡ demandsOf (given parents pebbles targets) ⌝ }
+pub fn fill(parents: &[u8], pebbles: &[u8], targets: &[u8], depths: &[u8], list: &mut [i16])
+    requires { ⌜ Tree (handed parents pebbles targets depths) × (length (now list) ≡ length (now parents)) ⌝ }
+    ensures { λ _. ⌜ became list ≡ demandsOf (given parents pebbles targets depths) ⌝ }
 {
-    gather(parents, pebbles, targets, list);
+    gather(parents, pebbles, targets, depths, list);
 }
 
-// Equation 2, of lists that refusals 1 to 4 do not meet: each node's entry begins as its target minus its pebble, and the entries of its children are
+// Equation 2, of lists that refusals 1 to 4, 26 and 27 do not meet: each node's entry begins as its targets minus its pebbles, and the entries of its children are
 // added to it, each once all of its own children are added to it. A node's pending number is 1 for itself, until it is added to its parent, and 1 for
 // each node whose parent it is and that is not added yet: at 1 it is ready. Adding it may make its parent ready, and so on up, so that each node is added
 // once. A node that is its own parent, or on a circle, is never ready: so one node is left over, the root, exactly if the parents are a tree's. Answers how
 // many are.
-pub fn gather(parents: &[u8], pebbles: &[u8], targets: &[u8], list: &mut [i16]) -> usize
-    requires { ⌜ (firstOf (listTests (handed parents pebbles targets)) ≡ none) × (length (now list) ≡ length (now parents)) ⌝ }
-    ensures { λ r. ⌜ Gathered (given parents pebbles targets) r (became list) ⌝ }
+pub fn gather(
+    parents: &[u8],
+    pebbles: &[u8],
+    targets: &[u8],
+    depths: &[u8],
+    list: &mut [i16],
+) -> usize
+    requires { ⌜ (firstOf (listTests (handed parents pebbles targets depths)) ≡ none) × (length (now list) ≡ length (now parents)) ⌝ }
+    ensures { λ r. ⌜ Gathered (given parents pebbles targets depths) r (became list) ⌝ }
 {
     let n = parents.len();
     own(pebbles, targets, list);
@@ -47,7 +53,7 @@ pub fn gather(parents: &[u8], pebbles: &[u8], targets: &[u8], list: &mut [i16]) 
     left
 }
 
-// Writes the difference of its marks into the entry of each node.
+// Writes the difference of its counts into the entry of each node.
 fn own(pebbles: &[u8], targets: &[u8], list: &mut [i16])
     requires { ⌜ (length (now pebbles) ≡ length (now list)) × (length (now targets) ≡ length (now list)) ⌝ }
     ensures { λ _. ⌜ Differences (was targets) (was pebbles) (length (was list)) (became list) ⌝ }

@@ -15,17 +15,23 @@ use model::Refusal;
 
 // Refusals 1 to 6; and the demands of a yard that meets none of them, into the front of a list of 256 at least. Linear work: that the parents are a tree's is
 // seen while the demands are gathered.
-pub fn tree_demands(parents: &[u8], pebbles: &[u8], targets: &[u8], list: &mut [i16]) -> Done
+pub fn tree_demands(
+    parents: &[u8],
+    pebbles: &[u8],
+    targets: &[u8],
+    depths: &[u8],
+    list: &mut [i16],
+) -> Done
     requires { ⌜ 256 ≤ length (now list) ⌝ }
-    ensures { λ r. ⌜ paperDone r ≡ judge (given parents pebbles targets) ⌝ }
-    ensures { λ _. ⌜ Told (given parents pebbles targets) (became list) ⌝ }
+    ensures { λ r. ⌜ paperDone r ≡ judge (given parents pebbles targets depths) ⌝ }
+    ensures { λ _. ⌜ Told (given parents pebbles targets depths) (became list) ⌝ }
 {
-    let lists = test_lists(parents, pebbles, targets);
+    let lists = test_lists(parents, pebbles, targets, depths);
     if let Done::Refused(r) = lists {
         return Done::Refused(r);
     }
     let n = parents.len();
-    let left = gather(parents, pebbles, targets, &mut list[..n]);
+    let left = gather(parents, pebbles, targets, depths, &mut list[..n]);
     if left != 1 {
         return test_shape(parents);
     }
@@ -33,12 +39,18 @@ pub fn tree_demands(parents: &[u8], pebbles: &[u8], targets: &[u8], list: &mut [
 }
 
 // The same, and refusal 7: the root's demand tells whether the totals differ.
-pub fn matched_demands(parents: &[u8], pebbles: &[u8], targets: &[u8], list: &mut [i16]) -> Done
+pub fn matched_demands(
+    parents: &[u8],
+    pebbles: &[u8],
+    targets: &[u8],
+    depths: &[u8],
+    list: &mut [i16],
+) -> Done
     requires { ⌜ 256 ≤ length (now list) ⌝ }
-    ensures { λ r. ⌜ paperDone r ≡ matchedFault (given parents pebbles targets) ⌝ }
-    ensures { λ _. ⌜ Told (given parents pebbles targets) (became list) ⌝ }
+    ensures { λ r. ⌜ paperDone r ≡ matchedFault (given parents pebbles targets depths) ⌝ }
+    ensures { λ _. ⌜ Told (given parents pebbles targets depths) (became list) ⌝ }
 {
-    let tested = tree_demands(parents, pebbles, targets, list);
+    let tested = tree_demands(parents, pebbles, targets, depths, list);
     if let Done::Refused(r) = tested {
         return Done::Refused(r);
     }

@@ -65,10 +65,10 @@ least-next {pebbles} {far} {v} {r} {c} h p q = record {
 
 module _ {y : Yard} {a : ℕ} {pebbles far : List ℕ} (q : Asked y a pebbles far) where
   pub as-many : (length pebbles ≡ size y) × (size y ≤ 256)
-  as-many = omega (arith, ap length (q .marks), facts y (q .tree) .pebbles-size, facts y (q .tree) .few)
+  as-many = omega (arith, ap length (q .counts), facts y (q .tree) .pebbles-size, facts y (q .tree) .few)
 
   pub held-is : (v : ℕ) → held y v ≡ ltb 0 (getD pebbles v 0)
-  held-is v = ap (λ (ps : List ℕ). ltb 0 (getD ps v 0)) (q .marks)
+  held-is v = ap (λ (ps : List ℕ). ltb 0 (getD ps v 0)) (q .counts)
 
   pub far-is : (v : ℕ) → v < size y → (getD far v 0 ≡ distance y a v) × (getD far v 0 < 256)
   far-is v l = (q .distances v l, omega (arith, q .distances v l, distance-lt y (q .tree) a v (q .node) l, as-many))

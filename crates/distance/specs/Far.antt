@@ -71,7 +71,7 @@ Distances y a list = (v : ℕ) → v < size y → getD list v 0 ≡ distance y a
 pub record Asked (y : Yard) (a : ℕ) (pebbles far : List ℕ) : Type 0 where
   pub tree : Tree y
   pub node : a < size y
-  pub marks : y .pebbles ≡ pebbles
+  pub counts : y .pebbles ≡ pebbles
   pub distances : Distances y a far
 
 -- r is the least distance of the pebbles on the first n nodes, unknown if there are none

@@ -30,12 +30,19 @@ fn or_first(node: usize, n: usize) -> usize
 }
 
 // Refusals 1 to 6, and of a tree the distances of all nodes from one of them. That the number handed in is a node's is asked later.
-fn test_from(parents: &[u8], pebbles: &[u8], targets: &[u8], far: &mut [u16], node: usize) -> Done
+fn test_from(
+    parents: &[u8],
+    pebbles: &[u8],
+    targets: &[u8],
+    depths: &[u8],
+    far: &mut [u16],
+    node: usize,
+) -> Done
     requires { ⌜ Unknown (now far) × (length (now far) ≡ 256) ⌝ }
-    ensures { λ r. ⌜ paperDone r ≡ judge (given parents pebbles targets) ⌝ }
-    ensures { λ _. ⌜ (judge (given parents pebbles targets) ≡ none → node < size (given parents pebbles targets) → Distances (given parents pebbles targets) node (became far)) ⌝ }
+    ensures { λ r. ⌜ paperDone r ≡ judge (given parents pebbles targets depths) ⌝ }
+    ensures { λ _. ⌜ (judge (given parents pebbles targets depths) ≡ none → node < size (given parents pebbles targets depths) → Distances (given parents pebbles targets depths) node (became far)) ⌝ }
 {
-    let lists = test_lists(parents, pebbles, targets);
+    let lists = test_lists(parents, pebbles, targets, depths);
     if let Done::Refused(r) = lists {
         return Done::Refused(r);
     }
@@ -43,11 +50,17 @@ fn test_from(parents: &[u8], pebbles: &[u8], targets: &[u8], far: &mut [u16], no
 }
 
 // The pebble nearest to a node, the lowest-numbered among equals, and its distance. Refusals 1 to 6; 19; 22 if the yard holds no pebble. Linear work.
-pub fn nearest(parents: &[u8], pebbles: &[u8], targets: &[u8], node: usize) -> Located
-    ensures { λ r. ⌜ paperLocated r ≡ nearestAnswer (given parents pebbles targets) node ⌝ }
+pub fn nearest(
+    parents: &[u8],
+    pebbles: &[u8],
+    targets: &[u8],
+    depths: &[u8],
+    node: usize,
+) -> Located
+    ensures { λ r. ⌜ paperLocated r ≡ nearestAnswer (given parents pebbles targets depths) node ⌝ }
 {
     let mut far = [256u16; 256];
-    let tested = test_from(parents, pebbles, targets, &mut far, node);
+    let tested = test_from(parents, pebbles, targets, depths, &mut far, node);
     if let Done::Refused(r) = tested {
         return Located::Refused(r);
     }
@@ -63,15 +76,16 @@ pub fn reach(
     parents: &[u8],
     pebbles: &[u8],
     targets: &[u8],
+    depths: &[u8],
     list: &mut [u8],
     node: usize,
     reach: u16,
 ) -> Counted
-    ensures { λ r. ⌜ paperCounted r ≡ reachAnswer (given parents pebbles targets) (was list) node reach ⌝ }
-    ensures { λ _. ⌜ became list ≡ reachList (given parents pebbles targets) (was list) node reach ⌝ }
+    ensures { λ r. ⌜ paperCounted r ≡ reachAnswer (given parents pebbles targets depths) (was list) node reach ⌝ }
+    ensures { λ _. ⌜ became list ≡ reachList (given parents pebbles targets depths) (was list) node reach ⌝ }
 {
     let mut far = [256u16; 256];
-    let tested = test_from(parents, pebbles, targets, &mut far, node);
+    let tested = test_from(parents, pebbles, targets, depths, &mut far, node);
     if let Done::Refused(r) = tested {
         return Counted::Refused(r);
     }

@@ -120,7 +120,7 @@ fn fill(parents: &[u8], list: &mut [u16], node: usize) -> bool
 // Refusals 5 and 6, and of a tree the distances of all nodes from one, at the front of a list of 256.
 pub fn measure(parents: &[u8], list: &mut [u16], node: usize) -> Done
     requires { ⌜ Parents (now parents) × Unknown (now list) × (length (now list) ≡ 256) × (node < length (now parents)) ⌝ }
-    ensures { λ r. ⌜ paperDone r ≡ firstOf (shapeTests (yardOf (was parents) [] [])) ⌝ }
+    ensures { λ r. ⌜ paperDone r ≡ firstOf (shapeTests (yardOf (was parents) [] [] [])) ⌝ }
     ensures { λ r. ⌜ ((y : Yard) → From y (was parents) node → Distances y node (became list)) ⌝ }
 {
     if fill(parents, &mut list[..parents.len()], node) {

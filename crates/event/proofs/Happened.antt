@@ -10,18 +10,18 @@ use Rattle.model.specs.declared.Event.the-variants.{PebbleArrives, PebbleLeaves
 use Rattle.model.specs.Yard.{Yard, yardOf, size, headOr, lowest, entry}
 use Rattle.model.specs.Judge.{Fault, fault, firstOf, atLowest}
 use Rattle.model.specs.Calls.Demands.{demandsOf}
-use Rattle.model.specs.Calls.Events.{possible, pebblesAfter, targetsAfter, demandsAfter, differ, stale, readyTests, eventFault, eventPebbles, eventTargets, eventDemands}
+use Rattle.model.specs.Calls.Events.{pebblesAfter, targetsAfter, demandsAfter, differ, stale, readyTests, eventFault, eventPebbles, eventTargets, eventDemands}
 use Rattle.model.proofs.Found.{below-cong, lowest-fault, lowest-none}
 use Rattle.model.proofs.Equation2.{demands-entry}
 use Rattle.model.proofs.EventRuns.{passed, event-ready}
 use Rattle.event.specs.Change.{differAt}
 
--- the marks alone tell whether an event can happen, and what it alters
-pub by-marks : (y : Yard) (e : Event) (v : ℕ) → let z = yardOf [] (y .pebbles) (y .targets) in (possible z e v ≡ possible y e v) × (pebblesAfter z e v ≡ pebblesAfter y e v) × (targetsAfter z e v ≡ targetsAfter y e v)
-by-marks y PebbleArrives v = (refl, refl, refl)
-by-marks y PebbleLeaves v = (refl, refl, refl)
-by-marks y TargetSet v = (refl, refl, refl)
-by-marks y TargetCleared v = (refl, refl, refl)
+-- the counts alone tell what an event alters
+pub by-counts : (y : Yard) (e : Event) (v : ℕ) → let z = yardOf [] (y .pebbles) (y .targets) [] in (pebblesAfter z e v ≡ pebblesAfter y e v) × (targetsAfter z e v ≡ targetsAfter y e v)
+by-counts y PebbleArrives v = (refl, refl)
+by-counts y PebbleLeaves v = (refl, refl)
+by-counts y TargetSet v = (refl, refl)
+by-counts y TargetCleared v = (refl, refl)
 
 module _ (y : Yard) (list : List ℤ) (e : Event) (v : ℕ) where
   pub left-refused : {f : Fault} → eventFault y list e v ≡ some f

@@ -11,9 +11,10 @@ use lib.Signed.{mag}
 use mir.Syntax.{w16}
 use mir.Val.{SFits, toZ, ofZ}
 use mir.ValLaws.{toZ-ofZ}
+use borrow.Author.Tests.{ltb-true, lt-ltb}
 use Rattle.model.specs.declared.Event.{Event}
 use Rattle.model.specs.declared.Event.the-variants.{PebbleArrives, PebbleLeaves, TargetSet, TargetCleared}
-use Rattle.model.specs.Yard.{Yard, size, one, pebble, target, root, inside, entry}
+use Rattle.model.specs.Yard.{Yard, size, one, pebble, target, capacity, root, inside, entry}
 use Rattle.model.specs.Calls.Events.{differ, changed, possible, entryAfter, demandsAfter}
 use Rattle.model.proofs.Trees.{Wood}
 use Rattle.model.proofs.Judged.{facts, wood}
@@ -28,7 +29,7 @@ pub rails-few : {ps : List ℕ} → Rails ps → length ps ≤ 256
 rails-few h = omega (arith, facts (h .0) (h .1) .few, ap length (h .2))
 
 -- numbers that 16 bits hold
-pub fits : (z : ℤ) → natAbs z ≤ 1_000 → SFits w16 z
+pub fits : (z : ℤ) → natAbs z ≤ 4_000 → SFits w16 z
 fits (pos n) h = record { sfits = omega arith }
 fits (negsuc n) h = record { sfits = omega arith }
 
@@ -78,9 +79,15 @@ unfolding steppedAfter demandsAfter
 stepped-demands y e v list =
     listed (entryAfter y e v list) (pos 0) (size y) _ (length-range _ 0 (size y)) (λ u l. getD-listed _ (pos 0) (size y) u l ∙ ap (λ (k : ℤ). cond (inside (y .parents) u v) k (entry list u)) (step-changed e (entry list u)))
 
--- an event can happen at a node by its marks
-pub possible-can : (y : Yard) (e : Event) (v : ℕ) → can e (pebble y v) (target y v) ≡ possible y e v
+-- an event can happen at a node by its counts and depth; and at one that is deeper
+pub possible-can : (y : Yard) (e : Event) (v : ℕ) → can e (pebble y v) (target y v) (capacity y v) ≡ possible y e v
 possible-can y PebbleArrives v = refl
 possible-can y PebbleLeaves v = refl
 possible-can y TargetSet v = refl
 possible-can y TargetCleared v = refl
+
+pub more : (e : Event) (p t d k : ℕ) → d ≤ k → can e p t d ≡ true → can e p t k ≡ true
+more PebbleArrives p t d k h q = lt-ltb p k (omega (arith, ltb-true p d q))
+more PebbleLeaves p t d k h q = q
+more TargetSet p t d k h q = lt-ltb t k (omega (arith, ltb-true t d q))
+more TargetCleared p t d k h q = q

@@ -1,4 +1,4 @@
--- What an event finds and changes, by marks and entries.
+-- What an event finds and changes, by counts and entries.
 use mathlib.Core.Path.{_≡_}
 use mathlib.Core.Bool.{Bool, cond}
 use mathlib.Core.List.{List, map}
@@ -25,12 +25,12 @@ Rails parents = (y : Yard) × Tree y × (y .parents ≡ parents)
 abbrev pub Small : List ℤ → Type 0
 Small list = (v : ℕ) → natAbs (entry list v) ≤ maxDemand
 
--- an event can happen at a node with these marks
-abbrev pub can : Event → ℕ → ℕ → Bool
-can PebbleArrives pebble target = ltb pebble 1
-can PebbleLeaves pebble target = ltb 0 pebble
-can TargetSet pebble target = ltb target 1
-can TargetCleared pebble target = ltb 0 target
+-- an event can happen at a node with these counts and this depth
+abbrev pub can : Event → ℕ → ℕ → ℕ → Bool
+can PebbleArrives pebble target depth = ltb pebble depth
+can PebbleLeaves pebble target depth = ltb 0 pebble
+can TargetSet pebble target depth = ltb target depth
+can TargetCleared pebble target depth = ltb 0 target
 
 -- what it adds to an entry
 abbrev pub stepOf : Event → ℤ

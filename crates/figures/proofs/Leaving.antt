@@ -1,16 +1,18 @@
--- The nodes that pebbles leave, struck edge by edge; and by the demands of a tree with as many pebbles as targets, as many leave a node as the plan's moves do.
+-- The pebbles that leave a node, counted edge by edge; and by the demands of a tree with as many pebbles as targets, as many leave a node as the plan's moves do.
 use mathlib.Core.Path.{_≡_, refl, sym, ap, _∙_}
 use mathlib.Core.Bool.{Bool, true, false, _&&_}
 use mathlib.Core.List.{List}
-use Prim.Native.Nat.{ℕ, zero, suc, _+_, _-_, _*_, _<_}
+use Prim.Native.Nat.{ℕ, zero, suc, _+_, _-_, _*_, _<_, min}
+use native.Mathlib.Nat.{add-zero, sub-zero}
 use native.Mathlib.Omega.{arith}
 use native.Mathlib.Decide.{ℕ-discrete}
 use lib.ListN.{length, getD, set}
 use lib.Seq.{getD-set-same, getD-set-other}
 use lib.Dec.{eqb}
 use lib.IntN.{ℤ, pos, negsuc, natAbs}
-use borrow.Author.Tests.{eq-eqb, ne-eqb}
-use Rattle.model.specs.Yard.{Yard, size, parent, pebble, isChild, one, sum, root, demand, lacking, surplus, Matched}
+use lib.Signed.{ltZ}
+use borrow.Author.Tests.{ltb-true, ltb-false, eq-eqb, ne-eqb}
+use Rattle.model.specs.Yard.{Yard, size, parent, pebble, capacity, isChild, one, sum, root, demand, entry, lacking, surplus, Matched}
 use Rattle.model.specs.Judge.{Tree}
 use Rattle.model.specs.Follow.{displaced}
 use Rattle.model.specs.Calls.Demands.{demandsOf}
@@ -20,29 +22,39 @@ use Rattle.model.proofs.Demands.{root-even}
 use Rattle.model.proofs.Signed.{above0, below0, demand-parts}
 use Rattle.model.proofs.Equation2.{demands-entry}
 use Rattle.model.proofs.Outgoing.{outgoing}
-use Rattle.model.proofs.Displaced.{displaced-outgoing}
-use Rattle.figures.specs.Leaving.{sourceOr, leaving, Staying}
+use Rattle.model.proofs.Tidy.{floor, displaced-floor}
+use Rattle.figures.specs.Leaving.{sourceOr, leaving, Leaves, stayingOf, movingAt}
 
--- striking the node that an edge is crossed from
+-- counting at the node that an edge is crossed from
 pub source-lt : (z : ℤ) (v p : ℕ) → v < 256 → p < 256 → sourceOr 256 z v p < 257
 unfolding sourceOr
 source-lt (negsuc n) v p h k = omega arith
 source-lt (pos zero) v p h k = omega arith
 source-lt (pos (suc n)) v p h k = omega arith
 
-source-some : (z : ℤ) (v p : ℕ) → sourceOr 256 z v p < 256 → 0 < natAbs z
-unfolding sourceOr
-source-some (negsuc n) v p h = omega arith
-source-some (pos zero) v p h = absurd (omega arith)
-source-some (pos (suc n)) v p h = omega arith
-
-pub struck : (stays : List ℕ) (z : ℤ) (v p u s : ℕ) → sourceOr 256 z v p < length stays → u < 256 → getD stays u 0 ≡ 1 - s
-    → getD (set stays (sourceOr 256 z v p) 0) u 0 ≡ 1 - (s + one (eqb (sourceOr 256 z v p) u) * natAbs z)
-struck stays z v p u s h l e = go (ℕ-discrete (sourceOr 256 z v p) u)
+pub counted : (out : List ℕ) (z : ℤ) (v p u s : ℕ) → sourceOr 256 z v p < length out → getD out u 0 ≡ s
+    → getD (set out (sourceOr 256 z v p) (getD out (sourceOr 256 z v p) 0 + natAbs z)) u 0 ≡ s + one (eqb (sourceOr 256 z v p) u) * natAbs z
+counted out z v p u s h e = go (ℕ-discrete (sourceOr 256 z v p) u)
   where
-    go : Dec (sourceOr 256 z v p ≡ u) → getD (set stays (sourceOr 256 z v p) 0) u 0 ≡ 1 - (s + one (eqb (sourceOr 256 z v p) u) * natAbs z)
-    go (yes q) = rw (eq-eqb (sourceOr 256 z v p) u q) (ap (λ (x : ℕ). getD (set stays (sourceOr 256 z v p) 0) x 0) (sym q) ∙ getD-set-same stays (sourceOr 256 z v p) 0 0 h ∙ omega (arith, source-some z v p (omega arith)))
-    go (no n) = rw (ne-eqb (sourceOr 256 z v p) u n, getD-set-other stays (sourceOr 256 z v p) u 0 0 (λ q. n (sym q))) (omega arith)
+    go : Dec (sourceOr 256 z v p ≡ u) → getD (set out (sourceOr 256 z v p) (getD out (sourceOr 256 z v p) 0 + natAbs z)) u 0 ≡ s + one (eqb (sourceOr 256 z v p) u) * natAbs z
+    go (yes q) =
+        rw (eq-eqb (sourceOr 256 z v p) u q)
+        (ap (λ (x : ℕ). getD (set out (sourceOr 256 z v p) (getD out (sourceOr 256 z v p) 0 + natAbs z)) x 0) (sym q) ∙ getD-set-same out (sourceOr 256 z v p) _ 0 h ∙ omega (arith, ap (λ (x : ℕ). getD out x 0) q))
+    go (no n) = rw (ne-eqb (sourceOr 256 z v p) u n, getD-set-other out (sourceOr 256 z v p) u (getD out (sourceOr 256 z v p) 0 + natAbs z) 0 (λ q. n (sym q))) (omega arith)
+
+-- what stays, by the demand's sign
+pub stay-lacks : (d p : ℕ) (z : ℤ) (o : ℕ) → ltZ (pos 0) z ≡ true → min (d - 1) (min p (p + natAbs z - o)) ≡ stayingOf d p z o
+stay-lacks d p (pos zero) o h = absurd (omega (arith, ltb-true 0 0 h))
+stay-lacks d p (pos (suc n)) o h = let one : min 1 (suc n) ≡ 1 = omega arith in rw one
+stay-lacks d p (negsuc n) o h = let no : _≡_ {A = ℕ} 0 1 = cc in absurd (omega arith)
+
+none : (d p o : ℕ) → min d (min p (p - o)) ≡ min (d - min 1 0) (min p (p + 0 - o))
+none d p o = let z : min 1 0 ≡ 0 = omega arith in rw (z, sub-zero d, add-zero p)
+
+pub stay-else : (d p : ℕ) (z : ℤ) (o : ℕ) → ltZ (pos 0) z ≡ false → min d (min p (p - o)) ≡ stayingOf d p z o
+stay-else d p (pos zero) o h = none d p o
+stay-else d p (pos (suc n)) o h = absurd (omega (arith, ltb-false 0 (suc n) h))
+stay-else d p (negsuc n) o h = none d p o
 
 -- over the edge of v; the root, whose demand is 0, is the only node that is its own parent
 module _ (y : Yard) (t : Tree y) (m : Matched y) (u v : ℕ) (l : v < size y) where
@@ -77,9 +89,15 @@ leaving-outgoing y t m e u l =
     ∙ sum-cong (size y) _ (λ v. one (eqb v u) * surplus y v + one (isChild (y .parents) u v) * lacking y v) (λ v k. ap (λ (z : ℤ). one (eqb (sourceOr 256 z v (parent y v)) u) * natAbs z) (demands-entry y v k) ∙ over y t m u v k)
     ∙ omega (arith, sum-add (size y) (λ v. one (eqb v u) * surplus y v) (λ v. one (isChild (y .parents) u v) * lacking y v), sum-pick (size y) u (surplus y) l)
 
-pub staying-displaced : (y : Yard) → Tree y → Matched y → {demands : List ℤ} (stays : List ℕ) → demands ≡ demandsOf y → Staying (y .parents) demands stays
-    → sum (length (y .pebbles)) (λ v. pebble y v - getD stays v 0) ≡ displaced y
-staying-displaced y t m stays e s =
-    ap (λ (n : ℕ). sum n (λ v. pebble y v - getD stays v 0)) (facts y t .pebbles-size)
-    ∙ sum-cong (size y) _ _ (λ v l. ap (λ (x : ℕ). pebble y v - x) (s .1 v (omega (arith, facts y t .few)) ∙ ap (λ (x : ℕ). 1 - x) (leaving-outgoing y t m e v l)))
-    ∙ sym (displaced-outgoing y t m)
+pub moving-displaced : (y : Yard) → Tree y → Matched y → {demands : List ℤ} (out : List ℕ) → demands ≡ demandsOf y → Leaves (y .parents) demands out
+    → sum (length (y .pebbles)) (movingAt (y .pebbles) (y .depths) demands out) ≡ displaced y
+moving-displaced y t m {demands} out e s =
+    ap (λ (n : ℕ). sum n (movingAt (y .pebbles) (y .depths) demands out)) (facts y t .pebbles-size)
+    ∙ sum-cong (size y) _ _ (λ v l. ap (λ (x : ℕ). pebble y v - x) (each v l))
+    ∙ sym (displaced-floor y t m)
+  where
+    lacks : (v : ℕ) → v < size y → above0 (entry demands v) ≡ lacking y v
+    lacks v l = ap (λ (ks : List ℤ). above0 (entry ks v)) e ∙ ap above0 (demands-entry y v l) ∙ demand-parts y v .0
+
+    each : (v : ℕ) → v < size y → stayingOf (capacity y v) (pebble y v) (entry demands v) (getD out v 0) ≡ floor y v
+    each v l = rw (lacks v l, s .1 v (omega (arith, facts y t .few)) ∙ leaving-outgoing y t m e v l)

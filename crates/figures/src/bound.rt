@@ -11,11 +11,11 @@ use model::Measured;
 use model::Refusal;
 
 // Bound: the moves of the plan and the bytes that its list needs, without planning: the shortest length is the plan's. Refusals 1 to 7. Linear work.
-pub fn length_bound(parents: &[u8], pebbles: &[u8], targets: &[u8]) -> Measured
-    ensures { λ r. ⌜ paperMeasured r ≡ boundAnswer (given parents pebbles targets) ⌝ }
+pub fn length_bound(parents: &[u8], pebbles: &[u8], targets: &[u8], depths: &[u8]) -> Measured
+    ensures { λ r. ⌜ paperMeasured r ≡ boundAnswer (given parents pebbles targets depths) ⌝ }
 {
     let mut demands = [0i16; 256];
-    let tested = matched_demands(parents, pebbles, targets, &mut demands);
+    let tested = matched_demands(parents, pebbles, targets, depths, &mut demands);
     if let Done::Refused(r) = tested {
         return Measured::Refused(r);
     }
@@ -33,5 +33,5 @@ pub fn longest_plan(n: usize) -> Counted
     if n > 256 {
         return Counted::Refused(Refusal::NodeCount(0));
     }
-    Counted::Number(n * n / 4)
+    Counted::Number(8 * (n * n / 4))
 }

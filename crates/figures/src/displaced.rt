@@ -1,14 +1,16 @@
 // The displaced (disturbed) pebbles, told by the demands.
 ghost use mathlib.Core.Path.{_≡_};
-ghost use Prim.Native.Nat.{ℕ, _-_, _≤_};
+ghost use Prim.Native.Nat.{ℕ, _-_, _≤_, _<_};
 ghost use lib.ListN.{length, getD};
 ghost use lib.IntN.{pos, natAbs};
-ghost use Rattle.model.specs.Yard.{sum, maxSize};
+ghost use Rattle.model.specs.Yard.{sum, maxSize, maxDemand};
 ghost use Rattle.model.specs.Given.{given, was};
 ghost use Rattle.model.specs.Calls.Demands.{displacedAnswer};
 ghost use Rattle.model.specs.Paper.{paperCounted};
-ghost use Rattle.figures.specs.Leaving.{sourceOr, Staying};
+ghost use Rattle.figures.specs.Leaving.{sourceOr, Leaves, stayingOf, movingAt};
 use demand::matched::matched_demands;
+use demand::signed::size;
+use lists::numbers::smaller;
 use model::Counted;
 use model::Done;
 
@@ -25,57 +27,76 @@ fn source(demand: i16, v: usize, p: usize) -> usize
     256
 }
 
-// For each node 0 if a pebble leaves it, over its own edge or over that of a child; else 1.
-fn staying(parents: &[u8], demands: &[i16]) -> [u8; 257]
+// For each node how many pebbles leave it, over its own edge and over those of its children.
+fn leaving(parents: &[u8], demands: &[i16]) -> [usize; 257]
     requires { ⌜ (length (now parents) ≤ maxSize) × (length (now demands) ≡ length (now parents)) ⌝ }
-    requires { ⌜ ((v : ℕ) → natAbs (getD (now demands) v (pos 0)) ≤ maxSize) ⌝ }
-    ensures { λ r. ⌜ Staying (was parents) (was demands) r ⌝ }
+    requires { ⌜ ((v : ℕ) → natAbs (getD (now demands) v (pos 0)) ≤ maxDemand) ⌝ }
+    ensures { λ r. ⌜ Leaves (was parents) (was demands) r ⌝ }
 {
-    let mut stays = [1u8; 257];
+    let mut counts = [0usize; 257];
     let mut v = 0;
     while v < parents.len() {
         let u = source(demands[v], v, parents[v] as usize);
-        stays[u] = 0;
+        counts[u] += size(demands[v]);
         v += 1;
     }
-    stays
+    counts
 }
 
-// How far a mark is above another, or else 0.
-fn above(a: u8, b: u8) -> usize
+// How far a number is above another, or else 0.
+fn above(a: usize, b: usize) -> usize
     ensures { λ r. ⌜ r ≡ a - b ⌝ }
 {
     if a < b {
         return 0;
     }
-    (a - b) as usize
+    a - b
+}
+
+// How many pebbles of a node stay: one that lacks some is not left full, and what leaves is beyond what comes.
+fn staying(depth: usize, pebble: usize, demand: i16, out: usize) -> usize
+    requires { ⌜ (pebble < 256) × (natAbs demand ≤ maxDemand) ⌝ }
+    ensures { λ r. ⌜ r ≡ stayingOf depth pebble demand out ⌝ }
+{
+    if demand > 0 {
+        let room = above(depth, 1);
+        let left = above(pebble + size(demand), out);
+        return smaller(room, smaller(pebble, left));
+    }
+    smaller(depth, smaller(pebble, above(pebble, out)))
 }
 
 // The sum over the nodes of what they hold above what stays.
-fn moving(pebbles: &[u8], stays: &[u8]) -> usize
-    requires { ⌜ (length (now pebbles) ≤ maxSize) × (length (now pebbles) ≤ length (now stays)) ⌝ }
-    ensures { λ r. ⌜ r ≡ sum (length (was pebbles)) (λ v. getD (was pebbles) v 0 - getD (was stays) v 0) ⌝ }
+fn moving(pebbles: &[u8], depths: &[u8], demands: &[i16], out: &[usize]) -> usize
+    requires { ⌜ (length (now pebbles) ≤ maxSize) × (length (now depths) ≡ length (now pebbles)) × (length (now demands) ≡ length (now pebbles)) × (length (now pebbles) ≤ length (now out)) ⌝ }
+    requires { ⌜ ((v : ℕ) → natAbs (getD (now demands) v (pos 0)) ≤ maxDemand) ⌝ }
+    ensures { λ r. ⌜ r ≡ sum (length (was pebbles)) (movingAt (was pebbles) (was depths) (was demands) (was out)) ⌝ }
 {
     let mut count = 0;
     let mut i = 0;
     while i < pebbles.len() {
-        count += above(pebbles[i], stays[i]);
+        let pebble = pebbles[i] as usize;
+        count += above(
+            pebble,
+            staying(depths[i] as usize, pebble, demands[i], out[i]),
+        );
         i += 1;
     }
     count
 }
 
-// Displaced (disturbed): the pebbles that take part in a move of the plan, without planning: those at nodes that a pebble leaves. Refusals 1 to 7.
-// Linear work.
-pub fn displaced(parents: &[u8], pebbles: &[u8], targets: &[u8]) -> Counted
-    ensures { λ r. ⌜ paperCounted r ≡ displacedAnswer (given parents pebbles targets) ⌝ }
+// Displaced (disturbed): the pebbles that take part in a move of the plan, the last in first, without planning: of each node's those beyond the least that
+// it ever holds, which the demands tell. Refusals 1 to 7. Linear work.
+pub fn displaced(parents: &[u8], pebbles: &[u8], targets: &[u8], depths: &[u8]) -> Counted
+    ensures { λ r. ⌜ paperCounted r ≡ displacedAnswer (given parents pebbles targets depths) ⌝ }
 {
     let mut demands = [0i16; 256];
-    let tested = matched_demands(parents, pebbles, targets, &mut demands);
+    let tested = matched_demands(parents, pebbles, targets, depths, &mut demands);
     if let Done::Refused(r) = tested {
         return Counted::Refused(r);
     }
-    let stays = staying(parents, &demands[..parents.len()]);
-    let count = moving(pebbles, &stays);
+    let n = parents.len();
+    let out = leaving(parents, &demands[..n]);
+    let count = moving(pebbles, depths, &demands[..n], &out);
     Counted::Number(count)
 }

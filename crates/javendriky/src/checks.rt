@@ -17,11 +17,12 @@ pub extern "C" fn javendriky_check(
     parents: &[u8],
     pebbles: &[u8],
     targets: &[u8],
+    depths: &[u8],
     plan: &[u8],
 ) -> u32
-    ensures { λ r. ⌜ r ≡ zeroInC (checkFault (given parents pebbles targets) (was plan)) ⌝ }
+    ensures { λ r. ⌜ r ≡ zeroInC (checkFault (given parents pebbles targets depths) (was plan)) ⌝ }
 {
-    done(test_plan(parents, pebbles, targets, plan))
+    done(test_plan(parents, pebbles, targets, depths, plan))
 }
 
 // Excess: the moves of a plan that the checker accepts, minus the shortest length. Refused as the checker refuses.
@@ -30,28 +31,30 @@ pub extern "C" fn javendriky_excess(
     parents: &[u8],
     pebbles: &[u8],
     targets: &[u8],
+    depths: &[u8],
     plan: &[u8],
 ) -> u32
-    ensures { λ r. ⌜ r ≡ inC (mapAnswer (λ v. v .excess) (checkAnswer (given parents pebbles targets) (was plan))) ⌝ }
+    ensures { λ r. ⌜ r ≡ inC (mapAnswer (λ v. v .excess) (checkAnswer (given parents pebbles targets depths) (was plan))) ⌝ }
 {
-    match check(parents, pebbles, targets, plan) {
+    match check(parents, pebbles, targets, depths, plan) {
         Checked::Accepted(_, excess) => excess as u32,
         Checked::Refused(r) => refused(r),
     }
 }
 
-// The trial: obeys a plan until the budget or the plan ends, writes the new marks, and answers the moves taken, plus 500,000 where the budget ended
+// The trial: obeys a plan until the budget or the plan ends, writes the new counts, and answers the moves taken, plus 500,000 where the budget ended
 // it. Refusals 1 to 6, 9 to 13.
 #[no_mangle]
 pub extern "C" fn javendriky_trial(
     parents: &[u8],
     pebbles: &mut [u8],
     targets: &[u8],
+    depths: &[u8],
     plan: &[u8],
     budget: u16,
 ) -> u32
-    ensures { λ r. ⌜ r ≡ inC (mapAnswer trialInC (trialAnswer (given parents pebbles targets) (was plan) budget)) ⌝ }
-    ensures { λ r. ⌜ became pebbles ≡ trialPebbles (given parents pebbles targets) (was plan) budget ⌝ }
+    ensures { λ r. ⌜ r ≡ inC (mapAnswer trialInC (trialAnswer (given parents pebbles targets depths) (was plan) budget)) ⌝ }
+    ensures { λ r. ⌜ became pebbles ≡ trialPebbles (given parents pebbles targets depths) (was plan) budget ⌝ }
 {
-    tried(trial(parents, pebbles, targets, plan, budget))
+    tried(trial(parents, pebbles, targets, depths, plan, budget))
 }

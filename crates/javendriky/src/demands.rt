@@ -18,12 +18,13 @@ pub extern "C" fn javendriky_demands(
     parents: &[u8],
     pebbles: &[u8],
     targets: &[u8],
+    depths: &[u8],
     list: &mut [i16],
 ) -> u32
-    ensures { λ r. ⌜ r ≡ zeroInC (demandsFault (given parents pebbles targets) (was list)) ⌝ }
-    ensures { λ r. ⌜ became list ≡ demandsList (given parents pebbles targets) (was list) ⌝ }
+    ensures { λ r. ⌜ r ≡ zeroInC (demandsFault (given parents pebbles targets depths) (was list)) ⌝ }
+    ensures { λ r. ⌜ became list ≡ demandsList (given parents pebbles targets depths) (was list) ⌝ }
 {
-    done(demands(parents, pebbles, targets, list))
+    done(demands(parents, pebbles, targets, depths, list))
 }
 
 // Bound: the moves of the plan, and through the pointer the bytes that its list needs. Refusals 1 to 7.
@@ -32,12 +33,13 @@ pub extern "C" fn javendriky_length_bound(
     parents: &[u8],
     pebbles: &[u8],
     targets: &[u8],
+    depths: &[u8],
     bytes: &mut u32,
 ) -> u32
-    ensures { λ r. ⌜ r ≡ inC (mapAnswer (λ l. l .moves) (boundAnswer (given parents pebbles targets))) ⌝ }
-    ensures { λ r. ⌜ became bytes ≡ noted (boundAnswer (given parents pebbles targets)) (λ l. l .listBytes) (was bytes) ⌝ }
+    ensures { λ r. ⌜ r ≡ inC (mapAnswer (λ l. l .moves) (boundAnswer (given parents pebbles targets depths))) ⌝ }
+    ensures { λ r. ⌜ became bytes ≡ noted (boundAnswer (given parents pebbles targets depths)) (λ l. l .listBytes) (was bytes) ⌝ }
 {
-    match length_bound(parents, pebbles, targets) {
+    match length_bound(parents, pebbles, targets, depths) {
         Measured::Length(moves, list_bytes) => {
             *bytes = list_bytes as u32;
             moves as u32
@@ -54,10 +56,15 @@ pub extern "C" fn javendriky_longest_plan(n: usize) -> u32
     counted(longest_plan(n))
 }
 
-// Displaced: the starting nodes that are not targets. Refusals 1 to 7.
+// Displaced: the pebbles that take part in a move of the plan, the last in first. Refusals 1 to 7.
 #[no_mangle]
-pub extern "C" fn javendriky_displaced(parents: &[u8], pebbles: &[u8], targets: &[u8]) -> u32
-    ensures { λ r. ⌜ r ≡ inC (displacedAnswer (given parents pebbles targets)) ⌝ }
+pub extern "C" fn javendriky_displaced(
+    parents: &[u8],
+    pebbles: &[u8],
+    targets: &[u8],
+    depths: &[u8],
+) -> u32
+    ensures { λ r. ⌜ r ≡ inC (displacedAnswer (given parents pebbles targets depths)) ⌝ }
 {
-    counted(displaced(parents, pebbles, targets))
+    counted(displaced(parents, pebbles, targets, depths))
 }

@@ -15,13 +15,14 @@ pub extern "C" fn javendriky_nearest(
     parents: &[u8],
     pebbles: &[u8],
     targets: &[u8],
+    depths: &[u8],
     node: usize,
     distance: &mut u32,
 ) -> u32
-    ensures { λ r. ⌜ r ≡ inC (mapAnswer (λ l. l .node) (nearestAnswer (given parents pebbles targets) node)) ⌝ }
-    ensures { λ r. ⌜ became distance ≡ noted (nearestAnswer (given parents pebbles targets) node) (λ l. l .distance) (was distance) ⌝ }
+    ensures { λ r. ⌜ r ≡ inC (mapAnswer (λ l. l .node) (nearestAnswer (given parents pebbles targets depths) node)) ⌝ }
+    ensures { λ r. ⌜ became distance ≡ noted (nearestAnswer (given parents pebbles targets depths) node) (λ l. l .distance) (was distance) ⌝ }
 {
-    match nearest(parents, pebbles, targets, node) {
+    match nearest(parents, pebbles, targets, depths, node) {
         Located::Node(at, far) => {
             *distance = far as u32;
             at as u32
@@ -37,12 +38,13 @@ pub extern "C" fn javendriky_reach(
     parents: &[u8],
     pebbles: &[u8],
     targets: &[u8],
+    depths: &[u8],
     list: &mut [u8],
     node: usize,
     edges: u16,
 ) -> u32
-    ensures { λ r. ⌜ r ≡ inC (reachAnswer (given parents pebbles targets) (was list) node edges) ⌝ }
-    ensures { λ r. ⌜ became list ≡ reachList (given parents pebbles targets) (was list) node edges ⌝ }
+    ensures { λ r. ⌜ r ≡ inC (reachAnswer (given parents pebbles targets depths) (was list) node edges) ⌝ }
+    ensures { λ r. ⌜ became list ≡ reachList (given parents pebbles targets depths) (was list) node edges ⌝ }
 {
-    counted(reach(parents, pebbles, targets, list, node, edges))
+    counted(reach(parents, pebbles, targets, depths, list, node, edges))
 }

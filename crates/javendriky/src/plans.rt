@@ -12,11 +12,12 @@ pub extern "C" fn javendriky_plan(
     parents: &[u8],
     pebbles: &[u8],
     targets: &[u8],
+    depths: &[u8],
     plan: &mut [u8],
 ) -> u32
-    ensures { λ r. ⌜ r ≡ inC (planAnswer (given parents pebbles targets) (was plan)) ⌝ }
-    ensures { λ r. ⌜ became plan ≡ planList (given parents pebbles targets) (was plan) ⌝ }
-    ensures { λ r. ⌜ Demand3 (given parents pebbles targets) (was plan) (told r) (became plan) ⌝ }
+    ensures { λ r. ⌜ r ≡ inC (planAnswer (given parents pebbles targets depths) (was plan)) ⌝ }
+    ensures { λ r. ⌜ became plan ≡ planList (given parents pebbles targets depths) (was plan) ⌝ }
+    ensures { λ r. ⌜ Demand3 (given parents pebbles targets depths) (was plan) (told r) (became plan) ⌝ }
 {
-    counted(planner::plan::plan(parents, pebbles, targets, plan))
+    counted(planner::plan::plan(parents, pebbles, targets, depths, plan))
 }

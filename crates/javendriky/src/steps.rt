@@ -14,13 +14,22 @@ pub extern "C" fn javendriky_step(
     parents: &[u8],
     pebbles: &mut [u8],
     targets: &[u8],
+    depths: &[u8],
     plan: &[u8],
     registers: &mut [u8],
     failed: u8,
 ) -> u32
-    ensures { λ r. ⌜ r ≡ lineInC (stepped (given parents pebbles targets) (was plan) (was registers) (not (eqb failed 0)) .line) ⌝ }
-    ensures { λ _. ⌜ became registers ≡ stepped (given parents pebbles targets) (was plan) (was registers) (not (eqb failed 0)) .block ⌝ }
-    ensures { λ _. ⌜ became pebbles ≡ stepped (given parents pebbles targets) (was plan) (was registers) (not (eqb failed 0)) .pebbles ⌝ }
+    ensures { λ r. ⌜ r ≡ lineInC (stepped (given parents pebbles targets depths) (was plan) (was registers) (not (eqb failed 0)) .line) ⌝ }
+    ensures { λ _. ⌜ became registers ≡ stepped (given parents pebbles targets depths) (was plan) (was registers) (not (eqb failed 0)) .block ⌝ }
+    ensures { λ _. ⌜ became pebbles ≡ stepped (given parents pebbles targets depths) (was plan) (was registers) (not (eqb failed 0)) .pebbles ⌝ }
 {
-    signalled(step_block(parents, pebbles, targets, plan, registers, failed != 0))
+    signalled(step_block(
+        parents,
+        pebbles,
+        targets,
+        depths,
+        plan,
+        registers,
+        failed != 0,
+    ))
 }

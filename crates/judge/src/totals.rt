@@ -8,11 +8,11 @@ use lists::total::total;
 use model::Done;
 use model::Refusal;
 
-// Refusals 1 to 7: three lists of a tree with as many pebbles as targets.
-pub fn test_matched(parents: &[u8], pebbles: &[u8], targets: &[u8]) -> Done
-    ensures { λ r. ⌜ paperDone r ≡ matchedFault (given parents pebbles targets) ⌝ }
+// Refusals 1 to 7: four lists of a tree with as many pebbles as targets.
+pub fn test_matched(parents: &[u8], pebbles: &[u8], targets: &[u8], depths: &[u8]) -> Done
+    ensures { λ r. ⌜ paperDone r ≡ matchedFault (given parents pebbles targets depths) ⌝ }
 {
-    let tested = test_yard(parents, pebbles, targets);
+    let tested = test_yard(parents, pebbles, targets, depths);
     if let Done::Refused(r) = tested {
         return Done::Refused(r);
     }

@@ -1,6 +1,6 @@
-// The larger and the smaller of two numbers.
+// The larger and the smaller of two numbers, and how far one is above another.
 ghost use mathlib.Core.Path.{_≡_};
-ghost use Prim.Native.Nat.{min, max};
+ghost use Prim.Native.Nat.{_-_, min, max};
 
 pub fn larger(a: u8, b: u8) -> u8
     ensures { λ r. ⌜ r ≡ max a b ⌝ }
@@ -18,4 +18,14 @@ pub fn smaller(a: usize, b: usize) -> usize
         return a;
     }
     b
+}
+
+// How far a number is above another, or else 0.
+pub fn above(a: u8, b: u8) -> u8
+    ensures { λ r. ⌜ r ≡ a - b ⌝ }
+{
+    if a < b {
+        return 0;
+    }
+    a - b
 }

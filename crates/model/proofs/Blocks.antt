@@ -1,4 +1,4 @@
--- The cabinet's registers (request 2.9): eight bytes and the registers that they hold, and the tests of a step. A step is accepted exactly if none of
+-- The cabinet's registers (requests 2.9 and 2.10): nine bytes and the registers that they hold, and the tests of a step. A step is accepted exactly if none of
 -- its tests refuses (`stepFault-none`), and every answer is one that a number tells (`step-small`).
 use mathlib.Core.Path.{_≡_, refl, sym}
 use mathlib.Core.Logic.{_≢_, _↔_, _⊎_, inl, inr}
@@ -27,27 +27,28 @@ use Rattle.model.proofs.Places.{first, all, once, judge-low, move-low, 
 pub registersOf-blockOf : (r : Registers) → registersOf (blockOf r) ≡ r
 unfolding registersOf blockOf
 registersOf-blockOf r =
-    let e : r .left % 256 + 256 * (r .left / 256) ≡ r .left = omega arith in
+    let e : r .left % 256 + 256 * (r .left / 256 % 256) + 65_536 * (r .left / 65_536) ≡ r .left = omega arith in
     rw e
 
 pub length-blockOf : (r : Registers) → length (blockOf r) ≡ blockLength
 unfolding blockOf
 length-blockOf r = refl
 
-pub blockOf-registersOf : (block : List ℕ) → length block ≡ blockLength → getD block 4 0 < 256 → blockOf (registersOf block) ≡ block
+pub blockOf-registersOf : (block : List ℕ) → length block ≡ blockLength → getD block 4 0 < 256 → getD block 5 0 < 256 → blockOf (registersOf block) ≡ block
 unfolding registersOf blockOf
-blockOf-registersOf block l low = ext-getD 0 _ block (sym l) same
+blockOf-registersOf block l low mid = ext-getD 0 _ block (sym l) same
   where
-    same : (i : ℕ) → i < 8 → getD (blockOf (registersOf block)) i 0 ≡ getD block i 0
+    same : (i : ℕ) → i < 9 → getD (blockOf (registersOf block)) i 0 ≡ getD block i 0
     same zero h = refl
     same (suc zero) h = refl
     same (suc (suc zero)) h = refl
     same (suc (suc (suc zero))) h = refl
     same (suc (suc (suc (suc zero)))) h = omega arith
     same (suc (suc (suc (suc (suc zero))))) h = omega arith
-    same (suc (suc (suc (suc (suc (suc zero)))))) h = refl
+    same (suc (suc (suc (suc (suc (suc zero)))))) h = omega arith
     same (suc (suc (suc (suc (suc (suc (suc zero))))))) h = refl
-    same (suc (suc (suc (suc (suc (suc (suc (suc i)))))))) h = absurd (omega arith)
+    same (suc (suc (suc (suc (suc (suc (suc (suc zero)))))))) h = refl
+    same (suc (suc (suc (suc (suc (suc (suc (suc (suc i))))))))) h = absurd (omega arith)
 
 -- stepped
 abbrev pub thenOf : List ℕ → Bool → Registers → Registers
@@ -111,7 +112,7 @@ registerFault-none moves r = (
         status-le = leb-true (r .status) stalled (unless-none _ 24 1 (a .1 .0));
         left-le = leb-true (r .left) moves (l .0);
         left-pos = either (eqb (r .status) idle) refl (l .1);
-        flags-le = leb-true (r .flags) maxFlags (unless-none _ 24 7 (a .1 .1 .1 .0));
+        flags-le = leb-true (r .flags) maxFlags (unless-none _ 24 8 (a .1 .1 .1 .0));
       }),
   λ h. all-none (registerTests moves r) (
     rw (le-leb (r .command) acknowledge (h .command-le)),
@@ -127,9 +128,9 @@ registerFault-none moves r = (
     pos (inl e) = rw e
     pos (inr l) = rw (lt-ltb 0 (r .left) l) (or-true (eqb (r .status) idle))
 
--- such registers are held by eight bytes if the others are no larger
+-- such registers are held by nine bytes if the others are no larger
 abbrev pub Held : Registers → Type 0
-Held r = (r .from < 256) × (r .to < 256) × (r .left < 65_536) × (r .mask < 256)
+Held r = (r .from < 256) × (r .to < 256) × (r .left < 16_777_216) × (r .mask < 256)
 
 pub blockOf-bytes : (moves : ℕ) (r : Registers) → InRange moves r → Held r → Bytes (blockOf r)
 unfolding blockOf
@@ -141,14 +142,15 @@ blockOf-bytes moves r k h = each
     each (suc (suc zero)) = h .0
     each (suc (suc (suc zero))) = h .1
     each (suc (suc (suc (suc zero)))) = omega arith
-    each (suc (suc (suc (suc (suc zero))))) = omega (arith, h .2)
-    each (suc (suc (suc (suc (suc (suc zero)))))) = h .3
-    each (suc (suc (suc (suc (suc (suc (suc zero))))))) = omega (arith, k .flags-le)
-    each (suc (suc (suc (suc (suc (suc (suc (suc i)))))))) = omega arith
+    each (suc (suc (suc (suc (suc zero))))) = omega arith
+    each (suc (suc (suc (suc (suc (suc zero)))))) = omega (arith, h .2)
+    each (suc (suc (suc (suc (suc (suc (suc zero))))))) = h .3
+    each (suc (suc (suc (suc (suc (suc (suc (suc zero)))))))) = omega (arith, k .flags-le)
+    each (suc (suc (suc (suc (suc (suc (suc (suc (suc i))))))))) = omega arith
 
 pub registersOf-held : (block : List ℕ) → Bytes block → Held (registersOf block)
 unfolding registersOf
-registersOf-held block b = (b 2, b 3, omega (arith, b 4, b 5), b 6)
+registersOf-held block b = (b 2, b 3, omega (arith, b 4, b 5, b 6), b 7)
 
 pub stepFault-none : (y : Yard) (bs block : List ℕ) → (stepFault y bs block ≡ none)
     ↔ (Tree y × (length block ≡ blockLength) × InRange (wholeMoves bs) (registersOf block) × (taskFault y bs (registersOf block) ≡ none))
@@ -185,7 +187,7 @@ registers-low moves r = all (registerTests moves r) (
   once (leb (r .command) acknowledge) 24 0 (omega arith) (omega arith),
   (
     once (leb (r .status) stalled) 24 1 (omega arith) (omega arith),
-    (once ((leb (r .left) moves) && ((eqb (r .status) idle) || (ltb 0 (r .left)))) 24 4 (omega arith) (omega arith), (once (leb (r .flags) maxFlags) 24 7 (omega arith) (omega arith), tt)),
+    (once ((leb (r .left) moves) && ((eqb (r .status) idle) || (ltb 0 (r .left)))) 24 4 (omega arith) (omega arith), (once (leb (r .flags) maxFlags) 24 8 (omega arith) (omega arith), tt)),
   ),
 )
 

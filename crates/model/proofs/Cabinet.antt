@@ -138,7 +138,7 @@ command-not r l = rw (ne-eqb (r .command) noCommand (λ z. omega arith))
 status-not : (r : Registers) → r .status ≢ running → obeying r ≡ false
 status-not r s = rw (ne-eqb (r .status) running s) (and-false (eqb (r .command) noCommand))
 
--- a failure told together with a command, or while not running, is ignored
+-- where a command is given, or nothing runs, a failure that is told changes nothing
 pub failure-ignored : (y : Yard) (bs block : List ℕ) → obeying (registersOf block) ≡ false → stepped y bs block true ≡ stepped y bs block false
 unfolding stepped registersThen pebblesThen
 failure-ignored y bs block o = rw o
@@ -234,4 +234,4 @@ module _ (y : Yard) (bs block : List ℕ) (failed : Bool) (e : stepFault y bs bl
 
   -- where nothing changes, no byte does
   pub rests-block : registersOf block .command ≡ noCommand → registersOf block .status ≢ running → stepped y bs block failed .block ≡ block
-  rests-block c s = stepped-block y bs block failed e ∙ ap blockOf (then-rest bs failed (registersOf block) c s) ∙ blockOf-registersOf block (stepFault-none y bs block .0 e .1) (b 4)
+  rests-block c s = stepped-block y bs block failed e ∙ ap blockOf (then-rest bs failed (registersOf block) c s) ∙ blockOf-registersOf block (stepFault-none y bs block .0 e .1) (b 4) (b 5)

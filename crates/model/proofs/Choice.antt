@@ -1,18 +1,18 @@
 -- The child that the planner serves. A rule of choice is sound if it gives a child that needs something wherever there is one; the proofs of the
 -- planner use no more of it. Both rules are sound. Of `neediestChild` moreover: no child needs more, and one that needs as much has no lower number,
 -- which determines it.
-use mathlib.Core.Path.{_≡_, refl, sym, _∙_, subst}
+use mathlib.Core.Path.{_≡_, refl, sym, ap, _∙_, subst}
 use mathlib.Core.Logic.{_≢_, _⊎_, inl, inr}
-use mathlib.Core.Bool.{Bool, true, false, cond, _&&_, and-eq-true-iff, false≢true}
+use mathlib.Core.Bool.{Bool, true, false, not, cond, _&&_, and-eq-true-iff, false≢true}
 use mathlib.Core.List.{List, [], _∷_, _++_, append-nil, nil≢cons}
 use Prim.Native.Nat.{ℕ, zero, suc, _*_, _≤_, _<_}
 use native.Mathlib.Omega.{arith}
 use native.Mathlib.Decide.{ℕ-discrete, decLt}
-use lib.Dec.{ltb}
-use borrow.Author.Tests.{ltb-true, ltb-false, lt-ltb}
-use Rattle.model.specs.Yard.{Yard, size, one, below, headOr, isChild}
-use Rattle.model.specs.Plan.{needy, Rule, lowestChild, greatest, neediestChild, choice}
-use Rattle.model.proofs.Basics.{All, all-below, below-all, below-none}
+use lib.Dec.{ltb, eqb}
+use borrow.Author.Tests.{ltb-true, ltb-false, lt-ltb, eq-eqb, ne-eqb}
+use Rattle.model.specs.Yard.{Yard, size, pebble, held, one, below, headOr, isChild, lacking}
+use Rattle.model.specs.Plan.{needy, some, Rule, lowestChild, greatest, neediestChild, choice, fills}
+use Rattle.model.proofs.Basics.{All, all-map, all-below, below-all, below-none, below-same}
 use Rattle.model.proofs.Sums.{sum-some}
 use Rattle.model.proofs.Trees.{Child, is-child, child-is}
 use Rattle.model.proofs.Demands.{overChildren}
@@ -65,11 +65,28 @@ module _ (need : ℕ → ℕ) (y : Yard) (u : ℕ) where
           at true e n = (k .0, (is-child (y .parents) u (k .0) (k .1) e, omega arith))
           at false e n = absurd (omega arith)
 
+-- and where no child needs anything, they are all 0
+pub none-over : (need : ℕ → ℕ) (y : Yard) (u : ℕ) → needy need y u ≡ [] → overChildren (y .parents) need u ≡ 0
+none-over need y u e = go (decLt 0 (overChildren (y .parents) need u))
+  where
+    go : Dec (0 < overChildren (y .parents) need u) → overChildren (y .parents) need u ≡ 0
+    go (yes h) = let c = some-needy need y u h in absurd (nil-needy need y u e (c .0) (c .1))
+    go (no h) = omega arith
+
 -- greatest
 greatest-append : (need : ℕ → ℕ) (v : ℕ) (ws : List ℕ) (n : ℕ) → greatest need v (ws ++ (n ∷ [])) ≡ cond (ltb (need (greatest need v ws)) (need n)) n (greatest need v ws)
 unfolding greatest
 greatest-append need v [] n = refl
 greatest-append need v (w ∷ ws) n = greatest-append need (cond (ltb (need v) (need w)) w v) ws n
+
+greatest-same : (f g : ℕ → ℕ) (v : ℕ) (ws : List ℕ) → f v ≡ g v → All (λ w. f w ≡ g w) ws → greatest f v ws ≡ greatest g v ws
+unfolding greatest
+greatest-same f g v [] e a = refl
+greatest-same f g v (w ∷ ws) e a = rw (e, a .0) (greatest-same f g (cond (ltb (g v) (g w)) w v) ws (at (ltb (g v) (g w))) (a .1))
+  where
+    at : (b : Bool) → f (cond b w v) ≡ g (cond b w v)
+    at true = a .0
+    at false = e
 
 -- lowestChild
 pub lowest-sound : Sound lowestChild
@@ -123,18 +140,18 @@ module _ {need : ℕ → ℕ} {p : ℕ → Bool} {n : ℕ} where
       go v (yes x) l q = rw x (h (rw x at q))
       go v (no x) l q = b .most v (omega arith) q
 
--- what `neediestChild` chooses of the numbers below n
-module _ (need : ℕ → ℕ) (u : ℕ) (p : ℕ → Bool) where
-  abbrev chosen : List ℕ → ℕ
-  chosen l = elim l [ [] ↦ u | (v ∷ vs) ↦ greatest need v vs ]
+-- what `neediestChild` chooses of a list, and of the numbers below n that pass a test
+abbrev chosen : (ℕ → ℕ) → ℕ → List ℕ → ℕ
+chosen need u l = elim l [ [] ↦ u | (v ∷ vs) ↦ greatest need v vs ]
 
-  best-below : (n : ℕ) → (below n p ≡ []) ⊎ Best need p n (chosen (below n p))
+module _ (need : ℕ → ℕ) (u : ℕ) (p : ℕ → Bool) where
+  best-below : (n : ℕ) → (below n p ≡ []) ⊎ Best need p n (chosen need u (below n p))
   unfolding below greatest
   best-below zero = inl refl
   best-below (suc n) = go (below n p) refl (p n) refl (best-below n)
     where
-      go : (l : List ℕ) → below n p ≡ l → (b : Bool) → p n ≡ b → (below n p ≡ []) ⊎ Best need p n (chosen (below n p))
-          → (l ++ cond b (n ∷ []) [] ≡ []) ⊎ Best need p (suc n) (chosen (l ++ cond b (n ∷ []) []))
+      go : (l : List ℕ) → below n p ≡ l → (b : Bool) → p n ≡ b → (below n p ≡ []) ⊎ Best need p n (chosen need u (below n p))
+          → (l ++ cond b (n ∷ []) [] ≡ []) ⊎ Best need p (suc n) (chosen need u (l ++ cond b (n ∷ []) []))
       go [] q false e h = inl refl
       go [] q true e h = inr (best-first (below-none n p q) e)
       go (v ∷ vs) q b e (inl h) = absurd (nil≢cons (sym h ∙ q))
@@ -191,7 +208,7 @@ module _ (need : ℕ → ℕ) (y : Yard) (u : ℕ) where
   unfolding neediestChild
   neediest-none h = go (needy need y u) (all-needy need y u)
     where
-      go : (l : List ℕ) → All (Needy need y u) l → u ≡ chosen need u p l
+      go : (l : List ℕ) → All (Needy need y u) l → u ≡ chosen need u l
       go [] a = refl
       go (v ∷ l) a = absurd (omega (arith, h v (a .0 .0), a .0 .1))
 
@@ -220,3 +237,40 @@ neediest-sound need y u c k = neediest-some need y u c k .needy
 pub choice-sound : Sound choice
 unfolding choice
 choice-sound = neediest-sound
+
+choice-none : (need : ℕ → ℕ) (y : Yard) (u : ℕ) → ((v : ℕ) → Child (y .parents) u v → need v ≡ 0) → u ≡ choice need y u
+unfolding choice
+choice-none = neediest-none
+
+-- request 2.10's side of a turn, by what the choice answers: it is u itself exactly if no child lacks a pebble
+pub fills-choice : (y : Yard) (u : ℕ) → fills y u ≡ ((held y u) && (not (eqb (choice (lacking y) y u) u)))
+unfolding fills
+fills-choice y u = ap (λ (b : Bool). (held y u) && b) (go (needy (lacking y) y u) refl)
+  where
+    go : (vs : List ℕ) → needy (lacking y) y u ≡ vs → some vs ≡ not (eqb (choice (lacking y) y u) u)
+    go [] e = rw (eq-eqb (choice (lacking y) y u) u (sym (choice-none (lacking y) y u (none-needy (lacking y) y u e))))
+    go (v ∷ vs) e =
+        let k = choice-sound (lacking y) y u v (subst (All (Needy (lacking y) y u)) e (all-needy (lacking y) y u) .0) in
+        rw (ne-eqb (choice (lacking y) y u) u (k .0 .other))
+
+-- Choice and side read of a yard only its parents, what the children of u need, and whether u holds a pebble: yards that agree in these go alike.
+module _ (f g : ℕ → ℕ) (y z : Yard) (u : ℕ) (e : y .parents ≡ z .parents) (h : (c : ℕ) → Child (y .parents) u c → f c ≡ g c) where
+  pub needy-same : needy f y u ≡ needy g z u
+  unfolding needy
+  needy-same = rw (← e) (below-same (size y) (wanted f y u) (wanted g y u) (λ v l. go v l (isChild (y .parents) u v) refl))
+    where
+      go : (v : ℕ) → v < size y → (b : Bool) → isChild (y .parents) u v ≡ b → (b && (ltb 0 (f v))) ≡ (b && (ltb 0 (g v)))
+      go v l true k = rw (h v (is-child (y .parents) u v l k))
+      go v l false k = refl
+
+  pub choice-same : choice f y u ≡ choice g z u
+  unfolding choice neediestChild
+  choice-same = rw (← needy-same, choice, neediestChild) (go (needy f y u) (all-needy f y u))
+    where
+      go : (vs : List ℕ) → All (Needy f y u) vs → chosen f u vs ≡ chosen g u vs
+      go [] a = refl
+      go (v ∷ ws) a = greatest-same f g v ws (h v (a .0 .0)) (all-map (Needy f y u) (λ w. f w ≡ g w) ws (λ w k. h w (k .0)) (a .1))
+
+pub fills-same : (y z : Yard) (u : ℕ) → y .parents ≡ z .parents → pebble y u ≡ pebble z u → ((c : ℕ) → Child (y .parents) u c → lacking y c ≡ lacking z c) → fills y u ≡ fills z u
+unfolding fills
+fills-same y z u e p h = rw (needy-same (lacking y) (lacking z) y z u e h, p)

@@ -1,6 +1,5 @@
 -- Demand 2 on a tree with as many pebbles as targets, and which trees the calls refuse as having no plan. The checker refuses none of the moves
--- of a list exactly if they are legal pushes one after another (`movesFault-accepted`), and on a tree, where a node holds one pebble or none,
--- those are the moves of `Carries`. Pushes keep the number of pebbles, so once no target is empty the pebbles lie on exactly the targets. An
+-- of a list exactly if they are legal pushes one after another (`movesFault-accepted`), and on a tree those are the moves of `Carries`. Pushes keep the number of pebbles, so once no target is empty the pebbles lie on exactly the targets. An
 -- accepted list that ends so has at least the shortest length, and the plan has just that.
 use mathlib.Core.Path.{_≡_, refl, sym, ap, _∙_}
 use mathlib.Core.Logic.{_≢_, _↔_, _⊎_, inl, inr}
@@ -10,11 +9,11 @@ use mathlib.Core.Option.{none}
 use Prim.Native.Nat.{ℕ, _+_, _-_, _*_, _%_, _≤_, _<_}
 use native.Mathlib.Nat.{sub-self, mul-mod-right}
 use native.Mathlib.Omega.{arith}
-use lib.ListN.{length, drop, getD, set}
+use lib.ListN.{length, drop, getD}
 use lib.Seq.{ext-getD}
 use lib.Dec.{leb, ltb, eqb}
-use borrow.Author.Tests.{ltb-false, eqb-true, lt-ltb, le-ltb, le-leb, eq-eqb, ne-eqb}
-use Rattle.model.specs.Yard.{Yard, size, parent, pebble, target, holding, below, shortest, Matched}
+use borrow.Author.Tests.{ltb-false, eqb-true, lt-ltb, le-ltb, le-leb, lt-leb, eq-eqb, ne-eqb}
+use Rattle.model.specs.Yard.{Yard, size, parent, pebble, target, capacity, holding, below, shortest, Matched}
 use Rattle.model.specs.Judge.{row, atLowest, Tree, matchedFault}
 use Rattle.model.specs.Push.{Move, push, adjacent, moveTests, moveFault, shifted, run, accepted, Solved}
 use Rattle.model.specs.Plan.{plan}
@@ -34,11 +33,7 @@ use Rattle.model.proofs.Calls.{answer-answered, movesOf-bytes, length-b
 use Rattle.model.proofs.Demand3.{plan-optimal, plan-length, plan-seven}
 use Rattle.model.proofs.Moves.{moveFault-legal, obeys-accepted, accepted-obeys, movesFault-accepted}
 
--- one push, where a node holds one pebble or none
-shifted-marks : (marks : List ℕ) (m : Move) → getD marks (m .from) 0 ≡ 1 → getD marks (m .to) 0 ≡ 0 → shifted marks m ≡ set (set marks (m .from) 0) (m .to) 1
-unfolding shifted
-shifted-marks marks m p q = rw (p, q)
-
+-- one push
 adjacent-parent : (y : Yard) (a b : ℕ) → adjacent y a b ≡ true → (parent y a ≡ b) ⊎ (parent y b ≡ a)
 adjacent-parent y a b e = go (eqb (parent y a) b) refl (and-eq-true-iff (not (eqb a b)) _ .0 e .1)
   where
@@ -50,28 +45,27 @@ parent-adjacent : (y : Yard) (a b : ℕ) → (parent y a ≡ b) ⊎ (parent y b 
 parent-adjacent y a b (inl e) d = rw (ne-eqb a b d, eq-eqb (parent y a) b e)
 parent-adjacent y a b (inr e) d = rw (ne-eqb a b d, eq-eqb (parent y b) a e) (or-true (eqb (parent y a) b))
 
-carries-step : (y : Yard) → Tree y → (a b : ℕ) → a < size y → b < size y → (parent y a ≡ b) ⊎ (parent y b ≡ a) → a ≢ b → pebble y a ≡ 1 → pebble y b ≡ 0 → Step y (push a b)
+carries-step : (y : Yard) → Tree y → (a b : ℕ) → a < size y → b < size y → (parent y a ≡ b) ⊎ (parent y b ≡ a) → a ≢ b → 0 < pebble y a → pebble y b < capacity y b → Step y (push a b)
 unfolding moveFault
 carries-step y t a b la lb n d p q = step y (push a b) (moveFault-legal y t (push a b) 0 .0 (all-none (moveTests y (push a b) 0) (
   rw (lt-ltb a (size y) la, lt-ltb b (size y) lb),
-  (rw (parent-adjacent y a b n d), (rw p, (rw q, tt))),
+  (rw (parent-adjacent y a b n d), (rw (lt-ltb 0 (pebble y a) p), (rw (lt-leb (capacity y b) (pebble y b) q), tt))),
 )))
 
 -- a list of pushes
-obeys-carries : {y z : Yard} {ms : List Move} → Obeys y ms z → Carries (y .parents) (y .pebbles) ms (z .pebbles)
+obeys-carries : {y z : Yard} {ms : List Move} → Obeys y ms z → Carries (y .parents) (y .depths) (y .pebbles) ms (z .pebbles)
+unfolding shifted
 obeys-carries Obeys.done = Carries.done
 obeys-carries (Obeys.next {y} {m = m} s o) =
     let e = ends y m s in
-    let p : pebble y (m .from) ≡ 1 = omega (arith, s .holds, facts y (s .tree) .pebble-le (m .from) (e .0)) in
-    let q : pebble y (m .to) ≡ 0 = omega (arith, s .room) in
-    Carries.next (e .0) (e .1) (adjacent-parent y (m .from) (m .to) (e .3)) (e .2) p q (rw (shifted-marks (y .pebbles) m p q) at (obeys-carries o))
+    Carries.next (e .0) (e .1) (adjacent-parent y (m .from) (m .to) (e .3)) (e .2) (s .holds) (s .room) (obeys-carries o)
 
-carries-obeys : (y : Yard) {marks end : List ℕ} {ms : List Move} → Carries (y .parents) marks ms end → Tree (holding y marks) → Obeys (holding y marks) ms (holding y end)
+carries-obeys : (y : Yard) {counts end : List ℕ} {ms : List Move} → Carries (y .parents) (y .depths) counts ms end → Tree (holding y counts) → Obeys (holding y counts) ms (holding y end)
+unfolding shifted
 carries-obeys y Carries.done t = Obeys.done
-carries-obeys y (Carries.next {marks} {a = a} {b = b} la lb n d p q c) t =
-    let s = carries-step (holding y marks) t a b la lb n d p q in
-    let e = shifted-marks marks (push a b) p q in
-    Obeys.next s (rw (← e) at (carries-obeys y c (rw e at (moved-tree (holding y marks) (push a b) s))))
+carries-obeys y (Carries.next {counts} {a = a} {b = b} la lb n d p q c) t =
+    let s = carries-step (holding y counts) t a b la lb n d p q in
+    Obeys.next s (carries-obeys y c (moved-tree (holding y counts) (push a b) s))
 
 -- the yard that it leaves
 endFault-solved : (y : Yard) → Matched y → (endFault y ≡ none) ↔ Solved y
@@ -89,14 +83,14 @@ solved-targets y t = (
   λ e v _. ap (λ (l : List ℕ). getD l v 0) e,
 )
 
-carries-solved : (y : Yard) → Tree y → (ms : List Move) → ((accepted y ms ≡ ms) × Solved (run y ms)) ↔ Carries (y .parents) (y .pebbles) ms (y .targets)
+carries-solved : (y : Yard) → Tree y → (ms : List Move) → ((accepted y ms ≡ ms) × Solved (run y ms)) ↔ Carries (y .parents) (y .depths) (y .pebbles) ms (y .targets)
 carries-solved y t ms =
     let last = solved-targets (run y ms) (run-tree (obeys ms y t) t) in (
       (λ h. rw (last .0 (h .1)) at (obeys-carries (accepted-obeys y t ms (h .0)))),
       λ c. let r = obeys-accepted (carries-obeys y c t) in (r .0, last .1 (r .1)),
     )
 
-bytesFault-even : (bs : List ℕ) (k : ℕ) → length bs ≡ 2 * k → k ≤ 65_535 → bytesFault bs ≡ none
+bytesFault-even : (bs : List ℕ) (k : ℕ) → length bs ≡ 2 * k → k ≤ 131_072 → bytesFault bs ≡ none
 bytesFault-even bs k e l = rw (e, mul-mod-right 2 k, le-leb (2 * k) maxPlanBytes (omega arith))
 
 module _ (y : Yard) (t : Tree y) (m : Matched y) where

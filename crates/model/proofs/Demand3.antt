@@ -7,24 +7,25 @@ use Prim.Native.Nat.{ℕ, _*_, _≤_, _/_, _-_}
 use native.Mathlib.Omega.{arith}
 use lib.ListN.{length, take, drop}
 use lib.Dec.{leb}
-use Rattle.model.specs.Yard.{Yard, size, pebble, target, shortest, pebbleCount, Matched}
+use Rattle.model.specs.Yard.{Yard, size, pebble, target, Shallow, shortest, pebbleCount, Matched}
 use Rattle.model.specs.Judge.{row, Tree}
 use Rattle.model.specs.Push.{Move, run, accepted, Solved}
-use Rattle.model.specs.Plan.{Rule, lowestChild, neediestChild, choice, planBy, plan}
+use Rattle.model.specs.Plan.{Rule, lowestChild, neediestChild, choice, Side, fills, planBy, plan}
 use Rattle.model.specs.Follow.{lifo}
 use Rattle.model.specs.Calls.Answers.{answered, refused}
 use Rattle.model.specs.Calls.Plans.{bytes, movesOf, planTests, planFault, planAnswer, planList}
+use Rattle.model.specs.Calls.Checks.{maxPlanBytes}
 use Rattle.model.specs.Sheets.{programPlanBytes}
 use Rattle.model.specs.Demand3.{Optimal, Demand3}
 use Rattle.model.proofs.Sums.{sum-cong}
 use Rattle.model.proofs.Demands.{even-solved, solved-iff}
-use Rattle.model.proofs.Bounds.{shortest-bound, shortest-max, shortest-fits}
+use Rattle.model.proofs.Bounds.{shortest-bound, shortest-max, shortest-fits, shortest-fits-shallow}
 use Rattle.model.proofs.Runs.{pebbleCount-run}
 use Rattle.model.proofs.Shortest.{Good, shortest-least, thrifty-crosses, good-tree, good-thrifty}
 use Rattle.model.proofs.Follow.{follows-simple}
 use Rattle.model.proofs.LastIn.{lifo-follows}
 use Rattle.model.proofs.Choice.{Sound, lowest-sound, neediest-sound, choice-sound}
-use Rattle.model.proofs.Balance.{planBy-good, planBy-even}
+use Rattle.model.proofs.Balance.{Steers, fills-steers, planBy-good, planBy-even}
 use Rattle.model.proofs.Calls.{answer-answered, movesOf-bytes, length-bytes, take-overwrite, plan-none, other-unless, seven}
 
 module _ (y : Yard) (t : Tree y) where
@@ -32,23 +33,23 @@ module _ (y : Yard) (t : Tree y) where
   pub solved-matched : (ms : List Move) → Solved (run y ms) → Matched y
   solved-matched ms h = sym (pebbleCount-run y t ms) ∙ sum-cong (size y) (pebble (run y ms)) (target y) h
 
-  -- the plan under any sound rule of choice
-  module _ (m : Matched y) (rule : Rule) (sound : Sound rule) where
-    good : Good y (planBy rule y)
-    good = planBy-good rule sound y t m
+  -- the plan under any sound side of turns and any sound rule of choice
+  module _ (m : Matched y) (side : Side) (steers : Steers side y) (rule : Rule) (sound : Sound rule) where
+    good : Good y (planBy side rule y)
+    good = planBy-good side rule sound y t steers m
 
-    solves : Solved (run y (planBy rule y))
-    solves = even-solved (run y (planBy rule y)) (good-tree y t (planBy rule y) good) (planBy-even rule sound y t m)
+    pub planBy-solves : Solved (run y (planBy side rule y))
+    planBy-solves = even-solved (run y (planBy side rule y)) (good-tree y t (planBy side rule y) good) (planBy-even side rule sound y t steers m)
 
     -- Theorem 14: it has as many moves as the shortest length says
-    pub planBy-length : length (planBy rule y) ≡ shortest y
-    planBy-length = omega (arith, good .spends, solved-iff (run y (planBy rule y)) (good-tree y t (planBy rule y) good) .0 solves)
+    pub planBy-length : length (planBy side rule y) ≡ shortest y
+    planBy-length = omega (arith, good .spends, solved-iff (run y (planBy side rule y)) (good-tree y t (planBy side rule y) good) .0 planBy-solves)
 
-    pub planBy-optimal : Optimal y (planBy rule y)
+    pub planBy-optimal : Optimal y (planBy side rule y)
     planBy-optimal = record {
       obeyed = good .obeyed;
-      solves = solves;
-      crossed = λ v l. omega (arith, thrifty-crosses y t (planBy rule y) (good-thrifty y t (planBy rule y) good) v l, planBy-even rule sound y t m v l);
+      solves = planBy-solves;
+      crossed = λ v l. omega (arith, thrifty-crosses y t (planBy side rule y) (good-thrifty y t (planBy side rule y) good) v l, planBy-even side rule sound y t steers m v l);
       least = λ ps h. omega (arith, planBy-length, shortest-least y t ps h);
       followed = λ ps. let r = lifo-follows y t ps in (lifo y (accepted y ps), r .0, r .1);
       simple = λ ps h e f. follows-simple y t ps f h (e ∙ planBy-length);
@@ -57,25 +58,29 @@ module _ (y : Yard) (t : Tree y) where
   module _ (m : Matched y) where
     pub plan-optimal : Optimal y (plan y)
     unfolding plan
-    plan-optimal = planBy-optimal m choice choice-sound
+    plan-optimal = planBy-optimal m fills (fills-steers y) choice choice-sound
 
     pub plan-length : length (plan y) ≡ shortest y
     unfolding plan
-    plan-length = planBy-length m choice choice-sound
+    plan-length = planBy-length m fills (fills-steers y) choice choice-sound
 
     -- request 2.6: the lowest child first and the neediest first give plans of one length
-    pub rules-length : length (planBy neediestChild y) ≡ length (planBy lowestChild y)
-    rules-length = planBy-length m neediestChild neediest-sound ∙ sym (planBy-length m lowestChild lowest-sound)
+    pub rules-length : length (planBy fills neediestChild y) ≡ length (planBy fills lowestChild y)
+    rules-length = planBy-length m fills (fills-steers y) neediestChild neediest-sound ∙ sym (planBy-length m fills (fills-steers y) lowestChild lowest-sound)
 
-    -- Corollary 15, and the same against the number of nodes: so the program's plan list is always long enough
+    -- Corollary 15, and the same against the number of nodes: so checker and trial can read every plan, and where all depths are 1 the program's
+    -- plan list has room for it
     pub plan-bound : length (plan y) ≤ pebbleCount y * (size y - 1)
     plan-bound = rw plan-length (shortest-bound y t m)
 
-    pub plan-max : length (plan y) ≤ size y * size y / 4
+    pub plan-max : length (plan y) ≤ 8 * (size y * size y / 4)
     plan-max = rw plan-length (shortest-max y t m)
 
-    pub plan-fits : planFault y programPlanBytes ≡ none
-    plan-fits = plan-none y programPlanBytes .1 (t, m, rw plan-length (shortest-fits y t m))
+    pub plan-fits : 2 * length (plan y) ≤ maxPlanBytes
+    plan-fits = rw plan-length (shortest-fits y t m)
+
+    pub plan-fits-shallow : Shallow y → planFault y programPlanBytes ≡ none
+    plan-fits-shallow d = plan-none y programPlanBytes .1 (t, m, rw plan-length (shortest-fits-shallow y t m d))
 
 module _ (y : Yard) (list : List ℕ) where
   -- the moves read back are those of the plan

@@ -33,10 +33,12 @@ pub weight-le : (ps : List ℕ) (u : ℕ) → weight ps u ≤ length ps
 unfolding subtotal
 weight-le ps u = sum-le (length ps) _ (λ v. omega (arith, one-le (inside ps u v)))
 
--- no more marks than nodes, if each is at most 1
-pub subtotal-weight : (ps : List ℕ) (f : ℕ → ℕ) (u : ℕ) → ((v : ℕ) → v < length ps → f v ≤ 1) → subtotal ps f u ≤ weight ps u
+-- no more than k for each node, if each has at most k
+pub subtotal-weight : (ps : List ℕ) (k : ℕ) (f : ℕ → ℕ) (u : ℕ) → ((v : ℕ) → v < length ps → f v ≤ k) → subtotal ps f u ≤ k * weight ps u
 unfolding subtotal
-subtotal-weight ps f u h = sum-mono (length ps) _ _ (λ v l. mul-le-mul-left (one (inside ps u v)) (h v l))
+subtotal-weight ps k f u h =
+    rw (← (sum-scale (length ps) k (λ v. one (inside ps u v) * 1)))
+    (sum-mono (length ps) _ _ (λ v l. omega (arith, mul-le-mul-left (one (inside ps u v)) (h v l), mul-comm k (one (inside ps u v)), one-le (inside ps u v))))
 
 module _ {ps : List ℕ} {r : ℕ} (f : Wood ps r) where
   -- picking one child

@@ -96,7 +96,7 @@ module _ (y : Yard) (t : Tree y) (v : ℕ) (l : v < size y) where
       tl : length (y .targets) ≡ size y
       tl = facts y t .targets-size
 
-      go : (e : Event) → possible y e v ≡ true → Tree (yardOf (y .parents) (pebblesAfter y e v) (targetsAfter y e v))
+      go : (e : Event) → possible y e v ≡ true → Tree (yardOf (y .parents) (pebblesAfter y e v) (targetsAfter y e v) (y .depths))
       go PebbleArrives h = counted-tree y t _ _ (simp length-set pl) tl (more-le (y .pebbles) pl h (facts y t .pebble-le)) (facts y t .target-le)
       go PebbleLeaves h = counted-tree y t _ _ (simp length-set pl) tl (less-le (y .pebbles) pl h (facts y t .pebble-le)) (facts y t .target-le)
       go TargetSet h = counted-tree y t _ _ pl (simp length-set tl) (facts y t .pebble-le) (more-le (y .targets) tl h (facts y t .target-le))
@@ -113,7 +113,7 @@ module _ (y : Yard) (t : Tree y) (v : ℕ) (l : v < size y) where
       tl : v < length (y .targets)
       tl = omega (arith, facts y t .targets-size)
 
-      go : (e : Event) → possible y e v ≡ true → demand (yardOf (y .parents) (pebblesAfter y e v) (targetsAfter y e v)) u ≡ cond (inside (y .parents) u v) (changed e (demand y u)) (demand y u)
+      go : (e : Event) → possible y e v ≡ true → demand (yardOf (y .parents) (pebblesAfter y e v) (targetsAfter y e v) (y .depths)) u ≡ cond (inside (y .parents) u v) (changed e (demand y u)) (demand y u)
       go PebbleArrives h = falls-right (targetsIn y u) (pebblesIn y u) (pebblesIn (altered y PebbleArrives v) u) (inside (y .parents) u v) (subtotal-more (y .parents) (pebble y) (pebble (altered y PebbleArrives v)) v l (getD-more (y .pebbles) v pl) u)
       go PebbleLeaves h = rises-right (targetsIn y u) (pebblesIn y u) (pebblesIn (altered y PebbleLeaves v) u) (inside (y .parents) u v) (subtotal-more (y .parents) (pebble (altered y PebbleLeaves v)) (pebble y) v l (getD-less (y .pebbles) v pl (ltb-true 0 (pebble y v) h)) u)
       go TargetSet h = rises-left (targetsIn y u) (pebblesIn y u) (targetsIn (altered y TargetSet v) u) (inside (y .parents) u v) (subtotal-more (y .parents) (target y) (target (altered y TargetSet v)) v l (getD-more (y .targets) v tl) u)

@@ -8,6 +8,7 @@ pub mod Climb
 pub mod Trees
 pub mod Judged
 pub mod Demands
+pub mod Layers
 pub mod Bounds
 pub mod Step
 pub mod Signed
@@ -16,6 +17,7 @@ pub mod Runs
 pub mod Shortest
 pub mod Follow
 pub mod LastIn
+pub mod Least
 pub mod Choice
 pub mod Plan
 pub mod Serve
@@ -30,6 +32,7 @@ pub mod Nearest
 pub mod Demand3
 pub mod Outgoing
 pub mod Displaced
+pub mod Tidy
 pub mod Longest
 pub mod Moves
 pub mod Demand2
@@ -37,6 +40,7 @@ pub mod Trial
 pub mod Lines
 pub mod Sheets
 pub mod Report
+pub mod Shallow
 pub mod Places
 pub mod Bits
 pub mod Blocks

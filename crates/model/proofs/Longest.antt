@@ -1,6 +1,6 @@
--- The longest plans (request 2.2). No plan of n nodes has more than n * n / 4 moves (Bounds), and the line of n nodes, each one's parent the node
+-- The longest plans (request 2.2). No plan of n nodes has more than 8 * (n * n / 4) moves (Bounds), and the line of n nodes, each one's parent the node
 -- before it, has just as many if the first half of its nodes is held and the last half are targets: beyond node t lie the smaller of t and n - t
--- pebbles too few. With k pebbles to a node all of that is k times as much.
+-- pebbles too few. With k pebbles to a node all of that is k times as much, and a node may hold 8.
 use mathlib.Core.Path.{_≡_, refl, sym, ap, _∙_}
 use mathlib.Core.Logic.{_↔_}
 use mathlib.Core.Bool.{Bool, true, false, _||_, or-true}
@@ -13,13 +13,13 @@ use native.Mathlib.Decide.{ℕ-discrete, decLe}
 use lib.ListN.{length}
 use lib.Dec.{leb, ltb, eqb, leb·zero}
 use borrow.Author.Tests.{leb-true, leb-false, ltb-true, ltb-false, lt-ltb, le-ltb, le-leb, lt-leb, eq-eqb, ne-eqb}
-use Rattle.model.specs.Yard.{Yard, yardOf, size, maxSize, up, pebble, target, one, sum, below, root, climbs, inside, subtotal, pebblesIn, targetsIn, imbalance, shortest, Matched}
+use Rattle.model.specs.Yard.{Yard, yardOf, size, maxSize, maxDepth, up, pebble, target, one, sum, below, root, climbs, inside, subtotal, pebblesIn, targetsIn, imbalance, shortest, Matched}
 use Rattle.model.specs.Judge.{Fault, atLowest, shapeTests, Tree, matchedFault}
 use Rattle.model.specs.Plan.{plan}
 use Rattle.model.specs.Calls.Answers.{answered, answer, range}
 use Rattle.model.specs.Calls.Plans.{planFault, planAnswer}
 use Rattle.model.specs.Calls.Demands.{Length, lengthOf, boundAnswer, longest}
-use Rattle.model.proofs.Basics.{one-le, none-below, none-all}
+use Rattle.model.proofs.Basics.{none-below, none-all}
 use Rattle.model.proofs.Sums.{sum-cong, sum-add, sum-scale, sum-ones, sum-front}
 use Rattle.model.proofs.Trees.{Wood}
 use Rattle.model.proofs.Judged.{tree, wood, roots-wood, shape-wood}
@@ -41,8 +41,11 @@ first n v = ltb v (n / 2)
 pub last : ℕ → ℕ → Bool
 last n v = leb (n - n / 2) v
 
+abbrev pub all : ℕ → Bool
+all v = true
+
 abbrev pub lineYard : ℕ → ℕ → Yard
-lineYard k n = yardOf (lineParents n) (heaps k n (first n)) (heaps k n (last n))
+lineYard k n = yardOf (lineParents n) (heaps k n (first n)) (heaps k n (last n)) (heaps k n all)
 
 half : (n : ℕ) → (2 * (n / 2) ≤ n) × (n ≤ 2 * (n / 2) + 1)
 half n = omega (arith, div-mul-le-self n 2, lt-div-mul-add {a = n} {b = 2} (omega arith))
@@ -139,7 +142,7 @@ ridge-bounds zero = omega arith
 ridge-bounds (suc zero) = omega arith
 ridge-bounds (suc (suc n)) = omega (arith, ridge-step n, ridge-bounds n)
 
-ridge-quarter : (n : ℕ) → ridge n ≡ longest n
+ridge-quarter : (n : ℕ) → ridge n ≡ n * n / 4
 ridge-quarter n = sym (div-eq-of-lt-le {k = ridge n} 4 (omega (arith, ridge-bounds n)) (omega (arith, ridge-bounds n)))
 
 module _ (k n : ℕ) where
@@ -158,11 +161,11 @@ module _ (k n : ℕ) where
       go a b h e = rw (← e, mul-sub) (omega (arith, mul-le-mul-left k h))
 
   -- with k pebbles to a node
-  pub shortest-line : shortest (lineYard k n) ≡ k * longest n
+  pub shortest-line : shortest (lineYard k n) ≡ k * (n * n / 4)
   unfolding shortest
   shortest-line = rw (length-line n) (sum-cong n _ (λ t. k * min t (n - t)) imbalance-line ∙ sum-scale n k (λ t. min t (n - t)) ∙ ap (λ (x : ℕ). k * x) (ridge-quarter n))
 
--- the line is a tree with the root 0
+-- the line has the root 0
 module _ (n : ℕ) (l : 0 < n) where
   lt : {v : ℕ} → v < length (lineParents n) → v < n
   lt k = omega (arith, length-line n)
@@ -176,46 +179,52 @@ module _ (n : ℕ) (l : 0 < n) where
     to-root = λ v k. inside-line n 0 v (lt k) ∙ leb·zero v;
   }
 
-  tree-line : n ≤ maxSize → Tree (lineYard 1 n)
-  tree-line h = tree (lineYard 1 n) (
+-- and with nodes k deep, from 1 to 8, a yard with as many pebbles as targets
+module _ (k n : ℕ) (d : (0 < k) × (k ≤ maxDepth)) (l : 0 < n) (h : n ≤ maxSize) where
+  tree-line : Tree (lineYard k n)
+  tree-line = tree (lineYard k n) (
     rw (length-line n, lt-ltb 0 n l, le-leb n maxSize h),
     (
-      rw (length-line n, length-heaps 1 n (first n), length-heaps 1 n (last n), eq-eqb n n refl),
+      rw (length-line n, length-heaps k n (first n), length-heaps k n (last n), length-heaps k n all, eq-eqb n n refl),
       (
-        small (first n),
+        ap (atLowest 26) (none-below (length (lineParents n)) _ (λ v m. rw (depth v m, lt-ltb 0 k (d .0), le-leb k maxDepth (d .1)))),
         (
-          small (last n),
+          small (first n),
           (
-            ap (atLowest 4) (none-below (length (lineParents n)) _ (λ v k. lt-leb (length (lineParents n)) (up (lineParents n) v) (wood-line .parent-lt v k))),
-            none-all (shapeTests (lineYard 1 n)) (shape-wood wood-line (heaps 1 n (first n)) (heaps 1 n (last n))),
+            small (last n),
+            (
+              ap (atLowest 4) (none-below (length (lineParents n)) _ (λ v m. lt-leb (length (lineParents n)) (up (lineParents n) v) (wood-line n l .parent-lt v m))),
+              none-all (shapeTests (lineYard k n)) (shape-wood (wood-line n l) (heaps k n (first n)) (heaps k n (last n)) (heaps k n all)),
+            ),
           ),
         ),
       ),
     ),
   )
     where
-      small : (p : ℕ → Bool) → atLowest 3 (below (length (lineParents n)) (λ v. ltb 1 (up (heaps 1 n p) v))) ≡ none
-      small p = ap (atLowest 3) (none-below (length (lineParents n)) _ (λ v k. rw (heap n 1 p v (lt k)) (le-ltb 1 (1 * one (p v)) (omega (arith, one-le (p v))))))
+      depth : (v : ℕ) → v < length (lineParents n) → up (heaps k n all) v ≡ k
+      depth v m = heap n k all v (lt n l m) ∙ omega arith
 
-  matched-line : n ≤ maxSize → Matched (lineYard 1 n)
-  matched-line h =
-      let t = tree-line h in
-      let r : root (lineYard 1 n) ≡ 0 = rw (roots-wood wood-line) in
-      omega (
-        arith,
-        half n,
-        rw r at (root-subtotal (wood (lineYard 1 n) t) (pebble (lineYard 1 n))),
-        rw r at (root-subtotal (wood (lineYard 1 n) t) (target (lineYard 1 n))),
-        pebbles-beyond 1 n 0,
-        targets-beyond 1 n 0,
-      )
+      small : (p : ℕ → Bool) → atLowest 27 (below (length (lineParents n)) (λ v. ltb (up (heaps k n all) v) (up (heaps k n p) v))) ≡ none
+      small p = ap (atLowest 27) (none-below (length (lineParents n)) _ (λ v m. rw (depth v m, heap n k p v (lt n l m)) (le-ltb k (k * one (p v)) (at (p v)))))
+        where
+          at : (b : Bool) → k * one b ≤ k
+          at true = omega arith
+          at false = omega arith
+
+  matched-line : Matched (lineYard k n)
+  matched-line =
+      let r : root (lineYard k n) ≡ 0 = rw (roots-wood (wood-line n l)) in
+      sym (rw r at (root-subtotal (wood (lineYard k n) tree-line) (pebble (lineYard k n))))
+      ∙ pebbles-beyond k n 0 ∙ ap (λ (x : ℕ). k * x) (omega (arith, half n)) ∙ sym (targets-beyond k n 0)
+      ∙ (rw r at (root-subtotal (wood (lineYard k n) tree-line) (target (lineYard k n))))
 
 -- for each n from 1 to 256 some yard needs as many
 pub longest-met : (n : ℕ) → 0 < n → n ≤ maxSize → (y : Yard) × (size y ≡ n) × Tree y × Matched y × (length (plan y) ≡ longest n)
 longest-met n l h =
-    let t = tree-line n l h in
-    let m = matched-line n l h in
-    (lineYard 1 n, length-line n, t, m, plan-length (lineYard 1 n) t m ∙ shortest-line 1 n ∙ omega arith)
+    let t = tree-line 8 n (omega arith) l h in
+    let m = matched-line 8 n (omega arith) l h in
+    (lineYard 8 n, length-line n, t, m, plan-length (lineYard 8 n) t m ∙ shortest-line 8 n)
 
 -- no yard needs more
 pub longest-most : (y : Yard) → Tree y → Matched y → length (plan y) ≤ longest (size y)

@@ -192,7 +192,7 @@ module _ (y : Yard) (a : ℕ) where
       go v l true e = rw (lt-leb (distance y a v) reach (h v l e))
       go v l false e = refl
 
--- the reach call writes 1 for each node whose pebble is in reach and 0 elsewhere, and answers the count of 1s
+-- an entry of the reach call's list is 1 exactly if its node holds a pebble in reach, else 0; the answer is how many are 1
 module _ (y : Yard) (list : List ℕ) (a reach : ℕ) (e : reachFault y list a ≡ none) where
   pub reach-entry : (v : ℕ) → v < size y → getD (reachList y list a reach) v 0 ≡ one (inReach y a reach v)
   reach-entry v l = rw e (getD-listed (λ v. one (inReach y a reach v)) 0 (size y) v l)

@@ -1,5 +1,5 @@
 -- Every answer of the calls is one that a number tells. A place is 0, a node, the number of a move, or the length of the plan: past refusal 1 there
--- are at most 256 nodes, past refusal 9 at most 65,535 moves, and the plan of a tree has at most 65,536; of a sheet it is a line up to 258, or its
+-- are at most 256 nodes, past refusal 9 at most 131,072 moves, and the plan of a tree has at most 524,288; of a sheet it is a line up to 258, or its
 -- length. The values are as small.
 use mathlib.Core.Path.{_≡_, refl}
 use mathlib.Core.Bool.{Bool, true, false, not, cond, _&&_, and-eq-true-iff}
@@ -26,15 +26,16 @@ use Rattle.model.specs.Calls.Plans.{planTests, planFault, movesOf}
 use Rattle.model.specs.Calls.Checks.{maxPlanBytes, bytesFault, movesFault, Verdict, checkTests, checkFault, checkAnswer, within, trialTests, trialFault, trialAnswer, trialInC}
 use Rattle.model.specs.Sheets.{maxSheetBytes, yardSheet, readYard, reader, readAnswer, writeTests, writeFault, writeAnswer}
 use Rattle.model.proofs.Basics.{All, one-le, all-below, none-all, unless-none}
-use Rattle.model.proofs.Sums.{sum-mono, sum-le}
+use Rattle.model.proofs.Sums.{sum-mono, sum-scale, sum-le}
 use Rattle.model.proofs.Judged.{facts}
 use Rattle.model.proofs.Signed.{shortest-small}
 use Rattle.model.proofs.Calls.{movesOf-half, totals-none, plan-none, matched-tree}
+use Rattle.model.proofs.Demand3.{plan-length, plan-fits}
 use Rattle.model.proofs.Distance.{distance-lt}
 use Rattle.model.proofs.Nearest.{nearest-none, nearest-is}
 use Rattle.model.proofs.Demand3.{plan-length}
 use Rattle.model.proofs.Displaced.{displaced-le}
-use Rattle.model.proofs.Sheets.{Bytes, yardSheet-short, read-sizes, read-places}
+use Rattle.model.proofs.Sheets.{YardBytes, yardSheet-short, read-sizes, read-places}
 
 -- a refusal, if there is one, is of the table and has a small place
 pub data Low : Option Fault → Type 0 where
@@ -100,12 +101,15 @@ judge-low y =
     let q : (ltb 0 (size y) ≡ true) × (leb (size y) 256 ≡ true) = and-eq-true-iff _ _ .0 (unless-none _ 1 0 e) in
     let h : size y ≤ 256 = leb-true (size y) 256 (q .1) in
     all (drop 1 (tests y)) (
-      once ((eqb (length (y .pebbles)) (size y)) && (eqb (length (y .targets)) (size y))) 2 0 (omega arith) (omega arith),
+      once ((eqb (length (y .pebbles)) (size y)) && ((eqb (length (y .targets)) (size y)) && (eqb (length (y .depths)) (size y)))) 2 0 (omega arith) (omega arith),
       (
-        lowest 3 (size y) (omega arith) h _,
+        lowest 26 (size y) (omega arith) h _,
         (
-          lowest 3 (size y) (omega arith) h _,
-          (lowest 4 (size y) (omega arith) h _, (second (roots (y .parents)) (nodes (size y) h (λ v. eqb (parent y v) v)), (lowest 6 (size y) (omega arith) h _, tt))),
+          lowest 27 (size y) (omega arith) h _,
+          (
+            lowest 27 (size y) (omega arith) h _,
+            (lowest 4 (size y) (omega arith) h _, (second (roots (y .parents)) (nodes (size y) h (λ v. eqb (parent y v) v)), (lowest 6 (size y) (omega arith) h _, tt))),
+          ),
         ),
       ),
     ))
@@ -121,7 +125,7 @@ moves-low [] i y l = Low.passes
 moves-low (m ∷ ms) i y l = all (moveFault y m i ∷ movesFault (suc i) (pushed y m) ms ∷ []) (move-low y m i (omega arith), (moves-low ms (suc i) (pushed y m) (omega arith), tt))
 
 -- past refusal 9
-pub few-moves : (bs : List ℕ) → bytesFault bs ≡ none → length (movesOf bs) ≤ 65_535
+pub few-moves : (bs : List ℕ) → bytesFault bs ≡ none → length (movesOf bs) ≤ 131_072
 few-moves bs e =
     let q : (eqb (length bs % 2) 0 ≡ true) × (leb (length bs) maxPlanBytes ≡ true) = and-eq-true-iff _ _ .0 (unless-none _ 9 0 e) in
     omega (arith, movesOf-half bs, leb-true (length bs) maxPlanBytes (q .1))
@@ -200,7 +204,7 @@ module _ (y : Yard) where
         all (drop 3 (checkTests y bs)) (moves-low (movesOf bs) 0 y (omega (arith, few-moves bs e)), (lowest 14 (size y) (omega arith) (facts y t .few .1) _, tt)))))
 
     module _ (budget : ℕ) where
-      few-taken : bytesFault bs ≡ none → length (within bs budget) ≤ 65_535
+      few-taken : bytesFault bs ≡ none → length (within bs budget) ≤ 131_072
       few-taken e = omega (arith, few-moves bs e, length-take budget (movesOf bs))
 
       trial-low : Low (trialFault y bs budget)
@@ -235,11 +239,17 @@ module _ (y : Yard) where
   moves-small = rw map-answer (small _ figure-low (λ e. let h = matched-tree y e in plan-short (h .0) (h .1)))
 
   pub list-bytes-small : Small (mapAnswer (λ l. l .listBytes) (boundAnswer y))
-  list-bytes-small = rw map-answer (small _ figure-low (λ e. let h = matched-tree y e in omega (arith, plan-length y (h .0) (h .1), shortest-small y (h .0))))
+  list-bytes-small = rw map-answer (small _ figure-low (λ e. let h = matched-tree y e in omega (arith, plan-fits y (h .0) (h .1))))
 
-  -- no more pebbles than nodes
-  pub pebbles-few : Tree y → pebbleCount y ≤ maxSize
-  pebbles-few t = omega (arith, facts y t .few, sum-mono (size y) (pebble y) (λ _. 1) (facts y t .pebble-le), sum-le (size y) (λ _. 1) (λ _. omega arith))
+  -- no more than 8 pebbles for each node
+  pub pebbles-few : Tree y → pebbleCount y ≤ 2_048
+  pebbles-few t = omega (
+    arith,
+    facts y t .few,
+    sum-mono (size y) (pebble y) (λ _. 8 * 1) (λ v l. omega (arith, facts y t .pebble-le v l, facts y t .capacity-le v l)),
+    sum-scale (size y) 8 (λ _. 1),
+    sum-le (size y) (λ _. 1) (λ _. omega arith),
+  )
 
   pub displaced-small : Small (displacedAnswer y)
   displaced-small = small _ figure-low (λ e. omega (arith, displaced-le y, pebbles-few (matched-tree y e .0)))
@@ -255,9 +265,9 @@ longest-small n = small (longest n) (once ((ltb 0 n) && (leb n maxSize)) 1 0 (om
 pub read-row : (bs : List ℕ) {f : Fault} → readYard bs ≡ refused f → Row f
 read-row bs e = let l = rw e at (read-places bs) in record { numbered = omega arith; placed = omega arith }
 
-pub read-small : (bs ps cs ts : List ℕ) → Small (readAnswer bs ps cs ts)
+pub read-small : (bs ps cs ts ds : List ℕ) → Small (readAnswer bs ps cs ts ds)
 unfolding reader
-read-small bs ps cs ts = go ((leb maxSize (length ps)) && ((leb maxSize (length cs)) && (leb maxSize (length ts))))
+read-small bs ps cs ts ds = go ((leb maxSize (length ps)) && ((leb maxSize (length cs)) && ((leb maxSize (length ts)) && (leb maxSize (length ds)))))
   where
     said : (a : Answer Yard) → readYard bs ≡ a → Small (mapAnswer size a)
     said (answered y) e = omega (arith, read-sizes bs y e)
@@ -268,11 +278,11 @@ read-small bs ps cs ts = go ((leb maxSize (length ps)) && ((leb maxSize (length 
     go false = record { numbered = omega arith; placed = omega arith }
 
 -- writing one, of lists of bytes
-module _ (y : Yard) (ps : Bytes (y .parents)) (cs : Bytes (y .pebbles)) (ts : Bytes (y .targets)) where
+module _ (y : Yard) (bs : YardBytes y) where
   sheet-short : sizeFault y ≡ none → length (yardSheet y) ≤ maxSheetBytes
   sheet-short e =
       let q : (ltb 0 (size y) ≡ true) × (leb (size y) maxSize ≡ true) = and-eq-true-iff _ _ .0 (unless-none _ 1 0 e) in
-      yardSheet-short y (leb-true (size y) maxSize (q .1)) ps cs ts
+      yardSheet-short y (leb-true (size y) maxSize (q .1)) bs
 
   pub write-small : (list : List ℕ) → Small (writeAnswer y list)
   unfolding writeFault
@@ -281,5 +291,5 @@ module _ (y : Yard) (ps : Bytes (y .parents)) (cs : Bytes (y .pebbles)) (ts : By
       low : Low (writeFault y (length list))
       low =
           first (drop 1 (writeTests y (length list))) (once ((ltb 0 (size y)) && (leb (size y) maxSize)) 1 0 (omega arith) (omega arith)) (λ a.
-          first (drop 2 (writeTests y (length list))) (once ((eqb (length (y .pebbles)) (size y)) && (eqb (length (y .targets)) (size y))) 2 0 (omega arith) (omega arith)) (λ b.
+          first (drop 2 (writeTests y (length list))) (once ((eqb (length (y .pebbles)) (size y)) && ((eqb (length (y .targets)) (size y)) && (eqb (length (y .depths)) (size y)))) 2 0 (omega arith) (omega arith)) (λ b.
           all (drop 2 (writeTests y (length list))) (once (leb (length (yardSheet y)) (length list)) 8 (length (yardSheet y)) (omega arith) (omega (arith, sheet-short a)), tt)))

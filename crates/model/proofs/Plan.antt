@@ -5,7 +5,7 @@ use mathlib.Core.List.{List, [], _∷_, _++_}
 use Prim.Native.Nat.{ℕ, suc}
 use Rattle.model.specs.Yard.{Yard, parent, full, held, children, lacking, surplus, imbalance}
 use Rattle.model.specs.Push.{Move, push, run}
-use Rattle.model.specs.Plan.{needy, Rule, inject, clear, extract, turn, settle, each, balance}
+use Rattle.model.specs.Plan.{needy, Rule, Side, inject, clear, extract, turn, settle, each, balance}
 
 module _ (rule : Rule) (k : ℕ) (y : Yard) (v : ℕ) where
   pub inject-full : full y v ≡ true → inject rule (suc k) y v ≡ clear rule k y v ++ (push (parent y v) v ∷ [])
@@ -28,23 +28,25 @@ module _ (rule : Rule) (k : ℕ) (y : Yard) (v : ℕ) where
   unfolding extract
   extract-empty e = rw (e, extract)
 
-  pub turn-held : held y v ≡ true → turn rule k y v ≡ inject rule k y (rule (lacking y) y v)
+module _ (side : Side) (rule : Rule) (k : ℕ) (y : Yard) (v : ℕ) where
+  pub turn-fills : side y v ≡ true → turn side rule k y v ≡ inject rule k y (rule (lacking y) y v)
   unfolding turn
-  turn-held e = rw (e, turn)
+  turn-fills e = rw (e, turn)
 
-  pub turn-empty : held y v ≡ false → turn rule k y v ≡ extract rule k y (rule (surplus y) y v)
+  pub turn-draws : side y v ≡ false → turn side rule k y v ≡ extract rule k y (rule (surplus y) y v)
   unfolding turn
-  turn-empty e = rw (e, turn)
+  turn-draws e = rw (e, turn)
 
-  pub settle-end : (t : ℕ) → needy (imbalance y) y v ≡ [] → settle rule k (suc t) y v ≡ []
+  pub settle-end : (t : ℕ) → needy (imbalance y) y v ≡ [] → settle side rule k (suc t) y v ≡ []
   unfolding settle
   settle-end t e = rw (e, settle)
 
-  pub settle-turn : (t c : ℕ) (cs : List ℕ) → needy (imbalance y) y v ≡ c ∷ cs → settle rule k (suc t) y v ≡ turn rule k y v ++ settle rule k t (run y (turn rule k y v)) v
+  pub settle-turn : (t c : ℕ) (cs : List ℕ) → needy (imbalance y) y v ≡ c ∷ cs
+      → settle side rule k (suc t) y v ≡ turn side rule k y v ++ settle side rule k t (run y (turn side rule k y v)) v
   unfolding settle
   settle-turn t c cs e = rw (e, settle)
 
-  pub balance-children : (d : ℕ) → balance rule k (suc d) y v ≡ settle rule k k y v ++ each (balance rule k d) (run y (settle rule k k y v)) (children y v)
+  pub balance-children : (d : ℕ) → balance side rule k (suc d) y v ≡ settle side rule k k y v ++ each (balance side rule k d) (run y (settle side rule k k y v)) (children y v)
   unfolding balance
   balance-children d = refl
 

@@ -4,14 +4,14 @@ use mathlib.Core.Path.{_≡_, refl, sym, ap, _∙_}
 use mathlib.Core.Bool.{Bool, true, false, not, cond}
 use mathlib.Core.Option.{some}
 use mathlib.Core.List.{List, [], _∷_, _++_, map}
-use Prim.Native.Nat.{ℕ, zero, suc, _+_, _*_}
+use Prim.Native.Nat.{ℕ, zero, suc, _+_, _*_, _≤_, _<_}
 use native.Mathlib.Omega.{arith}
 use native.Mathlib.Decide.{ℕ-discrete}
 use lib.ListN.{length}
 use lib.Dec.{eqb}
-use borrow.Author.Tests.{eq-eqb, ne-eqb}
+use borrow.Author.Tests.{lt-leb, eq-eqb, ne-eqb}
 use Rattle.model.specs.Yard.{Yard, size, one, sum, below, root, demand, lacking, surplus, Matched}
-use Rattle.model.specs.Judge.{Fault, Tree}
+use Rattle.model.specs.Judge.{Fault, row, Tree}
 use Rattle.model.specs.Push.{Move, accepted, ups, downs}
 use Rattle.model.specs.Plan.{plan}
 use Rattle.model.specs.Calls.Answers.{answered, refused}
@@ -22,8 +22,9 @@ use Rattle.model.proofs.Sums.{sum-cong, sum-add, sum-pick, sum-ones, le
 use Rattle.model.proofs.Judged.{wood}
 use Rattle.model.proofs.Signed.{above0, below0, demand-parts}
 use Rattle.model.proofs.Runs.{obeys, root-run, crossings-length}
+use Rattle.model.proofs.Calls.{totals-none, plan-none}
 use Rattle.model.proofs.Ranges.{map-all}
-use Rattle.model.proofs.Demand3.{plan-fits, plan-optimal}
+use Rattle.model.proofs.Demand3.{plan-optimal}
 use Rattle.model.proofs.Sheets.{program-cut}
 
 -- the sum of a list
@@ -96,10 +97,15 @@ module _ (y : Yard) (t : Tree y) where
     unfolding edges
     plan-rows-demand = plan-rows ∙ map-all _ _ (edges y) (all-below _ (λ v. not (eqb v (root y))) (size y) (λ v _ _. let p = demand-parts y v in rw (p .0, p .1)))
 
--- what the program prints for a sheet that says a tree with as many pebbles as targets
-pub program-printed : (input : List ℕ) (y : Yard) → readYard input ≡ answered y → Tree y → Matched y → program input ≡ moveLines (plan y) ++ report y (plan y)
+-- what the program prints for a sheet that says a tree with as many pebbles as targets, whose plan has at most 32,768 moves; 'longer plans
+-- meet 8' (2.10)
+pub program-printed : (input : List ℕ) (y : Yard) → readYard input ≡ answered y → Tree y → Matched y → length (plan y) ≤ 32_768 → program input ≡ moveLines (plan y) ++ report y (plan y)
 unfolding moveSheet
-program-printed input y e t m = program-cut input ∙ rw (e, plan-fits y t m)
+program-printed input y e t m h = program-cut input ∙ rw (e, plan-none y programPlanBytes .1 (t, m, omega arith))
+
+pub program-long : (input : List ℕ) (y : Yard) → readYard input ≡ answered y → Tree y → Matched y → 32_768 < length (plan y) → program input ≡ refusalSheet (row 8 (length (plan y)))
+unfolding planFault
+program-long input y e t m h = program-cut input ∙ rw (e, t, totals-none y .1 m, lt-leb (2 * length (plan y)) programPlanBytes (omega arith))
 
 -- a refused yard prints as before: the refusal of its sheet, or of its plan
 pub program-refused : (input : List ℕ) (f : Fault) → readYard input ≡ refused f → program input ≡ refusalSheet f

@@ -91,7 +91,7 @@ shift-one y t b v u a = record {
 
 -- a shift over the edge of a child c of v: then v can take the pebble that is still due over its own edge, or give it
 module _ (y : Yard) (t : Tree y) (b : Bool) (v c : ℕ) (ms : List Move) (u : Due y b v) (k : Child (y .parents) v c) (p : Shift y b c ms) where
-  stays : (w : ℕ) → w < size y → inside (y .parents) v w ≡ false → pebble (run y ms) w ≡ pebble y w
+  pub stays : (w : ℕ) → w < size y → inside (y .parents) v w ≡ false → pebble (run y ms) w ≡ pebble y w
   stays w l i = omega (arith, rw (k .up, ne-eqb w v (outside-other (wood y t) v w i), and-false b, and-false (not b)) at (p .outer w l (outside-child (wood y t) v c w k l i)))
 
   v-outside : inside (y .parents) c v ≡ false

@@ -1,7 +1,7 @@
--- Sheets. Reading a written sheet returns its lists, and writing what a legal sheet says returns its bytes: the reader accepts exactly the
--- lines that the writer writes. A legal sheet has at most 4,010 bytes, so the program may cut its input at 4,200.
+-- Sheets. What is written and read again is the same lists, and what is read and written again the same bytes: the reader accepts exactly the
+-- lines that the writer writes. A legal sheet has at most 5,040 bytes, so the program may cut its input at 5,200.
 use mathlib.Core.Path.{_≡_, refl, sym, ap, _∙_, subst}
-use mathlib.Core.Bool.{Bool, true, false, and-eq-true-iff}
+use mathlib.Core.Bool.{Bool, true, false, _&&_, and-eq-true-iff}
 use mathlib.Core.List.{List, [], _∷_, _++_, map, map-map}
 use mathlib.Core.Option.{Option, none, some, Option·none-ne-some}
 use Prim.Native.Nat.{ℕ, zero, suc, _+_, _-_, _*_, _≤_, _<_}
@@ -22,6 +22,9 @@ use Rattle.model.proofs.Lines.{decimal-sound, Values, same-true, same-s
 -- a list of bytes
 abbrev pub Bytes : List ℕ → Type 0
 Bytes l = (i : ℕ) → getD l i 0 < 256
+
+abbrev pub YardBytes : Yard → Type 0
+YardBytes y = Bytes (y .parents) × Bytes (y .pebbles) × Bytes (y .targets) × Bytes (y .depths)
 
 bytes-cons : {b : ℕ} (l : List ℕ) → b < 256 → Bytes l → Bytes (b ∷ l)
 bytes-cons l h g zero = h
@@ -148,25 +151,26 @@ unfolding yardSheet
 yardSheet-columns {rows = rows} r =
     rw (reads-lines r, length-map rows (λ (vs : List ℕ). getD vs 1 0)) (ap (λ (l : List (List ℕ)). header ++ lines l) (simp zero-add at (reads-columns r)))
 
-columns-yard : (y : Yard) → length (y .pebbles) ≡ size y → length (y .targets) ≡ size y → columns (map (nodeValues y) (range 0 (size y))) ≡ y
-columns-yard y c t = rw (
+columns-yard : (y : Yard) → length (y .pebbles) ≡ size y → length (y .targets) ≡ size y → length (y .depths) ≡ size y → columns (map (nodeValues y) (range 0 (size y))) ≡ y
+columns-yard y c t d = rw (
   map-map (λ (vs : List ℕ). getD vs 1 0) (nodeValues y) (range 0 (size y)) ∙ range-getD (y .parents),
   map-map (λ (vs : List ℕ). getD vs 2 0) (nodeValues y) (range 0 (size y)) ∙ rw c at (range-getD (y .pebbles)),
   map-map (λ (vs : List ℕ). getD vs 3 0) (nodeValues y) (range 0 (size y)) ∙ rw t at (range-getD (y .targets)),
+  map-map (λ (vs : List ℕ). getD vs 4 0) (nodeValues y) (range 0 (size y)) ∙ rw d at (range-getD (y .depths)),
 )
 
 reads-bytes : {k v : ℕ} {bs : List ℕ} {rows : List (List ℕ)} → Reads k v bs rows → (i : ℕ) → Bytes (column i rows)
 reads-bytes end i = λ j. omega arith
 reads-bytes (next {l = l} {rows = rows} b e r) i = bytes-cons (column i rows) (values-bytes (l .values) (b .small) i) (reads-bytes r i)
 
-yard-reads : (y : Yard) → Bytes (y .parents) → Bytes (y .pebbles) → Bytes (y .targets) → (k v n : ℕ) → n ≤ k → v + n ≤ 256
+yard-reads : (y : Yard) → YardBytes y → (k v n : ℕ) → n ≤ k → v + n ≤ 256
     → Reads k v (lines (map (nodeValues y) (range v n))) (map (nodeValues y) (range v n))
 unfolding lines range
-yard-reads y ps cs ts k v zero h l = end
-yard-reads y ps cs ts zero v (suc n) h l = absurd (omega arith)
-yard-reads y ps cs ts (suc k) v (suc n) h l =
+yard-reads y b k v zero h l = end
+yard-reads y b zero v (suc n) h l = absurd (omega arith)
+yard-reads y b (suc k) v (suc n) h l =
     next {l = record { values = nodeValues y v; rest = lines (map (nodeValues y) (range (suc v) n)) }}
-    (record { count = refl; small = omega (arith, ps v, cs v, ts v); text = refl }) refl (yard-reads y ps cs ts k (suc v) n (omega arith) (omega arith))
+    (record { count = refl; small = omega (arith, b .0 v, b .1 v, b .2 v, b .3 v); text = refl }) refl (yard-reads y b k (suc v) n (omega arith) (omega arith))
 
 -- lengths: so much room k lines from v on may take, where the decimal of a node counts as it is
 lineRoom : ℕ → ℕ → ℕ
@@ -232,43 +236,43 @@ readYard-legal bs y e = go (same (take (length header) bs) header) refl (drop (l
         }
 
 -- reading a written sheet returns its lists, if they are lists of bytes that the writer does not refuse
-pub read-write : (y : Yard) (room : ℕ) → writeFault y room ≡ none → Bytes (y .parents) → Bytes (y .pebbles) → Bytes (y .targets)
-    → readYard (yardSheet y) ≡ answered y
+pub read-write : (y : Yard) (room : ℕ) → writeFault y room ≡ none → YardBytes y → readYard (yardSheet y) ≡ answered y
 unfolding writeFault yardSheet
-read-write y room e ps cs ts =
+read-write y room e b =
     let a = none-all (writeTests y room) e in
     let n = and-eq-true-iff (ltb 0 (size y)) (leb (size y) maxSize) .0 (unless-none _ 1 0 (a .0)) in
-    let m = and-eq-true-iff (eqb (length (y .pebbles)) (size y)) (eqb (length (y .targets)) (size y)) .0 (unless-none _ 2 0 (a .1 .0)) in
+    let m = and-eq-true-iff (eqb (length (y .pebbles)) (size y)) ((eqb (length (y .targets)) (size y)) && (eqb (length (y .depths)) (size y))) .0 (unless-none _ 2 0 (a .1 .0)) in
+    let d = and-eq-true-iff (eqb (length (y .targets)) (size y)) (eqb (length (y .depths)) (size y)) .0 (m .1) in
     let rows : List (List ℕ) = map (nodeValues y) (range 0 (size y)) in
-    let c : columns rows ≡ y = columns-yard y (eqb-true _ _ (m .0)) (eqb-true _ _ (m .1)) in
+    let c : columns rows ≡ y = columns-yard y (eqb-true _ _ (m .0)) (eqb-true _ _ (d .0)) (eqb-true _ _ (d .1)) in
     let few = leb-true (size y) maxSize (n .1) in
-    let r = yard-reads y ps cs ts maxSize 0 (size y) few (omega arith) in
+    let r = yard-reads y b maxSize 0 (size y) few (omega arith) in
     let k : length rows ≡ size y = sym (length-map rows (λ (vs : List ℕ). getD vs 1 0)) ∙ ap size c in
     let l : 0 < length (lines rows) = omega (arith, reads-length r, ltb-true 0 (size y) (n .0)) in
     rw (readYard-header (lines rows) l, reads-readNodes r, c)
 
--- writing what a legal sheet says returns its bytes; it says 1 to 256 nodes, and its values are bytes
+-- what was read from a legal sheet is written as that sheet; it says 1 to 256 nodes, and its values are bytes
 pub write-read : (bs : List ℕ) (y : Yard) → readYard bs ≡ answered y → yardSheet y ≡ bs
 write-read bs y e =
     let l = readYard-legal bs y e in
     rw (← l .said) (yardSheet-columns (l .reads) ∙ sym (l .text))
 
 pub read-sizes : (bs : List ℕ) (y : Yard) → readYard bs ≡ answered y
-    → (0 < size y) × (size y ≤ maxSize) × (length (y .pebbles) ≡ size y) × (length (y .targets) ≡ size y)
+    → (0 < size y) × (size y ≤ maxSize) × (length (y .pebbles) ≡ size y) × (length (y .targets) ≡ size y) × (length (y .depths) ≡ size y)
 read-sizes bs y e =
     let l = readYard-legal bs y e in
     rw (← l .said) (simp length-map (omega (arith, l .nonempty, reads-length (l .reads))))
 
-pub read-bytes : (bs : List ℕ) (y : Yard) → readYard bs ≡ answered y → Bytes (y .parents) × Bytes (y .pebbles) × Bytes (y .targets)
+pub read-bytes : (bs : List ℕ) (y : Yard) → readYard bs ≡ answered y → YardBytes y
 read-bytes bs y e =
     let l = readYard-legal bs y e in
     let b = reads-bytes (l .reads) in
-    rw (← l .said) (b 1, b 2, b 3)
+    rw (← l .said) (b 1, b 2, b 3, b 4)
 
--- a sheet has at most 4,010 bytes, if it is legal or written of at most 256 nodes, and that of 256 nodes with the values 255 has as many
-pub yardSheet-short : (y : Yard) → size y ≤ maxSize → Bytes (y .parents) → Bytes (y .pebbles) → Bytes (y .targets) → length (yardSheet y) ≤ maxSheetBytes
+-- a sheet has at most 5,040 bytes, if it is legal or written of at most 256 nodes, and that of 256 nodes with the values 255 has as many
+pub yardSheet-short : (y : Yard) → size y ≤ maxSize → YardBytes y → length (yardSheet y) ≤ maxSheetBytes
 unfolding yardSheet
-yardSheet-short y h ps cs ts = rw (length-append header) (omega (arith, room-all, reads-length (yard-reads y ps cs ts maxSize 0 (size y) h (omega arith))))
+yardSheet-short y h b = rw (length-append header) (omega (arith, room-all, reads-length (yard-reads y b maxSize 0 (size y) h (omega arith))))
 
 pub read-length : (bs : List ℕ) (y : Yard) → readYard bs ≡ answered y → length bs ≤ maxSheetBytes
 read-length bs y e =
@@ -276,7 +280,7 @@ read-length bs y e =
     rw (l .text, length-append) (omega (arith, room-all, reads-length (l .reads)))
 
 longest : Yard
-longest = yardOf (replicate 256 255) (replicate 256 255) (replicate 256 255)
+longest = yardOf (replicate 256 255) (replicate 256 255) (replicate 256 255) (replicate 256 255)
 
 longest-length : length (yardSheet longest) ≡ maxSheetBytes
 unfolding longest yardSheet header text lines line decimal digits range
@@ -295,9 +299,9 @@ pub longest-sheet : (y : Yard) × (readYard (yardSheet y) ≡ answered y) × (le
 unfolding longest
 longest-sheet =
     let b = replicate-bytes 256 in
-    (longest, read-write longest maxSheetBytes longest-fault b b b, longest-length)
+    (longest, read-write longest maxSheetBytes longest-fault (b, b, b, b), longest-length)
 
--- An input cut at 4,200 bytes is read as the whole: what is cut off lies behind the first line that is refused, or behind line 257. Of the
+-- An input cut at 5,200 bytes is read as the whole: what is cut off lies behind the first line that is refused, or behind line 257. Of the
 -- lines from node v on it is enough to keep the bytes that k nodes may take, and a line more.
 readNodes-take : (k v m : ℕ) (bs : List ℕ) → lineRoom k v + lineBytes ≤ m → readNodes k v (take m bs) ≡ readNodes k v bs
 unfolding lineRoom
@@ -342,10 +346,10 @@ pub program-cut : (input : List ℕ) → program input ≡ printedOf (readYard i
 unfolding program
 program-cut input = ap printedOf (read-cut input)
 
--- the reader's call, with three lists of at least 256
-pub reader-room : (bs ps cs ts : List ℕ) → maxSize ≤ length ps → maxSize ≤ length cs → maxSize ≤ length ts → reader bs ps cs ts ≡ readYard bs
+-- the reader's call, with four lists of at least 256
+pub reader-room : (bs ps cs ts ds : List ℕ) → maxSize ≤ length ps → maxSize ≤ length cs → maxSize ≤ length ts → maxSize ≤ length ds → reader bs ps cs ts ds ≡ readYard bs
 unfolding reader
-reader-room bs ps cs ts p c t = rw (le-leb 256 (length ps) p, le-leb 256 (length cs) c, le-leb 256 (length ts) t, reader)
+reader-room bs ps cs ts ds p c t d = rw (le-leb 256 (length ps) p, le-leb 256 (length cs) c, le-leb 256 (length ts) t, le-leb 256 (length ds) d, reader)
 
 -- a refused sheet is refused at a line up to 258
 abbrev pub AtLine : {A : Type 0} → Answer A → Type 0

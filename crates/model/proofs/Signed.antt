@@ -10,7 +10,7 @@ use native.Mathlib.Nat.{add-zero, add-suc, one-mul, zero-mul}
 use lib.Dec.{ltb, eqb}
 use lib.IntN.{ℤ, pos, negsuc, natAbs, subℕ, sucℤ, predℤ, _+ℤ_, suc-pred, +ℤ-sucℤ, +ℤ-predℤ, sucℤ-+ℤ, +ℤ-idl, +ℤ-idr, +ℤ-assoc, +ℤ-comm}
 use borrow.Author.Tests.{ltb-true, ltb-false, lt-ltb, le-ltb, eq-eqb, ne-eqb}
-use Rattle.model.specs.Yard.{Yard, size, maxSize, maxDemand, pebble, target, one, sum, below, isChild, children, targetsIn, pebblesIn, demand, sumℤ, lacking, surplus, imbalance, shortest}
+use Rattle.model.specs.Yard.{Yard, size, maxDepth, maxDemand, pebble, target, one, sum, below, isChild, children, targetsIn, pebblesIn, demand, sumℤ, lacking, surplus, imbalance, shortest}
 use Rattle.model.specs.Judge.{Tree}
 use Rattle.model.specs.Push.{Move, moved, Solved}
 use Rattle.model.proofs.Found.{below-cong}
@@ -56,24 +56,24 @@ demand-is y v = parts-sub (demand y v) ∙ rw (demand-parts y v .0, demand-parts
 pub demand-size : (y : Yard) (v : ℕ) → natAbs (demand y v) ≡ imbalance y v
 demand-size y v = sub-size (targetsIn y v) (pebblesIn y v)
 
--- it lies from −256 to 256, whatever the totals: no subtree has more nodes, and no node more than one pebble or target
+-- it lies from −2,048 to 2,048, whatever the totals: no subtree has more than 256 nodes, and no node more than 8 pebbles or targets
 pub demand-range : (y : Yard) → Tree y → (v : ℕ) → natAbs (demand y v) ≤ maxDemand
 demand-range y t v = rw (demand-size y v) (omega (
   arith,
   facts y t .few,
-  subtotal-weight (y .parents) (target y) v (facts y t .target-le),
-  subtotal-weight (y .parents) (pebble y) v (facts y t .pebble-le),
+  subtotal-weight (y .parents) maxDepth (target y) v (λ v l. omega (arith, facts y t .target-le v l, facts y t .capacity-le v l)),
+  subtotal-weight (y .parents) maxDepth (pebble y) v (λ v l. omega (arith, facts y t .pebble-le v l, facts y t .capacity-le v l)),
   weight-le (y .parents) v,
 ))
 
--- so the shortest length is no more than 256 for each node
-pub shortest-small : (y : Yard) → Tree y → shortest y ≤ 65_536
+-- so the shortest length is no more than 2,048 for each node
+pub shortest-small : (y : Yard) → Tree y → shortest y ≤ 524_288
 unfolding shortest
 shortest-small y t = omega (
   arith,
   facts y t .few,
-  sum-mono (size y) (imbalance y) (λ _. maxSize * 1) (λ v _. omega (arith, demand-size y v, demand-range y t v)),
-  sum-scale (size y) maxSize (λ _. 1),
+  sum-mono (size y) (imbalance y) (λ _. 2_048 * 1) (λ v _. omega (arith, demand-size y v, demand-range y t v)),
+  sum-scale (size y) 2_048 (λ _. 1),
   sum-le (size y) (λ _. 1) (λ _. omega arith),
 )
 

@@ -5,7 +5,7 @@ use mathlib.Core.Bool.{Bool, true, false, cond}
 use mathlib.Core.List.{[], _∷_}
 use Prim.Native.Nat.{ℕ, zero, suc, _+_, _-_, _*_, _≤_, _<_}
 use native.Mathlib.Omega.{arith}
-use native.Mathlib.Nat.{mul-add}
+use native.Mathlib.Nat.{mul-add, add-zero, add-suc}
 use native.Mathlib.Decide.{ℕ-discrete, decLt}
 use lib.ListN.{length, length-append}
 use lib.Dec.{eqb}
@@ -129,3 +129,23 @@ most-le f (suc n) i l = go (ℕ-discrete i n) (most-le f n i)
     go : Dec (i ≡ n) → (i < n → f i ≤ most n f) → f i ≤ most (suc n) f
     go (yes e) ih = rw e (omega arith)
     go (no d) ih = omega (arith, ih (omega arith))
+
+-- a sum in two parts
+pub sum-split : (a b : ℕ) (f : ℕ → ℕ) → sum (a + b) f ≡ sum a f + sum b (λ x. f (a + x))
+unfolding sum
+sum-split a zero f = rw (add-zero a) (omega arith)
+sum-split a (suc b) f = rw (add-suc a b) (omega (arith, sum-split a b f))
+
+-- terms of at most 1, of which no two are 1
+pub sum-once : (n : ℕ) (f : ℕ → ℕ) → ((v : ℕ) → v < n → f v ≤ 1) → ((v w : ℕ) → v < n → w < n → 0 < f v → 0 < f w → v ≡ w) → sum n f ≤ 1
+unfolding sum
+sum-once zero f h k = omega arith
+sum-once (suc n) f h k = go (decLt 0 (f n)) (sum-once n f (λ v l. h v (omega arith)) (λ v w l m. k v w (omega arith) (omega arith)))
+  where
+    go : Dec (0 < f n) → sum n f ≤ 1 → sum n f + f n ≤ 1
+    go (yes l) ih = omega (arith, h n (omega arith), sum-zero n f (λ v m. at v m (decLt 0 (f v))))
+      where
+        at : (v : ℕ) → v < n → Dec (0 < f v) → f v ≡ 0
+        at v m (yes p) = absurd (omega (arith, k v n (omega arith) (omega arith) p l))
+        at v m (no p) = omega arith
+    go (no l) ih = omega arith

@@ -1,4 +1,4 @@
--- The tests of refusals 1 to 6 one by one, from what is found of three lists: each refuses, or is passed.
+-- The tests of refusals 1 to 6 one by one, from what is found of four lists: each refuses, or is passed.
 use mathlib.Core.Path.{_≡_, sym, ap, _∙_}
 use mathlib.Core.Logic.{_≢_}
 use mathlib.Core.Bool.{Bool, not, _&&_, and-eq-true-iff}
@@ -9,15 +9,15 @@ use native.Mathlib.Omega.{arith}
 use lib.ListN.{length, getD}
 use lib.Dec.{leb, ltb, eqb, leb·zero}
 use borrow.Author.Tests.{ltb-true, leb-true, eqb-true, lt-ltb, le-leb, lt-leb, eq-eqb, ne-eqb}
-use Rattle.model.specs.Yard.{Yard, yardOf, maxSize, up, below, climbs, roots, headOr}
+use Rattle.model.specs.Yard.{Yard, yardOf, maxSize, maxDepth, up, below, climbs, roots, headOr}
 use Rattle.model.specs.Judge.{Fault, fault, firstOf, sizeFault, rootFault, lengthTests, entryTests, listTests, shapeTests, judge}
 use Rattle.model.proofs.Basics.{first-refused, first-passed, none-all, unless-none}
 use Rattle.model.proofs.Found.{lowest-fault, lowest-none, lowest-is, below-rest, below-cong}
 
 -- 1 and 2
-module _ (ps qs ts : List ℕ) where
+module _ (ps qs ts ds : List ℕ) where
   abbrev y : Yard
-  y = yardOf ps qs ts
+  y = yardOf ps qs ts ds
 
   pub size-zero : length ps ≡ 0 → fault 1 0 ≡ firstOf (lengthTests y)
   size-zero e = rw e
@@ -35,42 +35,63 @@ module _ (ps qs ts : List ℕ) where
     pub targets-length : length qs ≡ length ps → length ts ≢ length ps → fault 2 0 ≡ firstOf (lengthTests y)
     targets-length e d = rw (size-fits, eq-eqb (length qs) (length ps) e, ne-eqb (length ts) (length ps) d)
 
-    pub lengths-pass : length qs ≡ length ps → length ts ≡ length ps → none ≡ firstOf (lengthTests y)
-    lengths-pass e f = rw (size-fits, eq-eqb (length qs) (length ps) e, eq-eqb (length ts) (length ps) f)
+    pub depths-length : length qs ≡ length ps → length ts ≡ length ps → length ds ≢ length ps → fault 2 0 ≡ firstOf (lengthTests y)
+    depths-length e f d = rw (size-fits, eq-eqb (length qs) (length ps) e, eq-eqb (length ts) (length ps) f, ne-eqb (length ds) (length ps) d)
 
-  pub passed-lengths : none ≡ firstOf (lengthTests y) → (0 < length ps) × (length ps ≤ maxSize) × (length qs ≡ length ps) × (length ts ≡ length ps)
+    pub lengths-pass : length qs ≡ length ps → length ts ≡ length ps → length ds ≡ length ps → none ≡ firstOf (lengthTests y)
+    lengths-pass e f g = rw (size-fits, eq-eqb (length qs) (length ps) e, eq-eqb (length ts) (length ps) f, eq-eqb (length ds) (length ps) g)
+
+  pub passed-lengths : none ≡ firstOf (lengthTests y) → (0 < length ps) × (length ps ≤ maxSize) × (length qs ≡ length ps) × (length ts ≡ length ps) × (length ds ≡ length ps)
   passed-lengths e =
       let a = none-all (lengthTests y) (sym e) in
       let n = and-eq-true-iff (ltb 0 (length ps)) (leb (length ps) maxSize) .0 (unless-none _ 1 0 (a .0)) in
-      let l = and-eq-true-iff (eqb (length qs) (length ps)) (eqb (length ts) (length ps)) .0 (unless-none _ 2 0 (a .1 .0)) in
-      (ltb-true 0 (length ps) (n .0), leb-true (length ps) maxSize (n .1), eqb-true (length qs) (length ps) (l .0), eqb-true (length ts) (length ps) (l .1))
+      let l = and-eq-true-iff (eqb (length qs) (length ps)) ((eqb (length ts) (length ps)) && (eqb (length ds) (length ps))) .0 (unless-none _ 2 0 (a .1 .0)) in
+      let k = and-eq-true-iff (eqb (length ts) (length ps)) (eqb (length ds) (length ps)) .0 (l .1) in
+      (ltb-true 0 (length ps) (n .0), leb-true (length ps) maxSize (n .1), eqb-true (length qs) (length ps) (l .0), eqb-true (length ts) (length ps) (k .0), eqb-true (length ds) (length ps) (k .1))
 
--- 3 and 4, by what a search for the lowest such node answers
-module _ (ps qs ts : List ℕ) where
-  abbrev above1 : List ℕ → ℕ → Bool
-  above1 marks v = leb 2 (getD marks v 0)
+-- 26, 27 and 4, by what a search for the lowest such node answers
+module _ (ps qs ts ds : List ℕ) where
+  abbrev n : ℕ
+  n = length ps
+
+  abbrev unfit : ℕ → Bool
+  unfit v = not ((ltb 0 (getD ds v 0)) && (leb (getD ds v 0) maxDepth))
+
+  abbrev over : List ℕ → ℕ → Bool
+  over counts v = ltb (getD ds v 0) (getD counts v 0)
 
   abbrev outside : ℕ → Bool
-  outside v = leb (length ps) (getD ps v 0)
+  outside v = leb n (getD ps v 0)
 
-  pub pebble-marked : (r : ℕ) → r ≡ headOr (length ps) (below (length ps) (above1 qs)) → r < length ps → fault 3 r ≡ firstOf (entryTests (yardOf ps qs ts))
-  pebble-marked r e l = rw (lowest-fault (length ps) (above1 qs) 3 r e l)
+  -- what a search answers
+  abbrev Finds : (ℕ → Bool) → ℕ → Type 0
+  Finds p r = r ≡ headOr n (below n p)
 
-  module _ (p : ℕ) (e : p ≡ headOr (length ps) (below (length ps) (above1 qs))) (l : length ps ≤ p) where
-    pub target-marked : (r : ℕ) → r ≡ headOr (length ps) (below (length ps) (above1 ts)) → r < length ps → fault 3 r ≡ firstOf (entryTests (yardOf ps qs ts))
-    target-marked r f m = rw (lowest-none (length ps) (above1 qs) p e l, lowest-fault (length ps) (above1 ts) 3 r f m)
+  abbrev entries : Option Fault
+  entries = firstOf (entryTests (yardOf ps qs ts ds))
 
-    module _ (t : ℕ) (f : t ≡ headOr (length ps) (below (length ps) (above1 ts))) (m : length ps ≤ t) where
-      pub parent-outside : (r : ℕ) → r ≡ headOr (length ps) (below (length ps) outside) → r < length ps → fault 4 r ≡ firstOf (entryTests (yardOf ps qs ts))
-      parent-outside r g n = rw (lowest-none (length ps) (above1 qs) p e l, lowest-none (length ps) (above1 ts) t f m, lowest-fault (length ps) outside 4 r g n)
+  pub depth-unfit : (r : ℕ) → Finds unfit r → r < n → fault 26 r ≡ entries
+  depth-unfit r e l = rw (lowest-fault n unfit 26 r e l)
 
-      pub entries-pass : (r : ℕ) → r ≡ headOr (length ps) (below (length ps) outside) → length ps ≤ r → none ≡ firstOf (entryTests (yardOf ps qs ts))
-      entries-pass r g n = rw (lowest-none (length ps) (above1 qs) p e l, lowest-none (length ps) (above1 ts) t f m, lowest-none (length ps) outside r g n)
+  module _ (d : ℕ) (e : Finds unfit d) (l : n ≤ d) where
+    pub pebbles-over : (r : ℕ) → Finds (over qs) r → r < n → fault 27 r ≡ entries
+    pebbles-over r f m = rw (lowest-none n unfit d e l, lowest-fault n (over qs) 27 r f m)
+
+    module _ (p : ℕ) (f : Finds (over qs) p) (k : n ≤ p) where
+      pub targets-over : (r : ℕ) → Finds (over ts) r → r < n → fault 27 r ≡ entries
+      targets-over r g m = rw (lowest-none n unfit d e l, lowest-none n (over qs) p f k, lowest-fault n (over ts) 27 r g m)
+
+      module _ (t : ℕ) (g : Finds (over ts) t) (m : n ≤ t) where
+        pub parent-outside : (r : ℕ) → Finds outside r → r < n → fault 4 r ≡ entries
+        parent-outside r h o = rw (lowest-none n unfit d e l, lowest-none n (over qs) p f k, lowest-none n (over ts) t g m, lowest-fault n outside 4 r h o)
+
+        pub entries-pass : (r : ℕ) → Finds outside r → n ≤ r → none ≡ entries
+        entries-pass r h o = rw (lowest-none n unfit d e l, lowest-none n (over qs) p f k, lowest-none n (over ts) t g m, lowest-none n outside r h o)
 
 -- 5 and 6, by what the searches for a root, for a second one behind it and for a circle answer
 module _ (ps : List ℕ) where
   abbrev shape : List (Option Fault)
-  shape = shapeTests (yardOf ps [] [])
+  shape = shapeTests (yardOf ps [] [] [])
 
   abbrev own : ℕ → ℕ → Bool
   own start v = (leb start v) && (eqb (up ps v) v)

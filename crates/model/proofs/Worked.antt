@@ -14,7 +14,7 @@ use Rattle.model.specs.declared.Event.the-variants.{PebbleArrives, Pebbl
 use Rattle.model.specs.Yard.{Yard, yardOf, holding, sum, below, roots, climbs, inside, subtotal, sumℤ, Equation2, shortest}
 use Rattle.model.specs.Judge.{Fault, row, fault, judge, matchedFault}
 use Rattle.model.specs.Push.{Move, push, moveFault, pushFault, legal, shifted, after, accepted, count}
-use Rattle.model.specs.Plan.{needy, lowestChild, greatest, neediestChild, choice, inject, extract, turn, settle, each, balance, planWithin, planBy, plan}
+use Rattle.model.specs.Plan.{needy, lowestChild, greatest, neediestChild, choice, fills, inject, extract, turn, settle, each, balance, planWithin, planBy, plan}
 use Rattle.model.specs.Follow.{placed, starts, occurs, At, Follows, route, firstAt, lastIn, lifo, displaced}
 use Rattle.model.specs.Calls.Answers.{Answer, answered, refused, range}
 use Rattle.model.specs.Calls.Demands.{demandsFault, demandsList, Length, boundAnswer, displacedAnswer, longestAnswer}
@@ -87,7 +87,7 @@ outcome (lengthOf y) = number (shortest y)
 outcome (testOf y) = refusal (judge y)
 outcome (planOf y) = moves (plan y)
 outcome (openingOf y) = moves (take 1 (plan y))
-outcome (lowestOpeningOf y) = moves (take 1 (planBy lowestChild y))
+outcome (lowestOpeningOf y) = moves (take 1 (planBy fills lowestChild y))
 outcome (planInto n y) = planned (planAnswer y (replicate n 9)) (planList y (replicate n 9))
 outcome (checkOf bs y) = checked (checkAnswer y bs)
 outcome (trialOf bs budget y) = tried (trialAnswer y bs budget) (trialPebbles y bs budget)
@@ -116,7 +116,7 @@ i gives o = record { input = i; expected = o }
 
 -- two pebbles at node 1 and one at node 2
 siding : Yard
-siding = yardOf (0 ∷ 0 ∷ 0 ∷ []) (0 ∷ 2 ∷ 1 ∷ []) (1 ∷ 1 ∷ 1 ∷ [])
+siding = yardOf (0 ∷ 0 ∷ 0 ∷ []) (0 ∷ 2 ∷ 1 ∷ []) (1 ∷ 1 ∷ 1 ∷ []) (1 ∷ 2 ∷ 2 ∷ [])
 
 -- an event in yard A that is refused: the yard and the list stay
 keeps : Event → ℕ → List ℤ → ℕ → ℕ → Case
@@ -159,7 +159,7 @@ cases =
     (demandsOf yardA gives demands demandsA)
     ∷ (lengthOf yardA gives number 4)
     ∷ (planOf yardA gives moves (push 1 0 ∷ push 0 2 ∷ push 3 1 ∷ push 1 4 ∷ []))
-    ∷ (printOf "berth parent car target\n0 0 0 0\n1 0 1 0\n2 0 0 1\n3 1 1 0\n4 1 0 1\n" gives printed (text "from to\n1 0\n0 2\n3 1\n1 4\ntrack up down\n1 1 0\n2 0 1\n3 1 0\n4 0 1\ntotal\n4\n"))
+    ∷ (printOf "berth parent car target depth\n0 0 0 0 1\n1 0 1 0 1\n2 0 0 1 1\n3 1 1 0 1\n4 1 0 1 1\n" gives printed (text "from to\n1 0\n0 2\n3 1\n1 4\ntrack up down\n1 1 0\n2 0 1\n3 1 0\n4 0 1\ntotal\n4\n"))
     -- B
     ∷ (planInto 4 yardB gives planned (answered 2) planB)
     -- C
@@ -192,9 +192,9 @@ cases =
     ∷ (checkOf [] (yard (0 ∷ 0 ∷ []) (0 ∷ []) (1 ∷ [])) gives checked (refused (row 14 1)))
     -- the table's examples of the other refusals, and some more of the reader's
     ∷ (testOf (yard [] [] []) gives refusal (fault 1 0))
-    ∷ (testOf (yardOf (0 ∷ 0 ∷ []) (1 ∷ []) (0 ∷ 0 ∷ [])) gives refusal (fault 2 0))
-    ∷ (testOf (yardOf (0 ∷ 0 ∷ []) (0 ∷ 2 ∷ []) (0 ∷ 0 ∷ [])) gives refusal (fault 3 1))
-    ∷ (testOf (yardOf (0 ∷ 0 ∷ 0 ∷ []) (0 ∷ 0 ∷ 2 ∷ []) (2 ∷ 0 ∷ 0 ∷ [])) gives refusal (fault 3 2))
+    ∷ (testOf (yardOf (0 ∷ 0 ∷ []) (1 ∷ []) (0 ∷ 0 ∷ []) (1 ∷ 1 ∷ [])) gives refusal (fault 2 0))
+    ∷ (testOf (yardOf (0 ∷ 0 ∷ []) (0 ∷ 2 ∷ []) (0 ∷ 0 ∷ []) (1 ∷ 1 ∷ [])) gives refusal (fault 27 1))
+    ∷ (testOf (yardOf (0 ∷ 0 ∷ 0 ∷ []) (0 ∷ 0 ∷ 2 ∷ []) (2 ∷ 0 ∷ 0 ∷ []) (1 ∷ 1 ∷ 1 ∷ [])) gives refusal (fault 27 2))
     ∷ (testOf (yard (0 ∷ 2 ∷ []) [] []) gives refusal (fault 4 1))
     ∷ (planInto 2 (yard (0 ∷ 0 ∷ []) (0 ∷ []) (0 ∷ 1 ∷ [])) gives planned (refused (row 7 0)) (9 ∷ 9 ∷ []))
     ∷ (checkOf (0 ∷ 1 ∷ 1 ∷ []) (yard (0 ∷ 0 ∷ []) (0 ∷ []) (0 ∷ 1 ∷ [])) gives checked (refused (row 7 0)))
@@ -206,18 +206,18 @@ cases =
     ∷ (trialOf (0 ∷ 1 ∷ 0 ∷ 1 ∷ []) 2 (yard (0 ∷ 0 ∷ []) (0 ∷ []) []) gives tried (refused (row 12 1)) (1 ∷ 0 ∷ []))
     ∷ (trialOf (0 ∷ 1 ∷ 0 ∷ 1 ∷ []) 1 (yard (0 ∷ 0 ∷ []) (0 ∷ []) []) gives tried (answered (record { taken = 1; planEnded = false })) (0 ∷ 1 ∷ []))
     ∷ (printOf "berth parent\n" gives printed (text "refusal place\n15 1\n"))
-    ∷ (printOf "berth parent car target" gives printed (text "refusal place\n15 1\n"))
-    ∷ (printOf "berth parent car target\n" gives printed (text "refusal place\n1 2\n"))
-    ∷ (printOf "berth parent car target\n0 00 1 1\n" gives printed (text "refusal place\n16 2\n"))
-    ∷ (printOf "berth parent car target\n0 0 0 256\n" gives printed (text "refusal place\n16 2\n"))
-    ∷ (printOf "berth parent car target\n0 0 0 0\n1 0 0 0" gives printed (text "refusal place\n16 3\n"))
-    ∷ (printOf "berth parent car target\n1 0 1 1\n" gives printed (text "refusal place\n17 2\n"))
-    ∷ (printOf "berth parent car target\n0 0 2 0\n" gives printed (text "refusal place\n3 0\n"))
+    ∷ (printOf "berth parent car target depth" gives printed (text "refusal place\n15 1\n"))
+    ∷ (printOf "berth parent car target depth\n" gives printed (text "refusal place\n1 2\n"))
+    ∷ (printOf "berth parent car target depth\n0 00 1 1 1\n" gives printed (text "refusal place\n16 2\n"))
+    ∷ (printOf "berth parent car target depth\n0 0 0 256 1\n" gives printed (text "refusal place\n16 2\n"))
+    ∷ (printOf "berth parent car target depth\n0 0 0 0 1\n1 0 0 0 1" gives printed (text "refusal place\n16 3\n"))
+    ∷ (printOf "berth parent car target depth\n1 0 1 1 1\n" gives printed (text "refusal place\n17 2\n"))
+    ∷ (printOf "berth parent car target depth\n0 0 2 0 1\n" gives printed (text "refusal place\n27 0\n"))
     -- request 2.1: reports of one node, of two nodes and no move, and of a root that is not 0; a refused yard prints none
-    ∷ (printOf "berth parent car target\n0 0 1 1\n" gives printed (text "from to\ntrack up down\ntotal\n0\n"))
-    ∷ (printOf "berth parent car target\n0 0 1 1\n1 0 0 0\n" gives printed (text "from to\ntrack up down\n1 0 0\ntotal\n0\n"))
-    ∷ (printOf "berth parent car target\n0 1 1 0\n1 1 0 1\n" gives printed (text "from to\n0 1\ntrack up down\n0 1 0\ntotal\n1\n"))
-    ∷ (printOf "berth parent car target\n0 0 1 0\n" gives printed (text "refusal place\n7 0\n"))
+    ∷ (printOf "berth parent car target depth\n0 0 1 1 1\n" gives printed (text "from to\ntrack up down\ntotal\n0\n"))
+    ∷ (printOf "berth parent car target depth\n0 0 1 1 1\n1 0 0 0 1\n" gives printed (text "from to\ntrack up down\n1 0 0\ntotal\n0\n"))
+    ∷ (printOf "berth parent car target depth\n0 1 1 0 1\n1 1 0 1 1\n" gives printed (text "from to\n0 1\ntrack up down\n0 1 0\ntotal\n1\n"))
+    ∷ (printOf "berth parent car target depth\n0 0 1 0 1\n" gives printed (text "refusal place\n7 0\n"))
     -- request 2.2: the lengths of yards A and B, and of yard D, which needs no move; a pebble and no target; n alone
     ∷ (boundOf yardA gives measured (answered (record { moves = 4; listBytes = 8 })))
     ∷ (boundOf yardB gives measured (answered (record { moves = 2; listBytes = 4 })))
@@ -225,10 +225,10 @@ cases =
     ∷ (boundOf (yard (0 ∷ []) (0 ∷ []) []) gives measured (refused (row 7 0)))
     ∷ (longestOf 0 gives counted (refused (row 1 0)))
     ∷ (longestOf 1 gives counted (answered 0))
-    ∷ (longestOf 2 gives counted (answered 1))
-    ∷ (longestOf 3 gives counted (answered 2))
-    ∷ (longestOf 5 gives counted (answered 6))
-    ∷ (longestOf 256 gives counted (answered 16_384))
+    ∷ (longestOf 2 gives counted (answered 8))
+    ∷ (longestOf 3 gives counted (answered 16))
+    ∷ (longestOf 5 gives counted (answered 48))
+    ∷ (longestOf 256 gives counted (answered 131_072))
     ∷ (longestOf 257 gives counted (refused (row 1 0)))
     -- request 2.4: both pebbles of A and of B take part, in B one that starts on a target; one that is not pushed does not
     ∷ (displacedOf yardA gives counted (answered 2))
@@ -303,80 +303,109 @@ cases =
     -- the root is not 0, and parents have higher numbers than their children
     ∷ (planOf (yard (3 ∷ 3 ∷ 3 ∷ 4 ∷ 4 ∷ []) (0 ∷ 1 ∷ []) (2 ∷ 4 ∷ [])) gives moves (push 0 3 ∷ push 3 4 ∷ push 1 3 ∷ push 3 2 ∷ []))
     -- request 2.9. yard B driven to its end: start, the two moves, and an idle step behind them; mask 1 raises the line at the end
-    ∷ (stepB false (1 ∷ 1 ∷ 0 ∷ []) planB (1 ∷ 0 ∷ 9 ∷ 8 ∷ 0 ∷ 0 ∷ 1 ∷ 0 ∷ []) gives signalled (answered false) (0 ∷ 1 ∷ 9 ∷ 8 ∷ 2 ∷ 0 ∷ 1 ∷ 0 ∷ []) (1 ∷ 1 ∷ 0 ∷ []))
-    ∷ (stepB false (1 ∷ 1 ∷ 0 ∷ []) planB (0 ∷ 1 ∷ 9 ∷ 8 ∷ 2 ∷ 0 ∷ 1 ∷ 0 ∷ []) gives signalled (answered false) (0 ∷ 1 ∷ 1 ∷ 2 ∷ 1 ∷ 0 ∷ 1 ∷ 0 ∷ []) (1 ∷ 0 ∷ 1 ∷ []))
-    ∷ (stepB false (1 ∷ 0 ∷ 1 ∷ []) planB (0 ∷ 1 ∷ 1 ∷ 2 ∷ 1 ∷ 0 ∷ 1 ∷ 0 ∷ []) gives signalled (answered true) (0 ∷ 0 ∷ 0 ∷ 1 ∷ 0 ∷ 0 ∷ 1 ∷ 1 ∷ []) (0 ∷ 1 ∷ 1 ∷ []))
-    ∷ (stepB false (0 ∷ 1 ∷ 1 ∷ []) planB (0 ∷ 0 ∷ 0 ∷ 1 ∷ 0 ∷ 0 ∷ 1 ∷ 1 ∷ []) gives signalled (answered true) (0 ∷ 0 ∷ 0 ∷ 1 ∷ 0 ∷ 0 ∷ 1 ∷ 1 ∷ []) (0 ∷ 1 ∷ 1 ∷ []))
+    ∷ (stepB false (1 ∷ 1 ∷ 0 ∷ []) planB (1 ∷ 0 ∷ 9 ∷ 8 ∷ 0 ∷ 0 ∷ 0 ∷ 1 ∷ 0 ∷ []) gives signalled (answered false) (0 ∷ 1 ∷ 9 ∷ 8 ∷ 2 ∷ 0 ∷ 0 ∷ 1 ∷ 0 ∷ []) (1 ∷ 1 ∷ 0 ∷ []))
+    ∷ (stepB false (1 ∷ 1 ∷ 0 ∷ []) planB (0 ∷ 1 ∷ 9 ∷ 8 ∷ 2 ∷ 0 ∷ 0 ∷ 1 ∷ 0 ∷ []) gives signalled (answered false) (0 ∷ 1 ∷ 1 ∷ 2 ∷ 1 ∷ 0 ∷ 0 ∷ 1 ∷ 0 ∷ []) (1 ∷ 0 ∷ 1 ∷ []))
+    ∷ (stepB false (1 ∷ 0 ∷ 1 ∷ []) planB (0 ∷ 1 ∷ 1 ∷ 2 ∷ 1 ∷ 0 ∷ 0 ∷ 1 ∷ 0 ∷ []) gives signalled (answered true) (0 ∷ 0 ∷ 0 ∷ 1 ∷ 0 ∷ 0 ∷ 0 ∷ 1 ∷ 1 ∷ []) (0 ∷ 1 ∷ 1 ∷ []))
+    ∷ (stepB false (0 ∷ 1 ∷ 1 ∷ []) planB (0 ∷ 0 ∷ 0 ∷ 1 ∷ 0 ∷ 0 ∷ 0 ∷ 1 ∷ 1 ∷ []) gives signalled (answered true) (0 ∷ 0 ∷ 0 ∷ 1 ∷ 0 ∷ 0 ∷ 0 ∷ 1 ∷ 1 ∷ []) (0 ∷ 1 ∷ 1 ∷ []))
     -- a stall in the second move, raised by mask 2; a stalled step; acknowledged; the move again
-    ∷ (stepB true (1 ∷ 0 ∷ 1 ∷ []) planB (0 ∷ 1 ∷ 1 ∷ 2 ∷ 1 ∷ 0 ∷ 2 ∷ 0 ∷ []) gives signalled (answered true) (0 ∷ 2 ∷ 1 ∷ 2 ∷ 1 ∷ 0 ∷ 2 ∷ 2 ∷ []) (1 ∷ 0 ∷ 1 ∷ []))
-    ∷ (stepB false (1 ∷ 0 ∷ 1 ∷ []) planB (0 ∷ 2 ∷ 1 ∷ 2 ∷ 1 ∷ 0 ∷ 2 ∷ 2 ∷ []) gives signalled (answered true) (0 ∷ 2 ∷ 1 ∷ 2 ∷ 1 ∷ 0 ∷ 2 ∷ 2 ∷ []) (1 ∷ 0 ∷ 1 ∷ []))
-    ∷ (stepB false (1 ∷ 0 ∷ 1 ∷ []) planB (3 ∷ 2 ∷ 1 ∷ 2 ∷ 1 ∷ 0 ∷ 2 ∷ 2 ∷ []) gives signalled (answered false) (0 ∷ 1 ∷ 1 ∷ 2 ∷ 1 ∷ 0 ∷ 2 ∷ 0 ∷ []) (1 ∷ 0 ∷ 1 ∷ []))
-    ∷ (stepB false (1 ∷ 0 ∷ 1 ∷ []) planB (0 ∷ 1 ∷ 1 ∷ 2 ∷ 1 ∷ 0 ∷ 2 ∷ 0 ∷ []) gives signalled (answered false) (0 ∷ 0 ∷ 0 ∷ 1 ∷ 0 ∷ 0 ∷ 2 ∷ 1 ∷ []) (0 ∷ 1 ∷ 1 ∷ []))
+    ∷ (stepB true (1 ∷ 0 ∷ 1 ∷ []) planB (0 ∷ 1 ∷ 1 ∷ 2 ∷ 1 ∷ 0 ∷ 0 ∷ 2 ∷ 0 ∷ []) gives signalled (answered true) (0 ∷ 2 ∷ 1 ∷ 2 ∷ 1 ∷ 0 ∷ 0 ∷ 2 ∷ 2 ∷ []) (1 ∷ 0 ∷ 1 ∷ []))
+    ∷ (stepB false (1 ∷ 0 ∷ 1 ∷ []) planB (0 ∷ 2 ∷ 1 ∷ 2 ∷ 1 ∷ 0 ∷ 0 ∷ 2 ∷ 2 ∷ []) gives signalled (answered true) (0 ∷ 2 ∷ 1 ∷ 2 ∷ 1 ∷ 0 ∷ 0 ∷ 2 ∷ 2 ∷ []) (1 ∷ 0 ∷ 1 ∷ []))
+    ∷ (stepB false (1 ∷ 0 ∷ 1 ∷ []) planB (3 ∷ 2 ∷ 1 ∷ 2 ∷ 1 ∷ 0 ∷ 0 ∷ 2 ∷ 2 ∷ []) gives signalled (answered false) (0 ∷ 1 ∷ 1 ∷ 2 ∷ 1 ∷ 0 ∷ 0 ∷ 2 ∷ 0 ∷ []) (1 ∷ 0 ∷ 1 ∷ []))
+    ∷ (stepB false (1 ∷ 0 ∷ 1 ∷ []) planB (0 ∷ 1 ∷ 1 ∷ 2 ∷ 1 ∷ 0 ∷ 0 ∷ 2 ∷ 0 ∷ []) gives signalled (answered false) (0 ∷ 0 ∷ 0 ∷ 1 ∷ 0 ∷ 0 ∷ 0 ∷ 2 ∷ 1 ∷ []) (0 ∷ 1 ∷ 1 ∷ []))
     -- stop while running and while stalled: the flags stay
-    ∷ (stepB false (1 ∷ 0 ∷ 1 ∷ []) planB (2 ∷ 1 ∷ 1 ∷ 2 ∷ 1 ∷ 0 ∷ 0 ∷ 1 ∷ []) gives signalled (answered false) (0 ∷ 0 ∷ 1 ∷ 2 ∷ 0 ∷ 0 ∷ 0 ∷ 1 ∷ []) (1 ∷ 0 ∷ 1 ∷ []))
-    ∷ (stepB true (1 ∷ 0 ∷ 1 ∷ []) planB (2 ∷ 2 ∷ 1 ∷ 2 ∷ 1 ∷ 0 ∷ 2 ∷ 3 ∷ []) gives signalled (answered true) (0 ∷ 0 ∷ 1 ∷ 2 ∷ 0 ∷ 0 ∷ 2 ∷ 3 ∷ []) (1 ∷ 0 ∷ 1 ∷ []))
+    ∷ (stepB false (1 ∷ 0 ∷ 1 ∷ []) planB (2 ∷ 1 ∷ 1 ∷ 2 ∷ 1 ∷ 0 ∷ 0 ∷ 0 ∷ 1 ∷ []) gives signalled (answered false) (0 ∷ 0 ∷ 1 ∷ 2 ∷ 0 ∷ 0 ∷ 0 ∷ 0 ∷ 1 ∷ []) (1 ∷ 0 ∷ 1 ∷ []))
+    ∷ (stepB true (1 ∷ 0 ∷ 1 ∷ []) planB (2 ∷ 2 ∷ 1 ∷ 2 ∷ 1 ∷ 0 ∷ 0 ∷ 2 ∷ 3 ∷ []) gives signalled (answered true) (0 ∷ 0 ∷ 1 ∷ 2 ∷ 0 ∷ 0 ∷ 0 ∷ 2 ∷ 3 ∷ []) (1 ∷ 0 ∷ 1 ∷ []))
     -- acknowledge while idle or running only clears the flags
-    ∷ (stepB false (1 ∷ 1 ∷ 0 ∷ []) planB (3 ∷ 0 ∷ 5 ∷ 6 ∷ 1 ∷ 0 ∷ 3 ∷ 3 ∷ []) gives signalled (answered false) (0 ∷ 0 ∷ 5 ∷ 6 ∷ 1 ∷ 0 ∷ 3 ∷ 0 ∷ []) (1 ∷ 1 ∷ 0 ∷ []))
-    ∷ (stepB false (1 ∷ 0 ∷ 1 ∷ []) planB (3 ∷ 1 ∷ 1 ∷ 2 ∷ 1 ∷ 0 ∷ 3 ∷ 2 ∷ []) gives signalled (answered false) (0 ∷ 1 ∷ 1 ∷ 2 ∷ 1 ∷ 0 ∷ 3 ∷ 0 ∷ []) (1 ∷ 0 ∷ 1 ∷ []))
+    ∷ (stepB false (1 ∷ 1 ∷ 0 ∷ []) planB (3 ∷ 0 ∷ 5 ∷ 6 ∷ 1 ∷ 0 ∷ 0 ∷ 3 ∷ 3 ∷ []) gives signalled (answered false) (0 ∷ 0 ∷ 5 ∷ 6 ∷ 1 ∷ 0 ∷ 0 ∷ 3 ∷ 0 ∷ []) (1 ∷ 1 ∷ 0 ∷ []))
+    ∷ (stepB false (1 ∷ 0 ∷ 1 ∷ []) planB (3 ∷ 1 ∷ 1 ∷ 2 ∷ 1 ∷ 0 ∷ 0 ∷ 3 ∷ 2 ∷ []) gives signalled (answered false) (0 ∷ 1 ∷ 1 ∷ 2 ∷ 1 ∷ 0 ∷ 0 ∷ 3 ∷ 0 ∷ []) (1 ∷ 0 ∷ 1 ∷ []))
     -- a failure told with a command, or while not running, is ignored; flags that are set stay set
-    ∷ (stepB true (1 ∷ 1 ∷ 0 ∷ []) planB (1 ∷ 0 ∷ 9 ∷ 8 ∷ 0 ∷ 0 ∷ 0 ∷ 3 ∷ []) gives signalled (answered false) (0 ∷ 1 ∷ 9 ∷ 8 ∷ 2 ∷ 0 ∷ 0 ∷ 3 ∷ []) (1 ∷ 1 ∷ 0 ∷ []))
-    ∷ (stepB true (1 ∷ 1 ∷ 0 ∷ []) planB (0 ∷ 0 ∷ 9 ∷ 8 ∷ 2 ∷ 0 ∷ 0 ∷ 0 ∷ []) gives signalled (answered false) (0 ∷ 0 ∷ 9 ∷ 8 ∷ 2 ∷ 0 ∷ 0 ∷ 0 ∷ []) (1 ∷ 1 ∷ 0 ∷ []))
-    ∷ (stepB true (1 ∷ 0 ∷ 1 ∷ []) planB (0 ∷ 1 ∷ 1 ∷ 2 ∷ 1 ∷ 0 ∷ 255 ∷ 3 ∷ []) gives signalled (answered true) (0 ∷ 2 ∷ 1 ∷ 2 ∷ 1 ∷ 0 ∷ 255 ∷ 3 ∷ []) (1 ∷ 0 ∷ 1 ∷ []))
-    ∷ (stepB false (1 ∷ 0 ∷ 1 ∷ []) planB (0 ∷ 1 ∷ 1 ∷ 2 ∷ 1 ∷ 0 ∷ 252 ∷ 3 ∷ []) gives signalled (answered false) (0 ∷ 0 ∷ 0 ∷ 1 ∷ 0 ∷ 0 ∷ 252 ∷ 3 ∷ []) (0 ∷ 1 ∷ 1 ∷ []))
+    ∷ (stepB true (1 ∷ 1 ∷ 0 ∷ []) planB (1 ∷ 0 ∷ 9 ∷ 8 ∷ 0 ∷ 0 ∷ 0 ∷ 0 ∷ 3 ∷ []) gives signalled (answered false) (0 ∷ 1 ∷ 9 ∷ 8 ∷ 2 ∷ 0 ∷ 0 ∷ 0 ∷ 3 ∷ []) (1 ∷ 1 ∷ 0 ∷ []))
+    ∷ (stepB true (1 ∷ 1 ∷ 0 ∷ []) planB (0 ∷ 0 ∷ 9 ∷ 8 ∷ 2 ∷ 0 ∷ 0 ∷ 0 ∷ 0 ∷ []) gives signalled (answered false) (0 ∷ 0 ∷ 9 ∷ 8 ∷ 2 ∷ 0 ∷ 0 ∷ 0 ∷ 0 ∷ []) (1 ∷ 1 ∷ 0 ∷ []))
+    ∷ (stepB true (1 ∷ 0 ∷ 1 ∷ []) planB (0 ∷ 1 ∷ 1 ∷ 2 ∷ 1 ∷ 0 ∷ 0 ∷ 255 ∷ 3 ∷ []) gives signalled (answered true) (0 ∷ 2 ∷ 1 ∷ 2 ∷ 1 ∷ 0 ∷ 0 ∷ 255 ∷ 3 ∷ []) (1 ∷ 0 ∷ 1 ∷ []))
+    ∷ (stepB false (1 ∷ 0 ∷ 1 ∷ []) planB (0 ∷ 1 ∷ 1 ∷ 2 ∷ 1 ∷ 0 ∷ 0 ∷ 252 ∷ 3 ∷ []) gives signalled (answered false) (0 ∷ 0 ∷ 0 ∷ 1 ∷ 0 ∷ 0 ∷ 0 ∷ 252 ∷ 3 ∷ []) (0 ∷ 1 ∷ 1 ∷ []))
     -- an empty plan finishes on the spot; so with a flag up
-    ∷ (stepOf false [] (1 ∷ 0 ∷ 7 ∷ 7 ∷ 0 ∷ 0 ∷ 1 ∷ 0 ∷ []) (yardOf (0 ∷ []) (1 ∷ []) (1 ∷ [])) gives signalled (answered true) (0 ∷ 0 ∷ 7 ∷ 7 ∷ 0 ∷ 0 ∷ 1 ∷ 1 ∷ []) (1 ∷ []))
-    ∷ (stepOf false [] (1 ∷ 0 ∷ 7 ∷ 7 ∷ 0 ∷ 0 ∷ 2 ∷ 3 ∷ []) (yardOf (0 ∷ []) (0 ∷ []) (0 ∷ [])) gives signalled (answered true) (0 ∷ 0 ∷ 7 ∷ 7 ∷ 0 ∷ 0 ∷ 2 ∷ 3 ∷ []) (0 ∷ []))
+    ∷ (stepOf false [] (1 ∷ 0 ∷ 7 ∷ 7 ∷ 0 ∷ 0 ∷ 0 ∷ 1 ∷ 0 ∷ []) (yardOf (0 ∷ []) (1 ∷ []) (1 ∷ []) (1 ∷ [])) gives signalled (answered true) (0 ∷ 0 ∷ 7 ∷ 7 ∷ 0 ∷ 0 ∷ 0 ∷ 1 ∷ 1 ∷ []) (1 ∷ []))
+    ∷ (stepOf false [] (1 ∷ 0 ∷ 7 ∷ 7 ∷ 0 ∷ 0 ∷ 0 ∷ 2 ∷ 3 ∷ []) (yardOf (0 ∷ []) (0 ∷ []) (0 ∷ []) (1 ∷ [])) gives signalled (answered true) (0 ∷ 0 ∷ 7 ∷ 7 ∷ 0 ∷ 0 ∷ 0 ∷ 2 ∷ 3 ∷ []) (0 ∷ []))
     -- a start with old moves left within the plan
-    ∷ (stepB false (1 ∷ 1 ∷ 0 ∷ []) planB (1 ∷ 0 ∷ 0 ∷ 0 ∷ 2 ∷ 0 ∷ 0 ∷ 0 ∷ []) gives signalled (answered false) (0 ∷ 1 ∷ 0 ∷ 0 ∷ 2 ∷ 0 ∷ 0 ∷ 0 ∷ []) (1 ∷ 1 ∷ 0 ∷ []))
+    ∷ (stepB false (1 ∷ 1 ∷ 0 ∷ []) planB (1 ∷ 0 ∷ 0 ∷ 0 ∷ 2 ∷ 0 ∷ 0 ∷ 0 ∷ 0 ∷ []) gives signalled (answered false) (0 ∷ 1 ∷ 0 ∷ 0 ∷ 2 ∷ 0 ∷ 0 ∷ 0 ∷ 0 ∷ []) (1 ∷ 1 ∷ 0 ∷ []))
     -- the low byte of the moves left comes first
-    ∷ (stepOf false (rounds 129) (1 ∷ 0 ∷ 0 ∷ 0 ∷ 0 ∷ 0 ∷ 0 ∷ 0 ∷ []) (yardOf (0 ∷ 0 ∷ []) (1 ∷ 0 ∷ []) (1 ∷ 0 ∷ [])) gives signalled (answered false) (0 ∷ 1 ∷ 0 ∷ 0 ∷ 2 ∷ 1 ∷ 0 ∷ 0 ∷ []) (1 ∷ 0 ∷ []))
-    ∷ (stepOf false (rounds 129) (0 ∷ 1 ∷ 0 ∷ 0 ∷ 0 ∷ 1 ∷ 0 ∷ 0 ∷ []) (yardOf (0 ∷ 0 ∷ []) (1 ∷ 0 ∷ []) (1 ∷ 0 ∷ [])) gives signalled (answered false) (0 ∷ 1 ∷ 0 ∷ 1 ∷ 255 ∷ 0 ∷ 0 ∷ 0 ∷ []) (0 ∷ 1 ∷ []))
+    ∷ (stepOf false (rounds 129) (1 ∷ 0 ∷ 0 ∷ 0 ∷ 0 ∷ 0 ∷ 0 ∷ 0 ∷ 0 ∷ []) (yardOf (0 ∷ 0 ∷ []) (1 ∷ 0 ∷ []) (1 ∷ 0 ∷ []) (1 ∷ 1 ∷ [])) gives signalled (answered false) (0 ∷ 1 ∷ 0 ∷ 0 ∷ 2 ∷ 1 ∷ 0 ∷ 0 ∷ 0 ∷ []) (1 ∷ 0 ∷ []))
+    ∷ (stepOf false (rounds 129) (0 ∷ 1 ∷ 0 ∷ 0 ∷ 0 ∷ 1 ∷ 0 ∷ 0 ∷ 0 ∷ []) (yardOf (0 ∷ 0 ∷ []) (1 ∷ 0 ∷ []) (1 ∷ 0 ∷ []) (1 ∷ 1 ∷ [])) gives signalled (answered false) (0 ∷ 1 ∷ 0 ∷ 1 ∷ 255 ∷ 0 ∷ 0 ∷ 0 ∷ 0 ∷ []) (0 ∷ 1 ∷ []))
     -- refusals 1 to 6 come first, then 2
-    ∷ refusesStep false (yardOf ([]) ([]) ([])) [] [] 1 0
-    ∷ refusesStep false (yardOf (0 ∷ 2 ∷ 1 ∷ []) (0 ∷ 0 ∷ 0 ∷ []) (0 ∷ 0 ∷ 0 ∷ [])) [] (9 ∷ []) 6 1
-    ∷ refusesB false (1 ∷ 1 ∷ 0 ∷ []) planB (0 ∷ 0 ∷ 0 ∷ 0 ∷ 0 ∷ 0 ∷ 0 ∷ []) 2 0
-    ∷ refusesB false (1 ∷ 1 ∷ 0 ∷ []) planB (9 ∷ 0 ∷ 0 ∷ 0 ∷ 0 ∷ 0 ∷ 0 ∷ 0 ∷ 0 ∷ []) 2 0
+    ∷ refusesStep false (yardOf ([]) ([]) ([]) []) [] [] 1 0
+    ∷ refusesStep false (yardOf (0 ∷ 2 ∷ 1 ∷ []) (0 ∷ 0 ∷ 0 ∷ []) (0 ∷ 0 ∷ 0 ∷ []) (1 ∷ 1 ∷ 1 ∷ [])) [] (9 ∷ []) 6 1
+    ∷ refusesB false (1 ∷ 1 ∷ 0 ∷ []) planB (0 ∷ 0 ∷ 0 ∷ 0 ∷ 0 ∷ 0 ∷ 0 ∷ 0 ∷ []) 2 0
+    ∷ refusesB false (1 ∷ 1 ∷ 0 ∷ []) planB (9 ∷ 0 ∷ 0 ∷ 0 ∷ 0 ∷ 0 ∷ 0 ∷ 0 ∷ 0 ∷ 0 ∷ []) 2 0
     -- 24 in its order, with the lowest register
-    ∷ refusesB false (1 ∷ 1 ∷ 0 ∷ []) planB (4 ∷ 3 ∷ 0 ∷ 0 ∷ 9 ∷ 0 ∷ 0 ∷ 4 ∷ []) 24 0
-    ∷ refusesB false (1 ∷ 1 ∷ 0 ∷ []) planB (3 ∷ 3 ∷ 0 ∷ 0 ∷ 9 ∷ 0 ∷ 0 ∷ 4 ∷ []) 24 1
-    ∷ refusesB false (1 ∷ 1 ∷ 0 ∷ []) planB (3 ∷ 2 ∷ 0 ∷ 0 ∷ 3 ∷ 0 ∷ 0 ∷ 4 ∷ []) 24 4
-    ∷ refusesB false (1 ∷ 1 ∷ 0 ∷ []) planB (2 ∷ 2 ∷ 0 ∷ 0 ∷ 0 ∷ 0 ∷ 0 ∷ 4 ∷ []) 24 4
-    ∷ refusesB false (1 ∷ 1 ∷ 0 ∷ []) planB (2 ∷ 1 ∷ 0 ∷ 0 ∷ 0 ∷ 0 ∷ 0 ∷ 4 ∷ []) 24 4
-    ∷ refusesB false (1 ∷ 1 ∷ 0 ∷ []) planB (2 ∷ 0 ∷ 0 ∷ 0 ∷ 0 ∷ 1 ∷ 0 ∷ 4 ∷ []) 24 4
-    ∷ refusesB false (1 ∷ 1 ∷ 0 ∷ []) planB (2 ∷ 0 ∷ 0 ∷ 0 ∷ 0 ∷ 0 ∷ 0 ∷ 4 ∷ []) 24 7
-    ∷ refusesB false (1 ∷ 1 ∷ 0 ∷ []) (1 ∷ 2 ∷ 0 ∷ []) (0 ∷ 0 ∷ 0 ∷ 0 ∷ 2 ∷ 0 ∷ 0 ∷ 0 ∷ []) 24 4
+    ∷ refusesB false (1 ∷ 1 ∷ 0 ∷ []) planB (4 ∷ 3 ∷ 0 ∷ 0 ∷ 9 ∷ 0 ∷ 0 ∷ 0 ∷ 4 ∷ []) 24 0
+    ∷ refusesB false (1 ∷ 1 ∷ 0 ∷ []) planB (3 ∷ 3 ∷ 0 ∷ 0 ∷ 9 ∷ 0 ∷ 0 ∷ 0 ∷ 4 ∷ []) 24 1
+    ∷ refusesB false (1 ∷ 1 ∷ 0 ∷ []) planB (3 ∷ 2 ∷ 0 ∷ 0 ∷ 3 ∷ 0 ∷ 0 ∷ 0 ∷ 4 ∷ []) 24 4
+    ∷ refusesB false (1 ∷ 1 ∷ 0 ∷ []) planB (2 ∷ 2 ∷ 0 ∷ 0 ∷ 0 ∷ 0 ∷ 0 ∷ 0 ∷ 4 ∷ []) 24 4
+    ∷ refusesB false (1 ∷ 1 ∷ 0 ∷ []) planB (2 ∷ 1 ∷ 0 ∷ 0 ∷ 0 ∷ 0 ∷ 0 ∷ 0 ∷ 4 ∷ []) 24 4
+    ∷ refusesB false (1 ∷ 1 ∷ 0 ∷ []) planB (2 ∷ 0 ∷ 0 ∷ 0 ∷ 0 ∷ 1 ∷ 0 ∷ 0 ∷ 4 ∷ []) 24 4
+    ∷ refusesB false (1 ∷ 1 ∷ 0 ∷ []) planB (2 ∷ 0 ∷ 0 ∷ 0 ∷ 0 ∷ 0 ∷ 1 ∷ 0 ∷ 4 ∷ []) 24 4
+    ∷ refusesB false (1 ∷ 1 ∷ 0 ∷ []) planB (2 ∷ 0 ∷ 0 ∷ 0 ∷ 0 ∷ 0 ∷ 0 ∷ 0 ∷ 4 ∷ []) 24 8
+    ∷ refusesB false (1 ∷ 1 ∷ 0 ∷ []) (1 ∷ 2 ∷ 0 ∷ []) (0 ∷ 0 ∷ 0 ∷ 0 ∷ 2 ∷ 0 ∷ 0 ∷ 0 ∷ 0 ∷ []) 24 4
     -- so refused, a step that would push pushes nothing
-    ∷ refusesB false (1 ∷ 1 ∷ 0 ∷ []) planB (0 ∷ 1 ∷ 0 ∷ 0 ∷ 2 ∷ 0 ∷ 0 ∷ 4 ∷ []) 24 7
+    ∷ refusesB false (1 ∷ 1 ∷ 0 ∷ []) planB (0 ∷ 1 ∷ 0 ∷ 0 ∷ 2 ∷ 0 ∷ 0 ∷ 0 ∷ 4 ∷ []) 24 8
     -- 25, behind 24 and before the checker
-    ∷ refusesB false (1 ∷ 1 ∷ 0 ∷ []) (0 ∷ 1 ∷ 0 ∷ []) (1 ∷ 1 ∷ 0 ∷ 0 ∷ 1 ∷ 0 ∷ 0 ∷ 0 ∷ []) 25 0
-    ∷ refusesB false (1 ∷ 1 ∷ 0 ∷ []) planB (1 ∷ 2 ∷ 0 ∷ 0 ∷ 1 ∷ 0 ∷ 0 ∷ 0 ∷ []) 25 0
-    ∷ refusesB false (1 ∷ 1 ∷ 0 ∷ []) planB (1 ∷ 2 ∷ 0 ∷ 0 ∷ 0 ∷ 0 ∷ 0 ∷ 0 ∷ []) 24 4
+    ∷ refusesB false (1 ∷ 1 ∷ 0 ∷ []) (0 ∷ 1 ∷ 0 ∷ []) (1 ∷ 1 ∷ 0 ∷ 0 ∷ 1 ∷ 0 ∷ 0 ∷ 0 ∷ 0 ∷ []) 25 0
+    ∷ refusesB false (1 ∷ 1 ∷ 0 ∷ []) planB (1 ∷ 2 ∷ 0 ∷ 0 ∷ 1 ∷ 0 ∷ 0 ∷ 0 ∷ 0 ∷ []) 25 0
+    ∷ refusesB false (1 ∷ 1 ∷ 0 ∷ []) planB (1 ∷ 2 ∷ 0 ∷ 0 ∷ 0 ∷ 0 ∷ 0 ∷ 0 ∷ 0 ∷ []) 24 4
     -- start refuses as the checker does: 7, 9, 13, 14
-    ∷ refusesStep false (yardOf (0 ∷ 0 ∷ 1 ∷ []) (1 ∷ 0 ∷ 0 ∷ []) (0 ∷ 1 ∷ 1 ∷ [])) (1 ∷ 2 ∷ 0 ∷ 1 ∷ 0 ∷ []) (1 ∷ 0 ∷ 0 ∷ 0 ∷ 0 ∷ 0 ∷ 0 ∷ 0 ∷ []) 7 0
-    ∷ refusesB false (1 ∷ 1 ∷ 0 ∷ []) (1 ∷ 2 ∷ 0 ∷ 1 ∷ 0 ∷ []) (1 ∷ 0 ∷ 0 ∷ 0 ∷ 0 ∷ 0 ∷ 0 ∷ 0 ∷ []) 9 0
-    ∷ refusesB false (1 ∷ 1 ∷ 0 ∷ []) (0 ∷ 1 ∷ []) (1 ∷ 0 ∷ 0 ∷ 0 ∷ 0 ∷ 0 ∷ 0 ∷ 0 ∷ []) 13 0
-    ∷ refusesB true (1 ∷ 1 ∷ 0 ∷ []) (1 ∷ 2 ∷ []) (1 ∷ 0 ∷ 0 ∷ 0 ∷ 0 ∷ 0 ∷ 0 ∷ 0 ∷ []) 14 1
+    ∷ refusesStep false (yardOf (0 ∷ 0 ∷ 1 ∷ []) (1 ∷ 0 ∷ 0 ∷ []) (0 ∷ 1 ∷ 1 ∷ []) (1 ∷ 1 ∷ 1 ∷ [])) (1 ∷ 2 ∷ 0 ∷ 1 ∷ 0 ∷ []) (1 ∷ 0 ∷ 0 ∷ 0 ∷ 0 ∷ 0 ∷ 0 ∷ 0 ∷ 0 ∷ []) 7 0
+    ∷ refusesB false (1 ∷ 1 ∷ 0 ∷ []) (1 ∷ 2 ∷ 0 ∷ 1 ∷ 0 ∷ []) (1 ∷ 0 ∷ 0 ∷ 0 ∷ 0 ∷ 0 ∷ 0 ∷ 0 ∷ 0 ∷ []) 9 0
+    ∷ refusesB false (1 ∷ 1 ∷ 0 ∷ []) (0 ∷ 1 ∷ []) (1 ∷ 0 ∷ 0 ∷ 0 ∷ 0 ∷ 0 ∷ 0 ∷ 0 ∷ 0 ∷ []) 13 0
+    ∷ refusesB true (1 ∷ 1 ∷ 0 ∷ []) (1 ∷ 2 ∷ []) (1 ∷ 0 ∷ 0 ∷ 0 ∷ 0 ∷ 0 ∷ 0 ∷ 0 ∷ 0 ∷ []) 14 1
     -- a running step: 9, then 10 to 13 with the number in the plan, also when told of a failure; idle and stalled steps give none of these
-    ∷ refusesB false (1 ∷ 1 ∷ 0 ∷ []) (0 ∷ 1 ∷ 0 ∷ []) (0 ∷ 1 ∷ 0 ∷ 0 ∷ 1 ∷ 0 ∷ 0 ∷ 0 ∷ []) 9 0
-    ∷ refusesB false (1 ∷ 1 ∷ 0 ∷ []) (1 ∷ 2 ∷ 0 ∷ 3 ∷ []) (0 ∷ 1 ∷ 0 ∷ 0 ∷ 1 ∷ 0 ∷ 0 ∷ 0 ∷ []) 10 1
-    ∷ refusesB true (1 ∷ 1 ∷ 0 ∷ []) (1 ∷ 2 ∷ 0 ∷ 2 ∷ []) (0 ∷ 1 ∷ 0 ∷ 0 ∷ 1 ∷ 0 ∷ 0 ∷ 0 ∷ []) 11 1
-    ∷ refusesB false (1 ∷ 1 ∷ 0 ∷ []) (1 ∷ 2 ∷ 2 ∷ 1 ∷ []) (0 ∷ 1 ∷ 0 ∷ 0 ∷ 1 ∷ 0 ∷ 0 ∷ 0 ∷ []) 12 1
-    ∷ refusesB true (1 ∷ 1 ∷ 0 ∷ []) planB (0 ∷ 1 ∷ 0 ∷ 0 ∷ 1 ∷ 0 ∷ 0 ∷ 0 ∷ []) 13 1
-    ∷ (stepB false (1 ∷ 1 ∷ 0 ∷ []) (0 ∷ 1 ∷ 0 ∷ []) (0 ∷ 0 ∷ 0 ∷ 0 ∷ 1 ∷ 0 ∷ 0 ∷ 0 ∷ []) gives signalled (answered false) (0 ∷ 0 ∷ 0 ∷ 0 ∷ 1 ∷ 0 ∷ 0 ∷ 0 ∷ []) (1 ∷ 1 ∷ 0 ∷ []))
-    ∷ (stepB false (1 ∷ 1 ∷ 0 ∷ []) (0 ∷ 1 ∷ 0 ∷ []) (0 ∷ 2 ∷ 0 ∷ 0 ∷ 1 ∷ 0 ∷ 0 ∷ 0 ∷ []) gives signalled (answered false) (0 ∷ 2 ∷ 0 ∷ 0 ∷ 1 ∷ 0 ∷ 0 ∷ 0 ∷ []) (1 ∷ 1 ∷ 0 ∷ []))
-    ∷ (stepB false (1 ∷ 1 ∷ 0 ∷ []) (0 ∷ 1 ∷ 0 ∷ []) (2 ∷ 1 ∷ 0 ∷ 0 ∷ 1 ∷ 0 ∷ 0 ∷ 0 ∷ []) gives signalled (answered false) (0 ∷ 0 ∷ 0 ∷ 0 ∷ 0 ∷ 0 ∷ 0 ∷ 0 ∷ []) (1 ∷ 1 ∷ 0 ∷ []))
-    ∷ (stepB false (1 ∷ 1 ∷ 0 ∷ []) (0 ∷ 1 ∷ 0 ∷ []) (3 ∷ 2 ∷ 0 ∷ 0 ∷ 1 ∷ 0 ∷ 0 ∷ 0 ∷ []) gives signalled (answered false) (0 ∷ 1 ∷ 0 ∷ 0 ∷ 1 ∷ 0 ∷ 0 ∷ 0 ∷ []) (1 ∷ 1 ∷ 0 ∷ []))
+    ∷ refusesB false (1 ∷ 1 ∷ 0 ∷ []) (0 ∷ 1 ∷ 0 ∷ []) (0 ∷ 1 ∷ 0 ∷ 0 ∷ 1 ∷ 0 ∷ 0 ∷ 0 ∷ 0 ∷ []) 9 0
+    ∷ refusesB false (1 ∷ 1 ∷ 0 ∷ []) (1 ∷ 2 ∷ 0 ∷ 3 ∷ []) (0 ∷ 1 ∷ 0 ∷ 0 ∷ 1 ∷ 0 ∷ 0 ∷ 0 ∷ 0 ∷ []) 10 1
+    ∷ refusesB true (1 ∷ 1 ∷ 0 ∷ []) (1 ∷ 2 ∷ 0 ∷ 2 ∷ []) (0 ∷ 1 ∷ 0 ∷ 0 ∷ 1 ∷ 0 ∷ 0 ∷ 0 ∷ 0 ∷ []) 11 1
+    ∷ refusesB false (1 ∷ 1 ∷ 0 ∷ []) (1 ∷ 2 ∷ 2 ∷ 1 ∷ []) (0 ∷ 1 ∷ 0 ∷ 0 ∷ 1 ∷ 0 ∷ 0 ∷ 0 ∷ 0 ∷ []) 12 1
+    ∷ refusesB true (1 ∷ 1 ∷ 0 ∷ []) planB (0 ∷ 1 ∷ 0 ∷ 0 ∷ 1 ∷ 0 ∷ 0 ∷ 0 ∷ 0 ∷ []) 13 1
+    ∷ (stepB false (1 ∷ 1 ∷ 0 ∷ []) (0 ∷ 1 ∷ 0 ∷ []) (0 ∷ 0 ∷ 0 ∷ 0 ∷ 1 ∷ 0 ∷ 0 ∷ 0 ∷ 0 ∷ []) gives signalled (answered false) (0 ∷ 0 ∷ 0 ∷ 0 ∷ 1 ∷ 0 ∷ 0 ∷ 0 ∷ 0 ∷ []) (1 ∷ 1 ∷ 0 ∷ []))
+    ∷ (stepB false (1 ∷ 1 ∷ 0 ∷ []) (0 ∷ 1 ∷ 0 ∷ []) (0 ∷ 2 ∷ 0 ∷ 0 ∷ 1 ∷ 0 ∷ 0 ∷ 0 ∷ 0 ∷ []) gives signalled (answered false) (0 ∷ 2 ∷ 0 ∷ 0 ∷ 1 ∷ 0 ∷ 0 ∷ 0 ∷ 0 ∷ []) (1 ∷ 1 ∷ 0 ∷ []))
+    ∷ (stepB false (1 ∷ 1 ∷ 0 ∷ []) (0 ∷ 1 ∷ 0 ∷ []) (2 ∷ 1 ∷ 0 ∷ 0 ∷ 1 ∷ 0 ∷ 0 ∷ 0 ∷ 0 ∷ []) gives signalled (answered false) (0 ∷ 0 ∷ 0 ∷ 0 ∷ 0 ∷ 0 ∷ 0 ∷ 0 ∷ 0 ∷ []) (1 ∷ 1 ∷ 0 ∷ []))
+    ∷ (stepB false (1 ∷ 1 ∷ 0 ∷ []) (0 ∷ 1 ∷ 0 ∷ []) (3 ∷ 2 ∷ 0 ∷ 0 ∷ 1 ∷ 0 ∷ 0 ∷ 0 ∷ 0 ∷ []) gives signalled (answered false) (0 ∷ 1 ∷ 0 ∷ 0 ∷ 1 ∷ 0 ∷ 0 ∷ 0 ∷ 0 ∷ []) (1 ∷ 1 ∷ 0 ∷ []))
     -- totals may differ in a running step
-    ∷ (stepOf false (0 ∷ 1 ∷ []) (0 ∷ 1 ∷ 0 ∷ 0 ∷ 1 ∷ 0 ∷ 0 ∷ 0 ∷ []) (yardOf (0 ∷ 0 ∷ 1 ∷ []) (1 ∷ 0 ∷ 0 ∷ []) (0 ∷ 1 ∷ 1 ∷ [])) gives signalled (answered false) (0 ∷ 0 ∷ 0 ∷ 1 ∷ 0 ∷ 0 ∷ 0 ∷ 1 ∷ []) (0 ∷ 1 ∷ 0 ∷ []))
+    ∷ (stepOf false (0 ∷ 1 ∷ []) (0 ∷ 1 ∷ 0 ∷ 0 ∷ 1 ∷ 0 ∷ 0 ∷ 0 ∷ 0 ∷ []) (yardOf (0 ∷ 0 ∷ 1 ∷ []) (1 ∷ 0 ∷ 0 ∷ []) (0 ∷ 1 ∷ 1 ∷ []) (1 ∷ 1 ∷ 1 ∷ [])) gives signalled (answered false) (0 ∷ 0 ∷ 0 ∷ 1 ∷ 0 ∷ 0 ∷ 0 ∷ 0 ∷ 1 ∷ []) (0 ∷ 1 ∷ 0 ∷ []))
     -- the same run by `steps`
-    ∷ (stepsOf 1 planB (1 ∷ 0 ∷ 9 ∷ 8 ∷ 0 ∷ 0 ∷ 1 ∷ 0 ∷ []) yardB gives signalled (answered false) (0 ∷ 1 ∷ 1 ∷ 2 ∷ 1 ∷ 0 ∷ 1 ∷ 0 ∷ []) (1 ∷ 0 ∷ 1 ∷ []))
-    ∷ (stepsOf 3 planB (1 ∷ 0 ∷ 9 ∷ 8 ∷ 0 ∷ 0 ∷ 1 ∷ 0 ∷ []) yardB gives signalled (answered true) (0 ∷ 0 ∷ 0 ∷ 1 ∷ 0 ∷ 0 ∷ 1 ∷ 1 ∷ []) (0 ∷ 1 ∷ 1 ∷ []))
-    -- pebbles 0 and 1 start at node 1, pebble 2 at node 2
+    ∷ (stepsOf 1 planB (1 ∷ 0 ∷ 9 ∷ 8 ∷ 0 ∷ 0 ∷ 0 ∷ 1 ∷ 0 ∷ []) yardB gives signalled (answered false) (0 ∷ 1 ∷ 1 ∷ 2 ∷ 1 ∷ 0 ∷ 0 ∷ 1 ∷ 0 ∷ []) (1 ∷ 0 ∷ 1 ∷ []))
+    ∷ (stepsOf 3 planB (1 ∷ 0 ∷ 9 ∷ 8 ∷ 0 ∷ 0 ∷ 0 ∷ 1 ∷ 0 ∷ []) yardB gives signalled (answered true) (0 ∷ 0 ∷ 0 ∷ 1 ∷ 0 ∷ 0 ∷ 0 ∷ 1 ∷ 1 ∷ []) (0 ∷ 1 ∷ 1 ∷ []))
+    -- request 2.10. Depths: 26 outside 1 to 8, before 27; of 27 the pebbles before the targets; a line of four values
+    ∷ (testOf (yardOf (0 ∷ 0 ∷ []) (2 ∷ 0 ∷ []) (0 ∷ 0 ∷ []) (1 ∷ 0 ∷ [])) gives refusal (fault 26 1))
+    ∷ (testOf (yardOf (0 ∷ 0 ∷ []) (8 ∷ 0 ∷ []) (0 ∷ 8 ∷ []) (9 ∷ 8 ∷ [])) gives refusal (fault 26 0))
+    ∷ (testOf (yardOf (0 ∷ 0 ∷ []) (8 ∷ 0 ∷ []) (0 ∷ 8 ∷ []) (8 ∷ 8 ∷ [])) gives refusal none)
+    ∷ (testOf (yardOf (0 ∷ 0 ∷ []) (0 ∷ 4 ∷ []) (3 ∷ 0 ∷ []) (2 ∷ 3 ∷ [])) gives refusal (fault 27 1))
+    ∷ (testOf (yardOf (0 ∷ 0 ∷ []) (0 ∷ 0 ∷ []) (0 ∷ 0 ∷ []) (1 ∷ [])) gives refusal (fault 2 0))
+    ∷ (printOf "berth parent car target depth\n0 0 0 0 9\n" gives printed (text "refusal place\n26 0\n"))
+    ∷ (printOf "berth parent car target depth\n0 0 0 0\n" gives printed (text "refusal place\n16 2\n"))
+    -- a node with a place is not cleared (yard B with a middle node two deep); a full one is, and an empty one is drawn into, pebble by pebble
+    ∷ (planOf (yardOf (0 ∷ 0 ∷ 1 ∷ []) (1 ∷ 1 ∷ 0 ∷ []) (0 ∷ 1 ∷ 1 ∷ []) (1 ∷ 2 ∷ 1 ∷ [])) gives moves (push 0 1 ∷ push 1 2 ∷ []))
+    ∷ (planOf (yardOf (0 ∷ 0 ∷ 1 ∷ []) (2 ∷ 2 ∷ 0 ∷ []) (0 ∷ 2 ∷ 2 ∷ []) (2 ∷ 2 ∷ 3 ∷ [])) gives moves (push 1 2 ∷ push 0 1 ∷ push 1 2 ∷ push 0 1 ∷ []))
+    ∷ (planOf (yardOf (0 ∷ 0 ∷ 1 ∷ []) (0 ∷ 0 ∷ 3 ∷ []) (2 ∷ 1 ∷ 0 ∷ []) (2 ∷ 2 ∷ 3 ∷ [])) gives moves (push 2 1 ∷ push 1 0 ∷ push 2 1 ∷ push 1 0 ∷ push 2 1 ∷ []))
+    ∷ (demandsOf (yardOf (0 ∷ 0 ∷ 1 ∷ []) (0 ∷ 0 ∷ 3 ∷ []) (2 ∷ 1 ∷ 0 ∷ []) (2 ∷ 2 ∷ 3 ∷ [])) gives demands (pos 0 ∷ negsuc 1 ∷ negsuc 2 ∷ []))
+    -- a node that holds a pebble draws if no child lacks one, and fills first if one does
+    ∷ (planOf (yardOf (0 ∷ 0 ∷ []) (1 ∷ 1 ∷ []) (2 ∷ 0 ∷ []) (2 ∷ 1 ∷ [])) gives moves (push 1 0 ∷ []))
+    ∷ (planOf (yardOf (0 ∷ 0 ∷ 0 ∷ []) (1 ∷ 1 ∷ 0 ∷ []) (1 ∷ 0 ∷ 1 ∷ []) (2 ∷ 1 ∷ 1 ∷ [])) gives moves (push 0 2 ∷ push 1 0 ∷ []))
+    -- 12, 13 and 14 of counts: the third push finds no pebble, or no place; a node ends with fewer pebbles than its targets
+    ∷ (pushesOf (push 0 1 ∷ push 0 1 ∷ push 0 1 ∷ []) (yardOf (0 ∷ 0 ∷ []) (3 ∷ 0 ∷ []) (0 ∷ 0 ∷ []) (3 ∷ 2 ∷ [])) gives left (1 ∷ 2 ∷ []))
+    ∷ (trialOf (0 ∷ 1 ∷ 0 ∷ 1 ∷ 0 ∷ 1 ∷ []) 3 (yardOf (0 ∷ 0 ∷ []) (2 ∷ 0 ∷ []) (0 ∷ 0 ∷ []) (3 ∷ 3 ∷ [])) gives tried (refused (row 12 2)) (2 ∷ 0 ∷ []))
+    ∷ (trialOf (0 ∷ 1 ∷ 0 ∷ 1 ∷ 0 ∷ 1 ∷ []) 3 (yardOf (0 ∷ 0 ∷ []) (3 ∷ 0 ∷ []) (0 ∷ 0 ∷ []) (3 ∷ 2 ∷ [])) gives tried (refused (row 13 2)) (3 ∷ 0 ∷ []))
+    ∷ (checkOf [] (yardOf (0 ∷ 0 ∷ []) (1 ∷ 1 ∷ []) (2 ∷ 0 ∷ []) (2 ∷ 1 ∷ [])) gives checked (refused (row 14 0)))
+    -- of two pebbles one leaves; and a pebble that goes through a node leaves the one there alone, as the last in leaves first
+    ∷ (displacedOf (yardOf (0 ∷ 0 ∷ []) (2 ∷ 0 ∷ []) (1 ∷ 1 ∷ []) (2 ∷ 2 ∷ [])) gives counted (answered 1))
+    ∷ (displacedOf (yardOf (0 ∷ 0 ∷ 1 ∷ []) (1 ∷ 1 ∷ 0 ∷ []) (0 ∷ 1 ∷ 1 ∷ []) (1 ∷ 2 ∷ 1 ∷ [])) gives counted (answered 1))
+    -- a second pebble arrives at a node two deep, and a third finds no place
+    ∷ (eventsOf (happens PebbleArrives 0 ∷ happens PebbleArrives 0 ∷ []) (negsuc 0 ∷ pos 0 ∷ []) (yardOf (0 ∷ 0 ∷ []) (1 ∷ 0 ∷ []) (0 ∷ 0 ∷ []) (2 ∷ 1 ∷ [])) gives console-left (2 ∷ 0 ∷ []) (0 ∷ 0 ∷ []) (negsuc 1 ∷ pos 0 ∷ []))
+    -- pebbles 0 and 1 start at node 1, pebble 2 at node 2; the one that came back to 1 leaves it before the one that stayed
     ∷ (startsOf siding gives left (1 ∷ 1 ∷ 2 ∷ []))
+    ∷ (takenOf (push 1 0 ∷ push 0 1 ∷ push 1 0 ∷ push 1 0 ∷ []) siding gives left (0 ∷ 0 ∷ 0 ∷ 1 ∷ []))
+    ∷ (takenOf (push 1 0 ∷ push 2 0 ∷ push 0 1 ∷ push 1 0 ∷ push 0 2 ∷ push 0 2 ∷ []) siding gives left (0 ∷ 2 ∷ 2 ∷ 2 ∷ 2 ∷ 0 ∷ []))
     ∷ []
 
 worked : map (λ (c : Case). outcome (c .input)) cases ≡ map (λ (c : Case). c .expected) cases
-unfolding stepB refusesStep refusesB rounds blockOf registersOf bit setBit raised registerFault taskFault stepFault registersThen pebblesThen stepped steps near highRoot zeros nines anyOf reaches distance nearest nearestFault inReach reachFault demandsA siding placed occurs firstAt lastIn displaced demandsAfter eventFault leaves runLeaves keeps cases _gives_ outcome yard marks yardA yardB planB sum below roots climbs inside subtotal shortest judge moveFault pushFault legal shifted after accepted count needy lowestChild greatest neediestChild choice inject extract turn settle each balance planWithin planBy plan range demandsFault bytes movesOf planFault movesFault checkFault trialFault matchedFault text digits decimal stopBefore line lines header cut same value field readLine readNodes readYard moveLines edges report moveSheet refusalSheet program
+unfolding stepB refusesStep refusesB rounds blockOf registersOf bit setBit raised registerFault taskFault stepFault registersThen pebblesThen stepped steps near highRoot zeros nines anyOf reaches distance nearest nearestFault inReach reachFault demandsA siding placed occurs firstAt lastIn displaced demandsAfter eventFault leaves runLeaves keeps cases _gives_ outcome yard marks yardA yardB planB sum below roots climbs inside subtotal shortest judge moveFault pushFault legal shifted after accepted count needy lowestChild greatest neediestChild choice fills inject extract turn settle each balance planWithin planBy plan range demandsFault bytes movesOf planFault movesFault checkFault trialFault matchedFault text digits decimal stopBefore line lines header cut same value field readLine readNodes readYard moveLines edges report moveSheet refusalSheet program
 worked = refl
 
 -- two pebbles start at node 1, and one at node 2: whichever is taken, pebble 1 may go the second time, and each has its own route

@@ -10,9 +10,9 @@ unfoldable pub marks : ℕ → List ℕ → List ℕ
 marks n [] = replicate n 0
 marks n (v ∷ vs) = set (marks n vs) v 1
 
--- a yard by its parents, the nodes that hold a pebble and the target nodes
+-- a yard by its parents, the nodes that hold a pebble and the target nodes, all of depth 1
 unfoldable pub yard : List ℕ → List ℕ → List ℕ → Yard
-yard parents pebbles targets = yardOf parents (marks (length parents) pebbles) (marks (length parents) targets)
+yard parents pebbles targets = yardOf parents (marks (length parents) pebbles) (marks (length parents) targets) (replicate (length parents) 1)
 
 -- A
 unfoldable pub yardA : Yard

@@ -55,7 +55,7 @@ pub record EachStep (y : Yard) (bs block : List ℕ) (failed : Bool) : Type 0 wh
   pub refusal : (f : Fault) → stepped y bs block failed .line ≡ refused f → (stepped y bs block failed .block ≡ block) × (stepped y bs block failed .pebbles ≡ y .pebbles)
   pub constant : pebbleCount (holding y (stepped y bs block failed .pebbles)) ≡ pebbleCount y
 
--- A first step and k more, with no failed push: yard, plan and block come back as each step left them.
+-- A first step and k more, with no failed push: each step gets the yard, the plan and the block of the one before.
 unfoldable pub steps : ℕ → Yard → List ℕ → List ℕ → Stepped
 steps zero y bs block = stepped y bs block false
 steps (suc k) y bs block = let s = steps k y bs block in stepped (holding y (s .pebbles)) bs (s .block) false

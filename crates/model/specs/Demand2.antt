@@ -2,7 +2,7 @@
 use mathlib.Core.Path.{_≡_}
 use mathlib.Core.List.{List, [], _∷_}
 use mathlib.Core.Logic.{_≢_, _↔_, _⊎_}
-use Prim.Native.Nat.{ℕ, _*_, _≤_, _<_}
+use Prim.Native.Nat.{ℕ, _+_, _-_, _*_, _≤_, _<_}
 use lib.ListN.{length, getD, set, take}
 use Rattle.model.specs.Yard.{Yard, up}
 use Rattle.model.specs.Push.{Move, push}
@@ -11,24 +11,24 @@ use Rattle.model.specs.Calls.Answers.{answered}
 use Rattle.model.specs.Calls.Plans.{bytes, movesOf, planAnswer, planList}
 use Rattle.model.specs.Calls.Checks.{Verdict, checkAnswer}
 
--- each of a list of moves takes one pebble to an adjacent empty node, and together they turn some marks into others: both nodes are in the
--- yard, one is the other's parent and they differ, the first holds a pebble and the second none, and the marks follow
-pub data Carries (parents : List ℕ) : List ℕ → List Move → List ℕ → Type 0 where
-  done : {marks : List ℕ} → Carries parents marks [] marks
-  next : {marks end : List ℕ} {a b : ℕ} {ms : List Move}
+-- each of a list of moves takes one pebble to an adjacent node with a place, and together they turn some counts into others: of two different nodes
+-- of the yard one is the parent of the other, the first holds a pebble and the second fewer than its depth, and the counts follow
+pub data Carries (parents depths : List ℕ) : List ℕ → List Move → List ℕ → Type 0 where
+  done : {counts : List ℕ} → Carries parents depths counts [] counts
+  next : {counts end : List ℕ} {a b : ℕ} {ms : List Move}
       → a < length parents
       → b < length parents
       → (up parents a ≡ b) ⊎ (up parents b ≡ a)
       → a ≢ b
-      → getD marks a 0 ≡ 1
-      → getD marks b 0 ≡ 0
-      → Carries parents (set (set marks a 0) b 1) ms end
-      → Carries parents marks (push a b ∷ ms) end
+      → 0 < getD counts a 0
+      → getD counts b 0 < getD depths b 0
+      → Carries parents depths (set (set counts a (getD counts a 0 - 1)) b (getD counts b 0 + 1)) ms end
+      → Carries parents depths counts (push a b ∷ ms) end
 
 pub record Demand2 (y : Yard) : Type 0 where
   -- given a list long enough, the planner writes the plan of Algorithms 1 to 4 at its front
   pub planner : (list : List ℕ) → 2 * length (plan y) ≤ length list
       → (planAnswer y list ≡ answered (length (plan y))) × (take (2 * length (plan y)) (planList y list) ≡ bytes (plan y))
-  -- the checker accepts at most 65,535 whole moves exactly if each carries a pebble and they end on exactly the targets
-  pub checker : (bs : List ℕ) (m : ℕ) → length bs ≡ 2 * m → m ≤ 65_535
-      → ((v : Verdict) × (checkAnswer y bs ≡ answered v)) ↔ Carries (y .parents) (y .pebbles) (movesOf bs) (y .targets)
+  -- the checker accepts at most 131,072 whole moves exactly if each carries a pebble and they end on exactly the targets
+  pub checker : (bs : List ℕ) (m : ℕ) → length bs ≡ 2 * m → m ≤ 131_072
+      → ((v : Verdict) × (checkAnswer y bs ≡ answered v)) ↔ Carries (y .parents) (y .depths) (y .pebbles) (movesOf bs) (y .targets)

@@ -14,7 +14,7 @@ use Rattle.model.specs.Calls.Plans.{movesOf}
 
 -- no move of ms, obeyed from y, is spare
 pub record Optimal (y : Yard) (ms : List Move) : Type 0 where
-  -- each is accepted, and at the end the occupied nodes are exactly the targets
+  -- each is accepted, and at the end each node holds as many pebbles as its target count
   pub obeyed : accepted y ms ≡ ms
   pub solves : Solved (run y ms)
   -- they cross the edge of v away from the root as often as its subtree lacks pebbles at the start, towards it as often as it has too many

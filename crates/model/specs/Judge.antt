@@ -6,16 +6,16 @@ use mathlib.Core.Option.{Option, none, some}
 use Prim.Native.Nat.{ℕ, _≤_, _<_}
 use lib.ListN.{length}
 use lib.Dec.{leb, ltb, eqb}
-use Rattle.model.specs.Yard.{Yard, size, maxSize, up, parent, pebble, target, capacity, below, climbs, roots, root, pebbleCount, targetCount}
+use Rattle.model.specs.Yard.{Yard, size, maxSize, maxDepth, up, parent, pebble, target, capacity, below, climbs, roots, root, pebbleCount, targetCount}
 
 -- a refusal: its number in the table, and its place
 pub record Fault : Type 0 where
   pub number : ℕ
   pub place : ℕ
 
--- the last number of the table; 21, which request 2.8 took out, has no row
+-- the last number of the table; 3 and 21, which requests 2.10 and 2.8 took out, have no row
 abbrev pub rowCount : ℕ
-rowCount = 25
+rowCount = 27
 
 abbrev pub row : ℕ → ℕ → Fault
 row n p = record { number = n; place = p }
@@ -45,7 +45,7 @@ sizeFault y = unless ((ltb 0 (size y)) && (leb (size y) maxSize)) (fault 1 0)
 
 -- 2: a list's length is not n
 abbrev pub lengthFault : Yard → Option Fault
-lengthFault y = unless ((eqb (length (y .pebbles)) (size y)) && (eqb (length (y .targets)) (size y))) (fault 2 0)
+lengthFault y = unless ((eqb (length (y .pebbles)) (size y)) && ((eqb (length (y .targets)) (size y)) && (eqb (length (y .depths)) (size y)))) (fault 2 0)
 
 -- 5: no root, or several: place 0, or the second-lowest root
 abbrev pub rootFault : List ℕ → Option Fault
@@ -53,15 +53,17 @@ rootFault [] = fault 5 0
 rootFault (r ∷ []) = none
 rootFault (r ∷ s ∷ rs) = fault 5 s
 
--- refusals 1 to 6, in three groups. The lengths: 1 and 2
+-- refusals 1 to 6, of which 26 and 27 are two wherever these are named (request 2.10), in three groups. The lengths: 1 and 2
 abbrev pub lengthTests : Yard → List (Option Fault)
 lengthTests y = sizeFault y ∷ lengthFault y ∷ []
 
--- the entries: 3 is a mark above 1, at the lowest such node, all pebbles before targets; 4 a parent of n or more, at the lowest such node
+-- the entries, each at the lowest such node: 26, a depth that no node has; 27, more pebbles than the depth, and after these more targets (request 2.10 has them where
+-- 3 was); 4, a parent of n or more
 abbrev pub entryTests : Yard → List (Option Fault)
 entryTests y =
-    atLowest 3 (below (size y) (λ v. ltb (capacity y v) (pebble y v)))
-    ∷ atLowest 3 (below (size y) (λ v. ltb (capacity y v) (target y v)))
+    atLowest 26 (below (size y) (λ v. not ((ltb 0 (capacity y v)) && (leb (capacity y v) maxDepth))))
+    ∷ atLowest 27 (below (size y) (λ v. ltb (capacity y v) (pebble y v)))
+    ∷ atLowest 27 (below (size y) (λ v. ltb (capacity y v) (target y v)))
     ∷ atLowest 4 (below (size y) (λ v. leb (size y) (parent y v)))
     ∷ []
 
@@ -80,7 +82,7 @@ tests y = listTests y ++ shapeTests y
 unfoldable pub judge : Yard → Option Fault
 judge y = firstOf (tests y)
 
--- a yard is a tree if none of refusals 1 to 6 meets it ('The words of demand 3')
+-- what passes all of them is a tree ('The words of demand 3')
 abbrev pub Tree : Yard → Type 0
 Tree y = judge y ≡ none
 

@@ -4,7 +4,7 @@ use mathlib.Core.Bool.{Bool, true, false}
 use mathlib.Core.Option.{Option, none, some}
 use Prim.Native.Nat.{ℕ}
 use Rattle.model.specs.declared.Refusal.{Refusal}
-use Rattle.model.specs.declared.Refusal.the-variants.{NodeCount, ListLength, Mark, ParentOutside, Roots, Circle, Totals, ListTooShort, PlanLength, NoSuchNode, NotAdjacent, FromEmpty, ToFull, TargetEmpty, Header, LineShape, NodeNumber, ReaderList, NodeOutside, EventImpossible, NoPebble, StaleDemands, Register, NotIdle}
+use Rattle.model.specs.declared.Refusal.the-variants.{NodeCount, ListLength, ParentOutside, Roots, Circle, Totals, ListTooShort, PlanLength, NoSuchNode, NotAdjacent, FromEmpty, ToFull, TargetEmpty, Header, LineShape, NodeNumber, ReaderList, NodeOutside, EventImpossible, NoPebble, StaleDemands, Register, NotIdle, Depth, AboveDepth}
 use Rattle.model.specs.declared.Done.{Done}
 use Rattle.model.specs.declared.Counted.{Counted}
 use Rattle.model.specs.declared.Checked.{Checked}
@@ -21,7 +21,6 @@ use Rattle.model.specs.Calls.Distances.{Nearest}
 abbrev pub paper : Refusal → Fault
 paper (NodeCount p) = row 1 p
 paper ListLength = row 2 0
-paper (Mark v) = row 3 v
 paper (ParentOutside v) = row 4 v
 paper (Roots v) = row 5 v
 paper (Circle v) = row 6 v
@@ -43,6 +42,8 @@ paper NoPebble = row 22 0
 paper (StaleDemands v) = row 23 v
 paper (Register r) = row 24 r
 paper NotIdle = row 25 0
+paper (Depth v) = row 26 v
+paper (AboveDepth v) = row 27 v
 
 -- accepted, or the refusal
 abbrev pub paperDone : Done → Option Fault

@@ -1,7 +1,7 @@
 -- The plan of the source's Algorithms 1 to 4, with the choices of document 01 ('The planner') and request 2.6. Each step reads the yard as it then is, so demands
 -- follow every move (Algorithm 4). The numbers k, t and d bound the depth of calls, the turns of a loop and the depth of the tree: on a tree
 -- with as many pebbles as targets `enough` never runs out, and a larger one changes nothing (`planBy-within`).
-use mathlib.Core.Bool.{true, false, cond, _&&_}
+use mathlib.Core.Bool.{Bool, true, false, cond, _&&_}
 use mathlib.Core.List.{List, [], _∷_, _++_}
 use Prim.Native.Nat.{ℕ, zero, suc, _+_}
 use lib.Dec.{ltb}
@@ -11,6 +11,11 @@ use Rattle.model.specs.Push.{Move, push, run}
 -- the children of u that need something, rising
 unfoldable pub needy : (ℕ → ℕ) → Yard → ℕ → List ℕ
 needy need y u = below (size y) (λ v. (isChild (y .parents) u v) && (ltb 0 (need v)))
+
+-- whether there are any
+abbrev pub some : List ℕ → Bool
+some [] = false
+some (v ∷ vs) = true
 
 -- a rule of choice: by what each node needs, the child of u that is served wherever one is chosen
 abbrev pub Rule : Type 0
@@ -33,13 +38,22 @@ neediestChild need y u = elim (needy need y u) [ [] ↦ u | (v ∷ vs) ↦ great
 unfoldable pub choice : Rule
 choice = neediestChild
 
+-- the side of a turn at u: whether it fills a child from u, or else draws from a child into u
+abbrev pub Side : Type 0
+Side = Yard → ℕ → Bool
+
+-- request 2.10, sidings several cars deep: it fills if u holds a pebble and some child lacks one. Before it filled if u held a pebble (`held`)
+unfoldable pub fills : Side
+fills y u = (held y u) && (some (needy (lacking y) y u))
+
 -- f at each of some nodes, one after another, each in the yard that the one before leaves
 unfoldable pub each : (Yard → ℕ → List Move) → Yard → List ℕ → List Move
 each f y [] = []
 each f y (v ∷ vs) = let ms = f y v in ms ++ each f (run y ms) vs
 
 module _ (rule : Rule) where
-  -- Algorithm 2, filling v from its parent: a full v is cleared first; to clear it, fill one of its children with a positive demand
+  -- Algorithm 2, filling v from its parent: a full v is cleared first (one with a place is not, 2.10); to clear it, fill one of its children with
+  -- a positive demand
   unfoldable mutual
     pub inject : ℕ → Yard → ℕ → List Move
     inject zero y v = []
@@ -54,9 +68,10 @@ module _ (rule : Rule) where
   extract zero y v = []
   extract (suc k) y v = elim (held y v) [ true ↦ [] | false ↦ extract k y (rule (surplus y) y v) ] ++ (push v (parent y v) ∷ [])
 
-  -- Algorithm 1, a turn of its loop: if u holds a pebble fill a child from u, else draw from a child into u
+module _ (side : Side) (rule : Rule) where
+  -- Algorithm 1, a turn of its loop: fill a child from u, or draw from a child into u
   unfoldable pub turn : ℕ → Yard → ℕ → List Move
-  turn k y u = elim (held y u) [ true ↦ inject k y (rule (lacking y) y u) | false ↦ extract k y (rule (surplus y) y u) ]
+  turn k y u = elim (side y u) [ true ↦ inject rule k y (rule (lacking y) y u) | false ↦ extract rule k y (rule (surplus y) y u) ]
 
   -- the loop: while a child has a demand other than 0
   unfoldable pub settle : ℕ → ℕ → Yard → ℕ → List Move
@@ -76,9 +91,9 @@ module _ (rule : Rule) where
 abbrev pub enough : Yard → ℕ
 enough y = size y + size y + shortest y
 
--- the plan under a rule of choice, and the plan
-unfoldable pub planBy : Rule → Yard → List Move
-planBy rule y = planWithin rule (enough y) y
+-- the plan under a side of turns and a rule of choice, and the plan
+unfoldable pub planBy : Side → Rule → Yard → List Move
+planBy side rule y = planWithin side rule (enough y) y
 
 unfoldable pub plan : Yard → List Move
-plan y = planBy choice y
+plan y = planBy fills choice y

@@ -22,7 +22,7 @@ abbrev pub adjacent : Yard → ℕ → ℕ → Bool
 adjacent y a b = (not (eqb a b)) && ((eqb (parent y a) b) || (eqb (parent y b) a))
 
 -- refusals 10 to 13, in their order, for the move at a place of a plan: it names no node; the nodes are not adjacent, or the same; the
--- first is empty; the second is held
+-- first holds no pebble; the second has no place for one (2.10)
 abbrev pub moveTests : Yard → Move → ℕ → List (Option Fault)
 moveTests y m place =
     unless ((ltb (m .from) (size y)) && (ltb (m .to) (size y))) (fault 10 place)
@@ -73,7 +73,7 @@ unfoldable pub accepted : Yard → List Move → List Move
 accepted y [] = []
 accepted y (m ∷ ms) = cond (legal y m) (m ∷ accepted (pushed y m) ms) (accepted (pushed y m) ms)
 
--- the occupied nodes are exactly the targets: each node holds as many pebbles as it has targets
+-- the pebbles lie on exactly the targets: each node holds as many pebbles as its target count (2.10)
 abbrev pub Solved : Yard → Type 0
 Solved y = (v : ℕ) → v < size y → pebble y v ≡ target y v
 

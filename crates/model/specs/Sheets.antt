@@ -1,4 +1,4 @@
--- Sheets ('Sheets'): the yard sheet of three lists, what the reader finds in bytes, the writer, and all that the move program prints.
+-- Sheets ('Sheets', request 2.10): the yard sheet of four lists, what the reader finds in bytes, the writer, and all that the move program prints.
 use mathlib.Core.Bool.{Bool, true, false, not, _&&_}
 use mathlib.Core.List.{List, [], _∷_, _++_, map, head?}
 use mathlib.Core.Option.{Option, none, some}
@@ -7,7 +7,7 @@ use Prim.Native.Char.{code}
 use Prim.Native.String.{String}
 use lib.ListN.{length, take, drop, getD}
 use lib.Dec.{leb, ltb, eqb}
-use Rattle.model.specs.Yard.{Yard, yardOf, size, maxSize, parent, pebble, target, below, root}
+use Rattle.model.specs.Yard.{Yard, yardOf, size, maxSize, parent, pebble, target, capacity, below, root}
 use Rattle.model.specs.Judge.{Fault, row, fault, firstOf, unless, sizeFault, lengthFault}
 use Rattle.model.specs.Push.{Move, ups, downs}
 use Rattle.model.specs.Plan.{plan}
@@ -54,14 +54,14 @@ lines (vs ∷ vss) = line vs ++ lines vss
 
 -- the header of a yard sheet
 unfoldable pub header : List ℕ
-header = text "berth parent car target\n"
+header = text "berth parent car target depth\n"
 
--- a node's line has four values: the node, its parent, its pebble mark, its target mark
+-- a node's line has five values (request 2.10): the node, its parent, its pebbles, its targets, its depth
 abbrev pub lineValues : ℕ
-lineValues = 4
+lineValues = 5
 
 abbrev pub nodeValues : Yard → ℕ → List ℕ
-nodeValues y v = v ∷ parent y v ∷ pebble y v ∷ target y v ∷ []
+nodeValues y v = v ∷ parent y v ∷ pebble y v ∷ target y v ∷ capacity y v ∷ []
 
 -- the yard sheet: the header, and a line for each node in rising number from 0
 unfoldable pub yardSheet : Yard → List ℕ
@@ -69,7 +69,7 @@ yardSheet y = header ++ lines (map (nodeValues y) (range 0 (size y)))
 
 -- the longest legal sheet
 abbrev pub maxSheetBytes : ℕ
-maxSheetBytes = 4_010
+maxSheetBytes = 5_040
 
 -- The reader. What stands before the first byte `stop` of a list, and what behind it
 pub record Part : Type 0 where
@@ -144,7 +144,7 @@ abbrev pub column : ℕ → List (List ℕ) → List ℕ
 column i rows = map (λ vs. getD vs i 0) rows
 
 abbrev pub columns : List (List ℕ) → Yard
-columns rows = yardOf (column 1 rows) (column 2 rows) (column 3 rows)
+columns rows = yardOf (column 1 rows) (column 2 rows) (column 3 rows) (column 4 rows)
 
 -- what a sheet says: 15, the header line differs or lacks its line feed; the lines in turn; 1 with place 2 if no line follows the header
 unfoldable pub readYard : List ℕ → Answer Yard
@@ -153,15 +153,15 @@ readYard bs = elim (same (take (length header) bs) header) [
   | true ↦ elim (drop (length header) bs) [ [] ↦ refused (row 1 2) | (b ∷ rest) ↦ mapAnswer columns (readNodes maxSize 0 (b ∷ rest)) ]
 ]
 
--- the reader's call: 18, one of its three lists is shorter than 256; then as the sheet says. It answers n and fills the first n entries of each
-unfoldable pub reader : List ℕ → List ℕ → List ℕ → List ℕ → Answer Yard
-reader bs ps cs ts = elim ((leb maxSize (length ps)) && ((leb maxSize (length cs)) && (leb maxSize (length ts)))) [
+-- the reader's call: 18, one of its four lists is shorter than 256; then as the sheet says. It answers n and fills the first n entries of each
+unfoldable pub reader : List ℕ → List ℕ → List ℕ → List ℕ → List ℕ → Answer Yard
+reader bs ps cs ts ds = elim ((leb maxSize (length ps)) && ((leb maxSize (length cs)) && ((leb maxSize (length ts)) && (leb maxSize (length ds))))) [
   | true ↦ readYard bs
   | false ↦ refused (row 18 0)
 ]
 
-abbrev pub readAnswer : List ℕ → List ℕ → List ℕ → List ℕ → Answer ℕ
-readAnswer bs ps cs ts = mapAnswer size (reader bs ps cs ts)
+abbrev pub readAnswer : List ℕ → List ℕ → List ℕ → List ℕ → List ℕ → Answer ℕ
+readAnswer bs ps cs ts ds = mapAnswer size (reader bs ps cs ts ds)
 
 abbrev pub filled : (Yard → List ℕ) → Answer Yard → List ℕ → List ℕ
 filled entries (answered y) list = overwrite (entries y) list
@@ -203,12 +203,12 @@ moveSheet y ms = moveLines ms ++ report y ms
 unfoldable pub refusalSheet : Fault → List ℕ
 refusalSheet f = text "refusal place\n" ++ line (f .number ∷ f .place ∷ [])
 
--- it judges only so many bytes of its input, and its plan list has so many bytes
+-- it judges only so many bytes of its input, and its plan list has so many bytes, for 32,768 moves (request 2.10)
 abbrev pub judgedBytes : ℕ
-judgedBytes = 4_200
+judgedBytes = 5_200
 
 abbrev pub programPlanBytes : ℕ
-programPlanBytes = 32_768
+programPlanBytes = 65_536
 
 abbrev pub sheetOf : Yard → Answer (List Move) → List ℕ
 sheetOf y (answered ms) = moveSheet y ms

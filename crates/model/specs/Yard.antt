@@ -3,19 +3,20 @@
 use mathlib.Core.Path.{_≡_}
 use mathlib.Core.Bool.{Bool, true, false, not, cond, _&&_, _||_}
 use mathlib.Core.List.{List, [], _∷_, _++_, map}
-use Prim.Native.Nat.{ℕ, zero, suc, _+_, _-_, _*_, max}
+use Prim.Native.Nat.{ℕ, zero, suc, _+_, _-_, _*_, _<_, max}
 use lib.ListN.{length, getD}
 use lib.Dec.{leb, ltb, eqb}
 use lib.IntN.{ℤ, pos, subℕ, _+ℤ_}
 
--- three lists give for each node its parent, its pebbles (1 car, 0 none) and its targets (1 target, 0 none)
+-- four lists give for each node its parent, how many pebbles it holds, how many targets it has, and how deep it is: how many it has room for (2.10)
 pub record Yard : Type 0 where
   pub parents : List ℕ
   pub pebbles : List ℕ
   pub targets : List ℕ
+  pub depths : List ℕ
 
-abbrev pub yardOf : List ℕ → List ℕ → List ℕ → Yard
-yardOf parents pebbles targets = record { parents = parents; pebbles = pebbles; targets = targets }
+abbrev pub yardOf : List ℕ → List ℕ → List ℕ → List ℕ → Yard
+yardOf parents pebbles targets depths = record { parents = parents; pebbles = pebbles; targets = targets; depths = depths }
 
 -- n, the parent list's length
 abbrev pub size : Yard → ℕ
@@ -25,13 +26,17 @@ size y = length (y .parents)
 abbrev pub maxSize : ℕ
 maxSize = 256
 
--- the largest demand, its sign dropped: demands lie from −256 to 256
-abbrev pub maxDemand : ℕ
-maxDemand = 256
+-- the deepest node
+abbrev pub maxDepth : ℕ
+maxDepth = 8
 
--- a fresh yard state: one node, its own parent, with no pebble and no target
+-- the largest demand, its sign dropped: demands lie from −2,048 to 2,048 (2.10)
+abbrev pub maxDemand : ℕ
+maxDemand = 2_048
+
+-- a fresh yard state: one node, its own parent, with no pebble and no target, of depth 1
 abbrev pub fresh : Yard
-fresh = yardOf (0 ∷ []) (0 ∷ []) (0 ∷ [])
+fresh = yardOf (0 ∷ []) (0 ∷ []) (0 ∷ []) (1 ∷ [])
 
 -- the parent of v in a list of parents, and in a yard
 abbrev pub up : List ℕ → ℕ → ℕ
@@ -46,9 +51,13 @@ pebble y v = getD (y .pebbles) v 0
 abbrev pub target : Yard → ℕ → ℕ
 target y v = getD (y .targets) v 0
 
--- how many pebbles a node has room for: one car to a berth
+-- how many pebbles a node has room for: its depth (2.10)
 abbrev pub capacity : Yard → ℕ → ℕ
-capacity y v = 1
+capacity y v = getD (y .depths) v 0
+
+-- all depths are 1
+abbrev pub Shallow : Yard → Type 0
+Shallow y = (v : ℕ) → v < size y → capacity y v ≡ 1
 
 abbrev pub full : Yard → ℕ → Bool
 full y v = leb (capacity y v) (pebble y v)
@@ -58,7 +67,7 @@ held y v = ltb 0 (pebble y v)
 
 -- the yard with other pebbles
 abbrev pub holding : Yard → List ℕ → Yard
-holding y pebbles = yardOf (y .parents) pebbles (y .targets)
+holding y pebbles = yardOf (y .parents) pebbles (y .targets) (y .depths)
 
 -- 1 for a test that passes, 0 for one that fails
 abbrev pub one : Bool → ℕ

@@ -49,7 +49,7 @@ edge-short r v d h k = go (not (eqb v r))
     go : (b : Bool) → length (cond b (edgeLine v d) []) ≤ edgeRoom
     go true =
         let p = parts-size d in
-        simp length-append (omega (arith, decimal-short v (omega arith), decimal-short (below0 d) (omega arith), decimal-short (above0 d) (omega arith)))
+        simp length-append (omega (arith, decimal-short v (omega arith), decimal-six (below0 d) (omega arith), decimal-six (above0 d) (omega arith)))
     go false = omega arith
 
 -- the lines of the edges below v
@@ -96,7 +96,7 @@ module _ (y : Yard) {bs : List ℕ} (p : Planned y bs) where
   planned-length = ap length (p .is) ∙ length-bytes (plan y)
 
   pub planned-few : length bs / 2 < rowUnit
-  planned-few = omega (arith, planned-length, plan-none y programPlanBytes .0 (plan-fits y (p .tree) (p .matched)) .2)
+  planned-few = omega (arith, planned-length, plan-fits y (p .tree) (p .matched))
 
   module _ (ds : List ℤ) (r : ℕ) (e : ds ≡ map (demand y) (range 0 (size y))) (q : r ≡ root y) where
     rows : map (λ u. edgeValues u (getD ds u (pos 0))) (below (length ds) (λ u. not (eqb u r))) ≡ map (λ v. edgeValues v (demand y v)) (edges y)

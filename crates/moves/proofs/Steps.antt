@@ -38,38 +38,39 @@ module _ (y : Yard) where
       let q = rw room at a in
       (rw (← e) at (plan-small y (length zeros)), rw q)
 
--- the reader's answer, with three lists of 256
+-- the reader's answer, with four lists of 256
 abbrev pub blank : List ℕ
 blank = replicate maxSize 0
 
 module _ (bs : List ℕ) where
-  judged : reader bs blank blank blank ≡ readYard bs
-  judged = let l : maxSize ≤ length blank = omega (arith, length-replicate {A = ℕ} maxSize 0) in reader-room bs blank blank blank l l l
+  judged : reader bs blank blank blank blank ≡ readYard bs
+  judged = let l : maxSize ≤ length blank = omega (arith, length-replicate {A = ℕ} maxSize 0) in reader-room bs blank blank blank blank l l l l
 
-  pub record Found (n : ℕ) (ps cs ts : List ℕ) : Type 0 where
-    pub fits : (n ≤ length ps) × (n ≤ length cs) × (n ≤ length ts)
-    pub said : printedOf (answered (yardOf (take n ps) (take n cs) (take n ts))) ≡ program bs
+  pub record Found (n : ℕ) (ps cs ts ds : List ℕ) : Type 0 where
+    pub fits : (n ≤ length ps) × (n ≤ length cs) × (n ≤ length ts) × (n ≤ length ds)
+    pub said : printedOf (answered (yardOf (take n ps) (take n cs) (take n ts) (take n ds))) ≡ program bs
 
-  pub read-number : {n : ℕ} {ps cs ts : List ℕ} → answered n ≡ readAnswer bs blank blank blank
-      → ps ≡ filled (λ (y : Yard). y .parents) (reader bs blank blank blank) blank
-      → cs ≡ filled (λ (y : Yard). y .pebbles) (reader bs blank blank blank) blank
-      → ts ≡ filled (λ (y : Yard). y .targets) (reader bs blank blank blank) blank
-      → Found n ps cs ts
-  read-number {n} {ps} {cs} {ts} e p c t = go (readYard bs) refl (rw judged at e) (rw judged at p) (rw judged at c) (rw judged at t)
+  pub read-number : {n : ℕ} {ps cs ts ds : List ℕ} → answered n ≡ readAnswer bs blank blank blank blank
+      → ps ≡ filled (λ (y : Yard). y .parents) (reader bs blank blank blank blank) blank
+      → cs ≡ filled (λ (y : Yard). y .pebbles) (reader bs blank blank blank blank) blank
+      → ts ≡ filled (λ (y : Yard). y .targets) (reader bs blank blank blank blank) blank
+      → ds ≡ filled (λ (y : Yard). y .depths) (reader bs blank blank blank blank) blank
+      → Found n ps cs ts ds
+  read-number {n} {ps} {cs} {ts} {ds} e p c t d = go (readYard bs) refl (rw judged at e) (rw judged at p) (rw judged at c) (rw judged at t) (rw judged at d)
     where
       go : (r : Answer Yard) → readYard bs ≡ r → answered n ≡ mapAnswer size r
-          → ps ≡ filled (λ (y : Yard). y .parents) r blank → cs ≡ filled (λ (y : Yard). y .pebbles) r blank → ts ≡ filled (λ (y : Yard). y .targets) r blank
-          → Found n ps cs ts
-      go (answered y) q e p c t =
+          → ps ≡ filled (λ (y : Yard). y .parents) r blank → cs ≡ filled (λ (y : Yard). y .pebbles) r blank → ts ≡ filled (λ (y : Yard). y .targets) r blank → ds ≡ filled (λ (y : Yard). y .depths) r blank
+          → Found n ps cs ts ds
+      go (answered y) q e p c t d =
           let m : n ≡ size y = cc in
           let s = read-sizes bs y q in
           record {
-            fits = rw (p, c, t) (simp length-append (omega arith));
-            said = rw (p, c, t, take-overwrite (y .parents) blank n (sym m), take-overwrite (y .pebbles) blank n (omega arith), take-overwrite (y .targets) blank n (omega arith)) (sym (program-cut bs ∙ ap printedOf q));
+            fits = rw (p, c, t, d) (simp length-append (omega arith));
+            said = rw (p, c, t, d, take-overwrite (y .parents) blank n (sym m), take-overwrite (y .pebbles) blank n (omega arith), take-overwrite (y .targets) blank n (omega arith), take-overwrite (y .depths) blank n (omega arith)) (sym (program-cut bs ∙ ap printedOf q));
           }
-      go (refused f) q e p c t = absurd (refused-ne-answered (sym e))
+      go (refused f) q e p c t d = absurd (refused-ne-answered (sym e))
 
-  pub read-refused : {f : Fault} → refused f ≡ readAnswer bs blank blank blank → Row f × (refusalSheet f ≡ program bs)
+  pub read-refused : {f : Fault} → refused f ≡ readAnswer bs blank blank blank blank → Row f × (refusalSheet f ≡ program bs)
   read-refused {f} e = go (readYard bs) refl (rw judged at e)
     where
       go : (r : Answer Yard) → readYard bs ≡ r → refused f ≡ mapAnswer size r → Row f × (refusalSheet f ≡ program bs)

@@ -47,9 +47,9 @@ pub record Planned (y : Yard) (bs : List ℕ) : Type 0 where
 abbrev pub planSheet : Yard → List ℕ
 planSheet y = moveSheet y (plan y)
 
--- room for the report of so many nodes: its heads have 20 bytes, a line of three values up to 999 at most 12, a total below 1,000,000 at most 7
+-- room for the report of so many nodes: its heads have 20 bytes, a line of a node and two values below 1,000,000 at most 18, a total below 1,000,000 at most 7
 abbrev pub edgeRoom : ℕ
-edgeRoom = 12
+edgeRoom = 18
 
 abbrev pub reportRoom : ℕ → ℕ
 reportRoom nodes = 27 + edgeRoom * nodes

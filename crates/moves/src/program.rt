@@ -22,14 +22,14 @@ use sheet::output::put_moves;
 use sheet::output::put_refusal;
 
 // The program judges only so many bytes of its input.
-pub const JUDGED_BYTES: usize = 4_200;
+pub const JUDGED_BYTES: usize = 5_200;
 
-// Room for every plan: no yard needs more than 16,384 moves.
-const PLAN_BYTES: usize = 32_768;
+// Room for 32,768 moves: longer plans meet 8.
+const PLAN_BYTES: usize = 65_536;
 
 // Room for the longest report (`reportRoom`), and for every output, of which a move sheet is the longest: its head has 8 bytes, and in a line each of
 // the two bytes of a move takes at most 4.
-const REPORT_BYTES: usize = 27 + 12 * 256;
+const REPORT_BYTES: usize = 27 + 18 * 256;
 
 pub const OUTPUT_BYTES: usize = 8 + 4 * PLAN_BYTES + REPORT_BYTES;
 
@@ -44,29 +44,43 @@ fn put_refused(r: Refusal, out: &mut [u8]) -> usize
     put_refusal(row, at, out)
 }
 
-// The move sheet of a plan, the one of these three lists: its moves, and the report by the demands at the start.
-fn put_planned(parents: &[u8], pebbles: &[u8], targets: &[u8], plan: &[u8], out: &mut [u8]) -> usize
-    requires { ⌜ Planned (handed parents pebbles targets) (now plan) × (outputRoom (length (now plan)) ≤ length (now out)) ⌝ }
-    ensures { λ n. ⌜ n ≡ length (planSheet (given parents pebbles targets)) ⌝ }
-    ensures { λ n. ⌜ became out ≡ overwrite (planSheet (given parents pebbles targets)) (was out) ⌝ }
+// The move sheet of a plan, the one of these four lists: its moves, and the report by the demands at the start.
+fn put_planned(
+    parents: &[u8],
+    pebbles: &[u8],
+    targets: &[u8],
+    depths: &[u8],
+    plan: &[u8],
+    out: &mut [u8],
+) -> usize
+    requires { ⌜ Planned (handed parents pebbles targets depths) (now plan) × (outputRoom (length (now plan)) ≤ length (now out)) ⌝ }
+    ensures { λ n. ⌜ n ≡ length (planSheet (given parents pebbles targets depths)) ⌝ }
+    ensures { λ n. ⌜ became out ≡ overwrite (planSheet (given parents pebbles targets depths)) (was out) ⌝ }
 {
     let n = parents.len();
     let mut demands = [0i16; 256];
-    fill(parents, pebbles, targets, &mut demands[..n]);
+    fill(parents, pebbles, targets, depths, &mut demands[..n]);
     let root = first_own(parents, 0);
     let behind = put_moves(plan, out);
     put_report(&demands[..n], root, plan.len() / 2, out, behind)
 }
 
-// The move sheet of three lists, or what refuses them. The plan's list has room for every plan.
-fn put_plan(parents: &[u8], pebbles: &[u8], targets: &[u8], out: &mut [u8]) -> usize
+// The move sheet of four lists, or what refuses them.
+fn put_plan(parents: &[u8], pebbles: &[u8], targets: &[u8], depths: &[u8], out: &mut [u8]) -> usize
     requires { ⌜ outputRoom programPlanBytes ≤ length (now out) ⌝ }
-    ensures { λ n. ⌜ n ≡ length (printedOf (answered (given parents pebbles targets))) ⌝ }
-    ensures { λ n. ⌜ became out ≡ overwrite (printedOf (answered (given parents pebbles targets))) (was out) ⌝ }
+    ensures { λ n. ⌜ n ≡ length (printedOf (answered (given parents pebbles targets depths))) ⌝ }
+    ensures { λ n. ⌜ became out ≡ overwrite (printedOf (answered (given parents pebbles targets depths))) (was out) ⌝ }
 {
     let mut list = [0u8; PLAN_BYTES];
-    match plan(parents, pebbles, targets, &mut list) {
-        Counted::Number(count) => put_planned(parents, pebbles, targets, &list[..2 * count], out),
+    match plan(parents, pebbles, targets, depths, &mut list) {
+        Counted::Number(count) => put_planned(
+            parents,
+            pebbles,
+            targets,
+            depths,
+            &list[..2 * count],
+            out,
+        ),
         Counted::Refused(r) => put_refused(r, out),
     }
 }
@@ -79,8 +93,15 @@ pub fn program(input: &[u8], out: &mut [u8; OUTPUT_BYTES]) -> usize
     let mut parents = [0u8; 256];
     let mut pebbles = [0u8; 256];
     let mut targets = [0u8; 256];
-    match read_sheet(input, &mut parents, &mut pebbles, &mut targets) {
-        Counted::Number(n) => put_plan(&parents[..n], &pebbles[..n], &targets[..n], out),
+    let mut depths = [0u8; 256];
+    match read_sheet(input, &mut parents, &mut pebbles, &mut targets, &mut depths) {
+        Counted::Number(n) => put_plan(
+            &parents[..n],
+            &pebbles[..n],
+            &targets[..n],
+            &depths[..n],
+            out,
+        ),
         Counted::Refused(r) => put_refused(r, out),
     }
 }

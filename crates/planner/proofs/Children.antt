@@ -11,7 +11,7 @@ use lib.Dec.{ltb}
 use lib.IntN.{ℤ}
 use Rattle.model.specs.Yard.{Yard, size, isChild, children, imbalance}
 use Rattle.model.specs.Push.{Move, after, run}
-use Rattle.model.specs.Plan.{needy, choice}
+use Rattle.model.specs.Plan.{needy, choice, fills}
 use Rattle.model.proofs.Basics.{none-below, below-none}
 use Rattle.model.proofs.Trees.{Child}
 use Rattle.model.proofs.Judged.{wood}
@@ -19,19 +19,19 @@ use Rattle.model.proofs.Demands.{weight, weight-child}
 use Rattle.model.proofs.Runs.{after-append}
 use Rattle.model.proofs.Shortest.{keeps}
 use Rattle.model.proofs.Choice.{choice-sound}
-use Rattle.model.proofs.Balance.{Even, Settles, settled, Balances, none, next, settles-good, balances-good}
+use Rattle.model.proofs.Balance.{Even, Settles, settled, Balances, none, next, fills-steers, settles-good, balances-good}
 use Rattle.planner.specs.Balancing.{AskedEven, Settled, Balanced}
 use Rattle.serve.specs.Serving.{childrenFrom, Lowest}
 use Rattle.serve.proofs.Siblings.{from-0, none-from, child-from, some-from, next-is}
 use Rattle.serve.proofs.Stretches.{rest, back, Begun, go-on, ended, describes-after, room-left}
 
 -- one child, and then those behind it
-balances-more : {y : Yard} {c : ℕ} {cs : List ℕ} {ms ns : List Move} → Balances choice y (c ∷ []) ms → Balances choice (run y ms) cs ns → Balances choice y (c ∷ cs) (ms ++ ns)
+balances-more : {y : Yard} {c : ℕ} {cs : List ℕ} {ms ns : List Move} → Balances fills choice y (c ∷ []) ms → Balances fills choice (run y ms) cs ns → Balances fills choice y (c ∷ cs) (ms ++ ns)
 balances-more (next {ms = ms} {ns = ns} s b none) r = rw (append-nil (ms ++ ns)) (next s b (rw (append-nil (ms ++ ns)) at r))
 
 -- the loop at u has ended, and the children in a list are left
 pub record ChildrenLeft (y : Yard) (u : ℕ) (s : List ℤ) (before plan : List ℕ) (k : ℕ) (cs : List ℕ) : Type 0 where
-  pub begun : Begun y s before plan k (Balances choice y (u ∷ [])) (λ z. Balances choice z cs)
+  pub begun : Begun y s before plan k (Balances fills choice y (u ∷ [])) (λ z. Balances fills choice z cs)
   pub even : (c : ℕ) → Child (y .parents) u c → Even (run y (begun .moves)) c
 
 left-none : {y : Yard} {u : ℕ} {s : List ℤ} {before plan : List ℕ} {k : ℕ} → ChildrenLeft y u s before plan k [] → Balanced y u s before plan k
@@ -46,7 +46,7 @@ pub record LoopEnded (y : Yard) (before t : List ℕ) (s : List ℤ) (plan : Lis
 module _ {y : Yard} {t : List ℕ} {s₀ : List ℤ} {before : List ℕ} {u h : ℕ} (a : AskedEven y t s₀ before u h) where
   left-all : {s : List ℤ} {plan : List ℕ} {k : ℕ} → Settled y u s before plan k → ChildrenLeft y u s before plan k (children y u)
   left-all v =
-      let e = settles-good choice choice-sound (v .settles) (a .described .tree) (a .node) (a .even) in
+      let e = settles-good fills choice choice-sound (v .settles) (a .described .tree) (fills-steers y) (a .node) (a .even) in
       record { begun = record { moves = v .moves; good = e .good; made = v .made; onward = λ ns b. rw append-nil at (next (v .settles) b none) }; even = e .kids }
 
   module _ {c : ℕ} (f : Child (y .parents) u c) where
@@ -68,18 +68,18 @@ module _ {y : Yard} {t : List ℕ} {s₀ : List ℤ} {before : List ℕ} {u h : 
       unfolding go-on
       left-next v =
           let z = child-asked in
-          let g = balances-good choice choice-sound (v .balances) (z .described .tree) ((z .node, z .even), tt) .0 in
+          let g = balances-good fills choice choice-sound (v .balances) (z .described .tree) (fills-steers (run y (l .begun .moves))) ((z .node, z .even), tt) .0 in
           record {
             begun = go-on (l .begun) (v .moves) g (v .made) (λ ps r. balances-more (v .balances) r);
             even = λ d e. rw (after-append (l .begun .moves) (v .moves) y) (omega (arith, l .even d e, keeps (run y (l .begun .moves)) (z .described .tree) (v .moves) g d (e .lt)));
           }
 
 -- a child that has no child itself is balanced by no move
-leaf-balances : {y : Yard} {c : ℕ} {cs : List ℕ} {ns : List Move} → children y c ≡ [] → Balances choice y cs ns → Balances choice y (c ∷ cs) ns
+leaf-balances : {y : Yard} {c : ℕ} {cs : List ℕ} {ns : List Move} → children y c ≡ [] → Balances fills choice y cs ns → Balances fills choice y (c ∷ cs) ns
 unfolding needy after
 leaf-balances {y} {c} e b =
-    let s : Settles choice y c [] = settled (none-below (size y) (λ v. (isChild (y .parents) c v) && (ltb 0 (imbalance y v))) (λ v k. rw (below-none (size y) (isChild (y .parents) c) e v k))) in
-    let r : Balances choice y (children y c) [] = rw e none in
+    let s : Settles fills choice y c [] = settled (none-below (size y) (λ v. (isChild (y .parents) c v) && (ltb 0 (imbalance y v))) (λ v k. rw (below-none (size y) (isChild (y .parents) c) e v k))) in
+    let r : Balances fills choice y (children y c) [] = rw e none in
     next {ms = []} {ns = []} s r b
 
 left-leaf : {y : Yard} {u c : ℕ} {s : List ℤ} {before plan : List ℕ} {k : ℕ} {cs : List ℕ} → ChildrenLeft y u s before plan k (c ∷ cs) → children y c ≡ [] → ChildrenLeft y u s before plan k cs

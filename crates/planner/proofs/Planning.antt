@@ -29,61 +29,78 @@ use Rattle.demand.proofs.Answers.{demands-at}
 use Rattle.serve.specs.Serving.{Tables, lastAt, Kept}
 use Rattle.planner.specs.Balancing.{AskedEven, Balanced, Placed}
 
-pub place-none : (pebbles : List ℕ) (s : List ℤ) → length s ≡ 1024 → Placed pebbles s s 0
-place-none pebbles s e = record { long = e; low = λ w l. refl; high = λ w l. absurd (omega arith); lasts = λ b w l. absurd (omega arith) }
+pub place-none : (pebbles depths : List ℕ) (s : List ℤ) → length s ≡ 1280 → Placed pebbles depths s s 0
+place-none pebbles depths s e = record { long = e; low = λ w l. refl; high = λ w l. absurd (omega arith); lasts = λ b w l. absurd (omega arith); deep = λ w l. absurd (omega arith) }
 
 -- writing at a place from 256 on
-module _ (s : List ℤ) (e : length s ≡ 1024) (v : ℕ) (l : v < 256) (p q r : ℤ) where
-  abbrev marked : List ℤ
-  marked = set s (256 + v) p
+module _ (s : List ℤ) (e : length s ≡ 1280) (v : ℕ) (l : v < 256) (p q r z : ℤ) where
+  abbrev held : List ℤ
+  held = set s (256 + v) p
 
   abbrev filled : List ℤ
-  filled = set marked (512 + v) q
+  filled = set held (512 + v) q
+
+  abbrev drawn : List ℤ
+  drawn = set filled (768 + v) r
 
   abbrev written : List ℤ
-  written = set filled (768 + v) r
+  written = set drawn (1024 + v) z
 
-  elsewhere : (i : ℕ) → i ≢ 256 + v → i ≢ 512 + v → i ≢ 768 + v → getD written i (pos 0) ≡ getD s i (pos 0)
-  elsewhere i a b c = getD-set-other filled (768 + v) i r (pos 0) c ∙ getD-set-other marked (512 + v) i q (pos 0) b ∙ getD-set-other s (256 + v) i p (pos 0) a
+  elsewhere : (i : ℕ) → i ≢ 256 + v → i ≢ 512 + v → i ≢ 768 + v → i ≢ 1024 + v → getD written i (pos 0) ≡ getD s i (pos 0)
+  elsewhere i a b c d =
+      getD-set-other drawn (1024 + v) i z (pos 0) d ∙ getD-set-other filled (768 + v) i r (pos 0) c ∙ getD-set-other held (512 + v) i q (pos 0) b ∙ getD-set-other s (256 + v) i p (pos 0) a
 
-  at-mark : getD written (256 + v) (pos 0) ≡ p
-  at-mark = getD-set-other filled (768 + v) (256 + v) r (pos 0) (omega arith) ∙ getD-set-other marked (512 + v) (256 + v) q (pos 0) (omega arith) ∙ getD-set-same s (256 + v) p (pos 0) (omega (arith, e))
+  at-held : getD written (256 + v) (pos 0) ≡ p
+  at-held =
+      getD-set-other drawn (1024 + v) (256 + v) z (pos 0) (omega arith) ∙ getD-set-other filled (768 + v) (256 + v) r (pos 0) (omega arith)
+      ∙ getD-set-other held (512 + v) (256 + v) q (pos 0) (omega arith) ∙ getD-set-same s (256 + v) p (pos 0) (omega (arith, e))
 
   at-filled : getD written (512 + v) (pos 0) ≡ q
-  at-filled = getD-set-other filled (768 + v) (512 + v) r (pos 0) (omega arith) ∙ getD-set-same marked (512 + v) q (pos 0) (simp length-set (omega (arith, e)))
+  at-filled =
+      getD-set-other drawn (1024 + v) (512 + v) z (pos 0) (omega arith) ∙ getD-set-other filled (768 + v) (512 + v) r (pos 0) (omega arith)
+      ∙ getD-set-same held (512 + v) q (pos 0) (simp length-set (omega (arith, e)))
 
   at-drawn : getD written (768 + v) (pos 0) ≡ r
-  at-drawn = getD-set-same filled (768 + v) r (pos 0) (simp length-set (omega (arith, e)))
+  at-drawn = getD-set-other drawn (1024 + v) (768 + v) z (pos 0) (omega arith) ∙ getD-set-same filled (768 + v) r (pos 0) (simp length-set (omega (arith, e)))
 
-pub place-next : (pebbles : List ℕ) (s₀ s : List ℤ) (v : ℕ) (p q r : ℤ) → v < 256 → p ≡ pos (getD pebbles v 0) → q ≡ pos v → r ≡ pos v → Placed pebbles s₀ s v
-    → Placed pebbles s₀ (set (set (set s (256 + v) p) (512 + v) q) (768 + v) r) (v + 1)
-place-next pebbles s₀ s v p q r l e f g h = record {
+  at-depth : getD written (1024 + v) (pos 0) ≡ z
+  at-depth = getD-set-same drawn (1024 + v) z (pos 0) (simp length-set (omega (arith, e)))
+
+pub place-next : (pebbles depths : List ℕ) (s₀ s : List ℤ) (v : ℕ) (p q r z : ℤ) → v < 256 → p ≡ pos (getD pebbles v 0) → q ≡ pos v → r ≡ pos v → z ≡ pos (getD depths v 0)
+    → Placed pebbles depths s₀ s v → Placed pebbles depths s₀ (set (set (set (set s (256 + v) p) (512 + v) q) (768 + v) r) (1024 + v) z) (v + 1)
+place-next pebbles depths s₀ s v p q r z l e f g x h = record {
   long = simp length-set (h .long);
-  low = λ w m. other w (omega arith) (omega arith) (omega arith) ∙ h .low w m;
+  low = λ w m. other w (omega arith) (omega arith) (omega arith) (omega arith) ∙ h .low w m;
   high = λ w m. at w m (ℕ-discrete w v);
   lasts = λ b w m. last b w m (ℕ-discrete w v);
+  deep = λ w m. depth w m (ℕ-discrete w v);
 }
   where
-    other : (i : ℕ) → i ≢ 256 + v → i ≢ 512 + v → i ≢ 768 + v → getD (set (set (set s (256 + v) p) (512 + v) q) (768 + v) r) i (pos 0) ≡ getD s i (pos 0)
-    other = elsewhere s (h .long) v l p q r
+    other : (i : ℕ) → i ≢ 256 + v → i ≢ 512 + v → i ≢ 768 + v → i ≢ 1024 + v → getD (set (set (set (set s (256 + v) p) (512 + v) q) (768 + v) r) (1024 + v) z) i (pos 0) ≡ getD s i (pos 0)
+    other = elsewhere s (h .long) v l p q r z
 
-    at : (w : ℕ) → w < v + 1 → Dec (w ≡ v) → getD (set (set (set s (256 + v) p) (512 + v) q) (768 + v) r) (256 + w) (pos 0) ≡ pos (getD pebbles w 0)
-    at w m (yes c) = rw c (at-mark s (h .long) v l p q r ∙ e)
-    at w m (no d) = other (256 + w) (omega arith) (omega arith) (omega arith) ∙ h .high w (omega arith)
+    at : (w : ℕ) → w < v + 1 → Dec (w ≡ v) → getD (set (set (set (set s (256 + v) p) (512 + v) q) (768 + v) r) (1024 + v) z) (256 + w) (pos 0) ≡ pos (getD pebbles w 0)
+    at w m (yes c) = rw c (at-held s (h .long) v l p q r z ∙ e)
+    at w m (no d) = other (256 + w) (omega arith) (omega arith) (omega arith) (omega arith) ∙ h .high w (omega arith)
 
-    last : (b : Bool) (w : ℕ) → w < v + 1 → Dec (w ≡ v) → getD (set (set (set s (256 + v) p) (512 + v) q) (768 + v) r) (lastAt b w) (pos 0) ≡ pos w
-    last true w m (yes c) = rw c (at-filled s (h .long) v l p q r ∙ f)
-    last false w m (yes c) = rw c (at-drawn s (h .long) v l p q r ∙ g)
-    last true w m (no d) = other (512 + w) (omega arith) (omega arith) (omega arith) ∙ h .lasts true w (omega arith)
-    last false w m (no d) = other (768 + w) (omega arith) (omega arith) (omega arith) ∙ h .lasts false w (omega arith)
+    last : (b : Bool) (w : ℕ) → w < v + 1 → Dec (w ≡ v) → getD (set (set (set (set s (256 + v) p) (512 + v) q) (768 + v) r) (1024 + v) z) (lastAt b w) (pos 0) ≡ pos w
+    last true w m (yes c) = rw c (at-filled s (h .long) v l p q r z ∙ f)
+    last false w m (yes c) = rw c (at-drawn s (h .long) v l p q r z ∙ g)
+    last true w m (no d) = other (512 + w) (omega arith) (omega arith) (omega arith) (omega arith) ∙ h .lasts true w (omega arith)
+    last false w m (no d) = other (768 + w) (omega arith) (omega arith) (omega arith) (omega arith) ∙ h .lasts false w (omega arith)
+
+    depth : (w : ℕ) → w < v + 1 → Dec (w ≡ v) → getD (set (set (set (set s (256 + v) p) (512 + v) q) (768 + v) r) (1024 + v) z) (1024 + w) (pos 0) ≡ pos (getD depths w 0)
+    depth w m (yes c) = rw c (at-depth s (h .long) v l p q r z ∙ x)
+    depth w m (no d) = other (1024 + w) (omega arith) (omega arith) (omega arith) (omega arith) ∙ h .deep w (omega arith)
 
 -- all placed behind the demands of a tree
-pub placed-kept : (y : Yard) → Tree y → (s₀ s : List ℤ) → take (size y) s₀ ≡ demandsOf y → Placed (y .pebbles) s₀ s (length (y .pebbles)) → Kept y s
+pub placed-kept : (y : Yard) → Tree y → (s₀ s : List ℤ) → take (size y) s₀ ≡ demandsOf y → Placed (y .pebbles) (y .depths) s₀ s (length (y .pebbles)) → Kept y s
 placed-kept y t s₀ s e h = record {
   long = h .long;
   demands = λ v l. h .low v (omega (arith, facts y t .few)) ∙ demands-at y s₀ v e l;
   pebbles = λ v l. h .high v (omega (arith, facts y t .pebbles-size));
   lasts = λ b u l. record { node = u; is = h .lasts b u (omega (arith, facts y t .pebbles-size)); served = λ d. absurd (d refl) };
+  depths = λ v l. h .deep v (omega (arith, facts y t .pebbles-size));
 }
 
 -- the state's demands, and their sizes summed: the shortest length
@@ -94,10 +111,10 @@ module _ (y : Yard) (t : Tree y) (s : List ℤ) (k : Kept y s) where
   pub front-long : size y ≤ length s
   front-long = omega (arith, k .long, facts y t .few)
 
-  pub sizes-range : (v : ℕ) → natAbs (getD (take (size y) s) v (pos 0)) ≤ 256
+  pub sizes-range : (v : ℕ) → natAbs (getD (take (size y) s) v (pos 0)) ≤ 2_048
   sizes-range v = go (decLt v (size y))
     where
-      go : Dec (v < size y) → natAbs (getD (take (size y) s) v (pos 0)) ≤ 256
+      go : Dec (v < size y) → natAbs (getD (take (size y) s) v (pos 0)) ≤ 2_048
       go (yes l) = rw (getD-take (size y) s v (pos 0) l, k .demands v l) (demand-range y t v)
       go (no l) = rw (List·getD-eq-default (take (size y) s) (pos 0) {n = v} (omega (arith, front-length))) (omega arith)
 

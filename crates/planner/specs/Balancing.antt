@@ -6,9 +6,9 @@ use mathlib.Core.List.{List, [], _∷_}
 use Prim.Native.Nat.{ℕ, _+_, _*_, _≤_, _<_}
 use lib.ListN.{length, getD}
 use lib.IntN.{ℤ, pos}
-use Rattle.model.specs.Yard.{Yard, size, held, shortest}
+use Rattle.model.specs.Yard.{Yard, size, shortest}
 use Rattle.model.specs.Push.{Move}
-use Rattle.model.specs.Plan.{choice}
+use Rattle.model.specs.Plan.{choice, fills}
 use Rattle.model.proofs.Demands.{weight}
 use Rattle.model.proofs.Step.{need}
 use Rattle.model.proofs.Balance.{Even, Settles, Balances}
@@ -22,10 +22,10 @@ pub record AskedEven (y : Yard) (t : List ℕ) (s : List ℤ) (plan : List ℕ) 
   pub room : 2 * shortest y ≤ length plan
   pub high : weight (y .parents) u ≤ height
 
--- what a turn of the loop at u asks: whether u holds a pebble says which way one goes
+-- what a turn of the loop at u asks that fills (true) or draws: where a child is chosen for it, that is the side of the turn
 pub record AskedTurn (b : Bool) (y : Yard) (t : List ℕ) (s : List ℤ) (plan : List ℕ) (u height : ℕ) : Type 0 where
   pub asked : AskedEven y t s plan u height
-  pub sign : b ≡ held y u
+  pub side : choice (need y b) y u ≢ u → fills y u ≡ b
 
 -- what it gives: no move, and all as before, where no child is chosen; else the moves that serve the one that is
 pub record TurnTaken (b : Bool) (y : Yard) (u : ℕ) (s₀ s : List ℤ) (before after : List ℕ) (count : ℕ) : Type 0 where
@@ -35,17 +35,18 @@ pub record TurnTaken (b : Bool) (y : Yard) (u : ℕ) (s₀ s : List ℤ) (before
 -- what the loop at u gives, and what balancing u gives
 pub record Settled (y : Yard) (u : ℕ) (s : List ℤ) (before after : List ℕ) (count : ℕ) : Type 0 where
   pub moves : List Move
-  pub settles : Settles choice y u moves
+  pub settles : Settles fills choice y u moves
   pub made : Made y moves s before after count
 
 pub record Balanced (y : Yard) (u : ℕ) (s : List ℤ) (before after : List ℕ) (count : ℕ) : Type 0 where
   pub moves : List Move
-  pub balances : Balances choice y (u ∷ []) moves
+  pub balances : Balances fills choice y (u ∷ []) moves
   pub made : Made y moves s before after count
 
--- what is known of the nodes below v, placed behind the demands: the pebbles, and for each sign the node itself
-pub record Placed (pebbles : List ℕ) (s₀ s : List ℤ) (v : ℕ) : Type 0 where
-  pub long : length s ≡ 1024
+-- what is known of the nodes below v, placed behind the demands: the pebbles, for each sign the node itself, and the depths
+pub record Placed (pebbles depths : List ℕ) (s₀ s : List ℤ) (v : ℕ) : Type 0 where
+  pub long : length s ≡ 1280
   pub low : (w : ℕ) → w < 256 → getD s w (pos 0) ≡ getD s₀ w (pos 0)
   pub high : (w : ℕ) → w < v → getD s (256 + w) (pos 0) ≡ pos (getD pebbles w 0)
   pub lasts : (b : Bool) (w : ℕ) → w < v → getD s (lastAt b w) (pos 0) ≡ pos w
+  pub deep : (w : ℕ) → w < v → getD s (1024 + w) (pos 0) ≡ pos (getD depths w 0)

@@ -1,6 +1,7 @@
 // Algorithm 1: balancing the subtrees of a node.
 ghost use mathlib.Core.Bool.{true, false};
 ghost use Rattle.model.specs.Yard.{Yard};
+ghost use Rattle.model.specs.Plan.{fills};
 ghost use Rattle.model.specs.Given.{was, became};
 ghost use Rattle.planner.specs.Balancing.{AskedEven, AskedTurn, TurnTaken, Settled, Balanced};
 use serve::choose::choose;
@@ -12,7 +13,7 @@ use serve::pebble::move_pebbles;
 // A turn of the loop at u, which holds a pebble: fills the child that is chosen. Answers how many moves it took, which is none if no child lacks a pebble.
 fn inject_turn(
     t: &[u8; 768],
-    s: &mut [i16; 1024],
+    s: &mut [i16; 1280],
     plan: &mut [u8],
     u: usize,
     height: usize,
@@ -28,10 +29,10 @@ fn inject_turn(
     move_pebbles(t, s, plan, low, c, true)
 }
 
-// A turn of the loop at u, which is empty: draws from the child that is chosen.
+// A turn of the loop at u that does not fill: draws from the child that is chosen.
 fn extract_turn(
     t: &[u8; 768],
-    s: &mut [i16; 1024],
+    s: &mut [i16; 1280],
     plan: &mut [u8],
     u: usize,
     height: usize,
@@ -47,34 +48,29 @@ fn extract_turn(
     move_pebbles(t, s, plan, low, c, false)
 }
 
-// Either of them.
-fn turn(
-    t: &[u8; 768],
-    s: &mut [i16; 1024],
-    plan: &mut [u8],
-    u: usize,
-    height: usize,
-    away: bool,
-) -> usize
-    requires { ⌜ ((y : Yard) × AskedTurn away y (now t) (now s) (now plan) u height) ⌝ }
-    ensures { λ r. ⌜ ((y : Yard) → AskedTurn away y (was t) (was s) (was plan) u height → TurnTaken away y u (was s) (became s) (was plan) (became plan) r) ⌝ }
+// A turn of the loop at u: if it holds a pebble a child that lacks one is filled; where it holds none, or no child lacks one, one is drawn from a child.
+fn turn(t: &[u8; 768], s: &mut [i16; 1280], plan: &mut [u8], u: usize, height: usize) -> usize
+    requires { ⌜ ((y : Yard) × AskedEven y (now t) (now s) (now plan) u height) ⌝ }
+    ensures { λ r. ⌜ ((y : Yard) → AskedEven y (was t) (was s) (was plan) u height → TurnTaken (fills y u) y u (was s) (became s) (was plan) (became plan) r) ⌝ }
 {
-    if away {
-        return inject_turn(t, s, plan, u, height);
+    if s[256 + u] == 0 {
+        return extract_turn(t, s, plan, u, height);
+    }
+    let m = inject_turn(t, s, plan, u, height);
+    if m != 0 {
+        return m;
     }
     extract_turn(t, s, plan, u, height)
 }
 
-// The loop at u: if u holds a pebble a child is filled from it, else one is drawn from a child, until no child has a demand of the sign wanted;
-// then none has any, as u's own demand is 0.
-fn settle(t: &[u8; 768], s: &mut [i16; 1024], plan: &mut [u8], u: usize, height: usize) -> usize
+// The loop at u: turns, until none makes a move; then no child has a demand, as u's own demand is 0.
+fn settle(t: &[u8; 768], s: &mut [i16; 1280], plan: &mut [u8], u: usize, height: usize) -> usize
     requires { ⌜ ((y : Yard) × AskedEven y (now t) (now s) (now plan) u height) ⌝ }
     ensures { λ r. ⌜ ((y : Yard) → AskedEven y (was t) (was s) (was plan) u height → Settled y u (became s) (was plan) (became plan) r) ⌝ }
 {
     let mut k = 0;
     loop {
-        let away = s[256 + u] != 0;
-        let m = turn(t, s, &mut plan[2 * k..], u, height, away);
+        let m = turn(t, s, &mut plan[2 * k..], u, height);
         if m == 0 {
             return k;
         }
@@ -86,7 +82,7 @@ fn settle(t: &[u8; 768], s: &mut [i16; 1024], plan: &mut [u8], u: usize, height:
 // move, and no call. The moves go to the front of the list; answers how many.
 pub fn balance_subtrees(
     t: &[u8; 768],
-    s: &mut [i16; 1024],
+    s: &mut [i16; 1280],
     plan: &mut [u8],
     u: usize,
     height: usize,

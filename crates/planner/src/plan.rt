@@ -15,17 +15,23 @@ use model::Refusal;
 use serve::tree::tables;
 
 // The plan, or the refusal. Its length is worked out from the demands before anything is written: refusal 8 with it as place if the list is shorter.
-fn plan_sheet(parents: &[u8], pebbles: &[u8], targets: &[u8], plan: &mut [u8]) -> Counted
-    ensures { λ r. ⌜ paperCounted r ≡ planAnswer (given parents pebbles targets) (was plan) ⌝ }
-    ensures { λ r. ⌜ became plan ≡ planList (given parents pebbles targets) (was plan) ⌝ }
+fn plan_sheet(
+    parents: &[u8],
+    pebbles: &[u8],
+    targets: &[u8],
+    depths: &[u8],
+    plan: &mut [u8],
+) -> Counted
+    ensures { λ r. ⌜ paperCounted r ≡ planAnswer (given parents pebbles targets depths) (was plan) ⌝ }
+    ensures { λ r. ⌜ became plan ≡ planList (given parents pebbles targets depths) (was plan) ⌝ }
 {
-    let mut s = [0i16; 1024];
-    let tested = matched_demands(parents, pebbles, targets, &mut s);
+    let mut s = [0i16; 1280];
+    let tested = matched_demands(parents, pebbles, targets, depths, &mut s);
     if let Done::Refused(r) = tested {
         return Counted::Refused(r);
     }
     let n = parents.len();
-    place(pebbles, &mut s);
+    place(pebbles, depths, &mut s);
     let length = sizes(&s[..n]);
     if plan.len() / 2 < length {
         return Counted::Refused(Refusal::ListTooShort(length));
@@ -38,10 +44,16 @@ fn plan_sheet(parents: &[u8], pebbles: &[u8], targets: &[u8], plan: &mut [u8]) -
 
 // The planner: the plan of Algorithms 1 to 4 at the front of the lent list, the bytes behind it untouched; answers the number of moves. Refusals 1
 // to 7, then 8 with the moves needed as place; a refusal leaves the list as it was. No move is spare (`Demand3`).
-pub fn plan(parents: &[u8], pebbles: &[u8], targets: &[u8], list: &mut [u8]) -> Counted
-    ensures { λ r. ⌜ paperCounted r ≡ planAnswer (given parents pebbles targets) (was list) ⌝ }
-    ensures { λ r. ⌜ became list ≡ planList (given parents pebbles targets) (was list) ⌝ }
-    ensures { λ r. ⌜ Demand3 (given parents pebbles targets) (was list) (paperCounted r) (became list) ⌝ }
+pub fn plan(
+    parents: &[u8],
+    pebbles: &[u8],
+    targets: &[u8],
+    depths: &[u8],
+    list: &mut [u8],
+) -> Counted
+    ensures { λ r. ⌜ paperCounted r ≡ planAnswer (given parents pebbles targets depths) (was list) ⌝ }
+    ensures { λ r. ⌜ became list ≡ planList (given parents pebbles targets depths) (was list) ⌝ }
+    ensures { λ r. ⌜ Demand3 (given parents pebbles targets depths) (was list) (paperCounted r) (became list) ⌝ }
 {
-    plan_sheet(parents, pebbles, targets, list)
+    plan_sheet(parents, pebbles, targets, depths, list)
 }

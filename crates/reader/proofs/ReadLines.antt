@@ -82,30 +82,30 @@ module _ (list head : List ℕ) where
   begins-all e = sym (rw e (same-self head))
 
 -- what the first v lines say, in front of what the others do
-abbrev front : List ℕ → List ℕ → List ℕ → Yard → Yard
-front ps cs ts y = yardOf (ps ++ y .parents) (cs ++ y .pebbles) (ts ++ y .targets)
+abbrev front : List ℕ → List ℕ → List ℕ → List ℕ → Yard → Yard
+front ps cs ts ds y = yardOf (ps ++ y .parents) (cs ++ y .pebbles) (ts ++ y .targets) (ds ++ y .depths)
 
-front-none : (a : Answer Yard) → a ≡ mapAnswer (front [] [] []) a
+front-none : (a : Answer Yard) → a ≡ mapAnswer (front [] [] [] []) a
 front-none (answered y) = refl
 front-none (refused f) = refl
 
-front-line : (vs ps cs ts : List ℕ) (a : Answer (List (List ℕ))) → mapAnswer (front ps cs ts) (mapAnswer columns (mapAnswer (_∷_ vs) a))
-    ≡ mapAnswer (front (ps ++ (getD vs 1 0 ∷ [])) (cs ++ (getD vs 2 0 ∷ [])) (ts ++ (getD vs 3 0 ∷ []))) (mapAnswer columns a)
-front-line vs ps cs ts (answered rows) = simp append-assoc
-front-line vs ps cs ts (refused f) = refl
+front-line : (vs ps cs ts ds : List ℕ) (a : Answer (List (List ℕ))) → mapAnswer (front ps cs ts ds) (mapAnswer columns (mapAnswer (_∷_ vs) a))
+    ≡ mapAnswer (front (ps ++ (getD vs 1 0 ∷ [])) (cs ++ (getD vs 2 0 ∷ [])) (ts ++ (getD vs 3 0 ∷ [])) (ds ++ (getD vs 4 0 ∷ []))) (mapAnswer columns a)
+front-line vs ps cs ts ds (answered rows) = simp append-assoc
+front-line vs ps cs ts ds (refused f) = refl
 
 -- the arrays hold the first v nodes, and the bytes from `at` on are the other lines
-pub record SoFar (sheet ps cs ts : List ℕ) (at v : ℕ) : Type 0 where
-  pub full : Full ps cs ts
-  pub said : linesSay sheet ≡ mapAnswer (front (take v ps) (take v cs) (take v ts)) (mapAnswer columns (readNodes (maxSize - v) v (drop at sheet)))
+pub record SoFar (sheet ps cs ts ds : List ℕ) (at v : ℕ) : Type 0 where
+  pub full : Full ps cs ts ds
+  pub said : linesSay sheet ≡ mapAnswer (front (take v ps) (take v cs) (take v ts) (take v ds)) (mapAnswer columns (readNodes (maxSize - v) v (drop at sheet)))
 
-pub so-far-none : (sheet ps cs ts : List ℕ) → Full ps cs ts → SoFar sheet ps cs ts 24 0
+pub so-far-none : (sheet ps cs ts ds : List ℕ) → Full ps cs ts ds → SoFar sheet ps cs ts ds 30 0
 unfolding header text
-so-far-none sheet ps cs ts f = record { full = f; said = front-none (linesSay sheet) }
+so-far-none sheet ps cs ts ds f = record { full = f; said = front-none (linesSay sheet) }
 
-module _ {sheet ps cs ts : List ℕ} {at v : ℕ} (s : SoFar sheet ps cs ts at v) where
-  pub so-far-end : drop at sheet ≡ [] → answered (yardOf (take v ps) (take v cs) (take v ts)) ≡ linesSay sheet
-  so-far-end e = sym (s .said ∙ rw (e, readNodes-end (maxSize - v) v, append-nil (take v ps), append-nil (take v cs), append-nil (take v ts)))
+module _ {sheet ps cs ts ds : List ℕ} {at v : ℕ} (s : SoFar sheet ps cs ts ds at v) where
+  pub so-far-end : drop at sheet ≡ [] → answered (yardOf (take v ps) (take v cs) (take v ts) (take v ds)) ≡ linesSay sheet
+  so-far-end e = sym (s .said ∙ rw (e, readNodes-end (maxSize - v) v, append-nil (take v ps), append-nil (take v cs), append-nil (take v ts), append-nil (take v ds)))
 
   module _ (h : at < length sheet) where
     pub so-far-over : {p : ℕ} → p ≡ v + 2 → v ≡ 256 → refused (row 1 p) ≡ linesSay sheet
@@ -124,13 +124,13 @@ module _ {sheet ps cs ts : List ℕ} {at v : ℕ} (s : SoFar sheet ps cs ts at v
           sym (s .said ∙ rw (q, room, drop-next sheet at h, readNodes-other (255 - v) v (getD sheet at 0) (drop (at + 1) sheet) (rw (drop-next sheet at h) at e) n))
 
       pub so-far-next : (vs : List ℕ) (next : ℕ) → readLine lineValues (drop at sheet) ≡ some (record { values = vs; rest = drop next sheet }) → getD vs 0 0 ≡ v
-          → SoFar sheet (set ps v (getD vs 1 0)) (set cs v (getD vs 2 0)) (set ts v (getD vs 3 0)) next (v + 1)
+          → SoFar sheet (set ps v (getD vs 1 0)) (set cs v (getD vs 2 0)) (set ts v (getD vs 3 0)) (set ds v (getD vs 4 0)) next (v + 1)
       so-far-next vs next e q =
           let m : maxSize - (v + 1) ≡ 255 - v = omega arith in
           let f = s .full in
           let n = rw (room, readNodes-next (255 - v) v (drop at sheet) e q) at (s .said) in
           record {
             full = simp length-set f;
-            said = rw (m, add-one v, take-suc-set ps v (getD vs 1 0) (omega arith), take-suc-set cs v (getD vs 2 0) (omega arith), take-suc-set ts v (getD vs 3 0) (omega arith))
-                (n ∙ front-line vs (take v ps) (take v cs) (take v ts) (readNodes (255 - v) (suc v) (drop next sheet)));
+            said = rw (m, add-one v, take-suc-set ps v (getD vs 1 0) (omega arith), take-suc-set cs v (getD vs 2 0) (omega arith), take-suc-set ts v (getD vs 3 0) (omega arith), take-suc-set ds v (getD vs 4 0) (omega arith))
+                (n ∙ front-line vs (take v ps) (take v cs) (take v ts) (take v ds) (readNodes (255 - v) (suc v) (drop next sheet)));
           }

@@ -27,14 +27,14 @@ abbrev pub lineIn : List ℕ → List ℕ → Line → Option Sheets.Line
 lineIn sheet values (Line.Behind next) = some (record { values = values; rest = drop next sheet })
 lineIn sheet values Line.Wrong = none
 
--- three arrays of 256 entries
-abbrev pub Full : List ℕ → List ℕ → List ℕ → Type 0
-Full ps cs ts = (length ps ≡ maxSize) × (length cs ≡ maxSize) × (length ts ≡ maxSize)
+-- four arrays of 256 entries
+abbrev pub Full : List ℕ → List ℕ → List ℕ → List ℕ → Type 0
+Full ps cs ts ds = (length ps ≡ maxSize) × (length cs ≡ maxSize) × (length ts ≡ maxSize) × (length ds ≡ maxSize)
 
--- the yard in the first entries of three arrays, as many as are answered
-abbrev pub took : Counted → List ℕ → List ℕ → List ℕ → Answer Yard
-took (Counted.Number n) ps cs ts = answered (yardOf (take n ps) (take n cs) (take n ts))
-took (Counted.Refused r) ps cs ts = refused (paper r)
+-- the yard in the first entries of four arrays, as many as are answered
+abbrev pub took : Counted → List ℕ → List ℕ → List ℕ → List ℕ → Answer Yard
+took (Counted.Number n) ps cs ts ds = answered (yardOf (take n ps) (take n cs) (take n ts) (take n ds))
+took (Counted.Refused r) ps cs ts ds = refused (paper r)
 
 abbrev pub counted : Counted → ℕ
 counted (Counted.Number n) = n

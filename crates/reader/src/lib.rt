@@ -1,2 +1,2 @@
-// Yard sheets read: bytes into three lists.
+// Yard sheets read: bytes into four lists.
 pub mod read;

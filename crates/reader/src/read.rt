@@ -1,4 +1,4 @@
-// The reader's call: what a yard sheet says, into three lists.
+// The reader's call: what a yard sheet says, into four lists.
 ghost use mathlib.Core.Path.{_≡_};
 ghost use Prim.Native.Nat.{_≤_, _<_};
 ghost use lib.ListN.{length, take, drop};
@@ -17,7 +17,7 @@ use sheet::writer::HEADER;
 use sheet::writer::HEADER_BYTES;
 
 // How many values a node's line has.
-const VALUES: usize = 4;
+const VALUES: usize = 5;
 
 // A value and the place behind the byte that ends it.
 enum Word {
@@ -98,16 +98,17 @@ fn node_line(sheet: &[u8], at: usize, values: &mut [u8; VALUES]) -> Line
     Line::Behind(next)
 }
 
-// The nodes of a sheet behind the header, line by line, into three arrays: how many, or the refusal of the first line that has one.
+// The nodes of a sheet behind the header, line by line, into four arrays: how many, or the refusal of the first line that has one.
 fn read_nodes(
     sheet: &[u8],
     parents: &mut [u8; 256],
     pebbles: &mut [u8; 256],
     targets: &mut [u8; 256],
+    depths: &mut [u8; 256],
 ) -> Counted
-    requires { ⌜ Full (now parents) (now pebbles) (now targets) ⌝ }
-    ensures { λ r. ⌜ took r (became parents) (became pebbles) (became targets) ≡ linesSay (was sheet) ⌝ }
-    ensures { λ r. ⌜ (counted r ≤ maxSize) × Full (became parents) (became pebbles) (became targets) ⌝ }
+    requires { ⌜ Full (now parents) (now pebbles) (now targets) (now depths) ⌝ }
+    ensures { λ r. ⌜ took r (became parents) (became pebbles) (became targets) (became depths) ≡ linesSay (was sheet) ⌝ }
+    ensures { λ r. ⌜ (counted r ≤ maxSize) × Full (became parents) (became pebbles) (became targets) (became depths) ⌝ }
 {
     let mut at = HEADER_BYTES;
     let mut v = 0;
@@ -127,6 +128,7 @@ fn read_nodes(
         parents[v] = values[1];
         pebbles[v] = values[2];
         targets[v] = values[3];
+        depths[v] = values[4];
         at = next;
         v += 1;
     }
@@ -150,16 +152,17 @@ fn begins(list: &[u8], head: &[u8]) -> bool
     true
 }
 
-// What a sheet says, in the first entries of three arrays.
+// What a sheet says, in the first entries of four arrays.
 fn read_lines(
     sheet: &[u8],
     parents: &mut [u8; 256],
     pebbles: &mut [u8; 256],
     targets: &mut [u8; 256],
+    depths: &mut [u8; 256],
 ) -> Counted
-    requires { ⌜ Full (now parents) (now pebbles) (now targets) ⌝ }
-    ensures { λ r. ⌜ took r (became parents) (became pebbles) (became targets) ≡ readYard (was sheet) ⌝ }
-    ensures { λ r. ⌜ (counted r ≤ maxSize) × Full (became parents) (became pebbles) (became targets) ⌝ }
+    requires { ⌜ Full (now parents) (now pebbles) (now targets) (now depths) ⌝ }
+    ensures { λ r. ⌜ took r (became parents) (became pebbles) (became targets) (became depths) ≡ readYard (was sheet) ⌝ }
+    ensures { λ r. ⌜ (counted r ≤ maxSize) × Full (became parents) (became pebbles) (became targets) (became depths) ⌝ }
 {
     if !begins(sheet, &HEADER) {
         return Counted::Refused(Refusal::Header);
@@ -167,7 +170,7 @@ fn read_lines(
     if sheet.len() == HEADER_BYTES {
         return Counted::Refused(Refusal::NodeCount(2));
     }
-    read_nodes(sheet, parents, pebbles, targets)
+    read_nodes(sheet, parents, pebbles, targets, depths)
 }
 
 // Reads a sheet: 18 if one of the lists is shorter than 256, then as the sheet says. It answers the number of nodes and fills as many
@@ -177,11 +180,13 @@ pub fn read_sheet(
     parents: &mut [u8],
     pebbles: &mut [u8],
     targets: &mut [u8],
+    depths: &mut [u8],
 ) -> Counted
-    ensures { λ r. ⌜ paperCounted r ≡ mapAnswer size (readFrom sheet parents pebbles targets) ⌝ }
-    ensures { λ r. ⌜ became parents ≡ filled (λ y. y .parents) (readFrom sheet parents pebbles targets) (was parents) ⌝ }
-    ensures { λ r. ⌜ became pebbles ≡ filled (λ y. y .pebbles) (readFrom sheet parents pebbles targets) (was pebbles) ⌝ }
-    ensures { λ r. ⌜ became targets ≡ filled (λ y. y .targets) (readFrom sheet parents pebbles targets) (was targets) ⌝ }
+    ensures { λ r. ⌜ paperCounted r ≡ mapAnswer size (readFrom sheet parents pebbles targets depths) ⌝ }
+    ensures { λ r. ⌜ became parents ≡ filled (λ y. y .parents) (readFrom sheet parents pebbles targets depths) (was parents) ⌝ }
+    ensures { λ r. ⌜ became pebbles ≡ filled (λ y. y .pebbles) (readFrom sheet parents pebbles targets depths) (was pebbles) ⌝ }
+    ensures { λ r. ⌜ became targets ≡ filled (λ y. y .targets) (readFrom sheet parents pebbles targets depths) (was targets) ⌝ }
+    ensures { λ r. ⌜ became depths ≡ filled (λ y. y .depths) (readFrom sheet parents pebbles targets depths) (was depths) ⌝ }
 {
     if parents.len() < 256 {
         return Counted::Refused(Refusal::ReaderList);
@@ -192,14 +197,19 @@ pub fn read_sheet(
     if targets.len() < 256 {
         return Counted::Refused(Refusal::ReaderList);
     }
+    if depths.len() < 256 {
+        return Counted::Refused(Refusal::ReaderList);
+    }
     let mut parents_read = [0u8; 256];
     let mut pebbles_read = [0u8; 256];
     let mut targets_read = [0u8; 256];
+    let mut depths_read = [0u8; 256];
     let read = read_lines(
         sheet,
         &mut parents_read,
         &mut pebbles_read,
         &mut targets_read,
+        &mut depths_read,
     );
     let Counted::Number(n) = read else {
         return read;
@@ -207,5 +217,6 @@ pub fn read_sheet(
     put_text(parents, 0, &parents_read[..n]);
     put_text(pebbles, 0, &pebbles_read[..n]);
     put_text(targets, 0, &targets_read[..n]);
+    put_text(depths, 0, &depths_read[..n]);
     Counted::Number(n)
 }

@@ -9,7 +9,6 @@ pub fn number(r: Refusal) -> u32
     match r {
         Refusal::NodeCount(_) => 1,
         Refusal::ListLength => 2,
-        Refusal::Mark(_) => 3,
         Refusal::ParentOutside(_) => 4,
         Refusal::Roots(_) => 5,
         Refusal::Circle(_) => 6,
@@ -31,6 +30,8 @@ pub fn number(r: Refusal) -> u32
         Refusal::StaleDemands(_) => 23,
         Refusal::Register(_) => 24,
         Refusal::NotIdle => 25,
+        Refusal::Depth(_) => 26,
+        Refusal::AboveDepth(_) => 27,
     }
 }
 
@@ -40,7 +41,6 @@ pub fn place(r: Refusal) -> usize
     match r {
         Refusal::NodeCount(p) => p,
         Refusal::ListLength => 0,
-        Refusal::Mark(v) => v,
         Refusal::ParentOutside(v) => v,
         Refusal::Roots(v) => v,
         Refusal::Circle(v) => v,
@@ -62,5 +62,7 @@ pub fn place(r: Refusal) -> usize
         Refusal::StaleDemands(v) => v,
         Refusal::Register(r) => r,
         Refusal::NotIdle => 0,
+        Refusal::Depth(v) => v,
+        Refusal::AboveDepth(v) => v,
     }
 }

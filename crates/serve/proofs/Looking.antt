@@ -312,7 +312,7 @@ module _ {y : Yard} {t : List ℕ} {s : List ℤ} {v : ℕ} (r : Describes y t s
   node-small = omega (arith, facts y (r .tree) .few)
 
   -- a demand is within −256 to 256, and so unchanged by a passage through 16 bits
-  pub in-range : natAbs (getD s v (pos 0)) ≤ 256
+  pub in-range : natAbs (getD s v (pos 0)) ≤ 2_048
   in-range = rw (r .kept .demands v l) (demand-range y (r .tree) v)
 
   pub demand-back : toZ w16 (ofZ w16 (getD s v (pos 0))) ≡ getD s v (pos 0)

@@ -4,7 +4,7 @@ use mathlib.Core.Path.{_≡_, refl, sym, ap, _∙_}
 use mathlib.Core.Logic.{_≢_}
 use mathlib.Core.Bool.{Bool, true, false, not}
 use mathlib.Core.List.{List, [], _∷_, _++_, append-assoc}
-use Prim.Native.Nat.{ℕ, _+_, _*_, _≤_, _<_}
+use Prim.Native.Nat.{ℕ, suc, _+_, _*_, _≤_, _<_}
 use native.Mathlib.Nat.{suc-add}
 use native.Mathlib.Omega.{arith}
 use native.Mathlib.Decide.{ℕ-discrete}
@@ -22,7 +22,7 @@ use Rattle.model.proofs.Runs.{after-append, run-one}
 use Rattle.model.proofs.Signed.{nextℤ, demand-node, demand-other}
 use Rattle.model.proofs.Choice.{Neediest}
 use Rattle.model.proofs.Calls.{length-bytes}
-use Rattle.serve.specs.Serving.{Last, lastAt, Kept, Made}
+use Rattle.serve.specs.Serving.{Last, lastAt, Kept, shiftedState, Made}
 use Rattle.serve.proofs.Looking.{last-here, last-there}
 
 -- bytes of two lists of moves
@@ -55,9 +55,9 @@ last-other true false u p l h d e = absurd (omega arith)
 last-other false true u p l h d e = absurd (omega arith)
 last-other false false u p l h d e = d (omega arith)
 
--- the state after a legal push over the edge of the child that is chosen: the demand of its node, the child served last, and the two marks
+-- the state after a legal push over the edge of the child that is chosen: the demand of its node, the child served last, and the two counts
 module _ (y : Yard) (m : Move) (g : Step y m) (n : Neediest (need y (g .away)) y (parent y (g .node)) (g .node)) (s : List ℤ) (k : Kept y s) (d : ℤ) (e : d ≡ nextℤ (g .away) (demand y (g .node))) where
-  long : length s ≡ 1024
+  long : length s ≡ 1280
   long = k .long
 
   small : (v : ℕ) → v < size y → v < 256
@@ -75,15 +75,21 @@ module _ (y : Yard) (m : Move) (g : Step y m) (n : Neediest (need y (g .away)) y
   abbrev after-last : List ℤ
   after-last = set after-demand (lastAt (g .away) (parent y (g .node))) (pos (g .node))
 
+  abbrev less : ℤ
+  less = nextℤ true (getD after-last (256 + m .from) (pos 0))
+
+  abbrev more : ℤ
+  more = nextℤ false (getD after-last (256 + m .to) (pos 0))
+
   abbrev after-from : List ℤ
-  after-from = set after-last (256 + m .from) (pos 0)
+  after-from = set after-last (256 + m .from) less
 
   abbrev after-move : List ℤ
-  after-move = set after-from (256 + m .to) (pos 1)
+  after-move = set after-from (256 + m .to) more
 
-  -- what is at other places than the marks
-  no-mark : (i : ℕ) → i ≢ 256 + m .from → i ≢ 256 + m .to → getD after-move i (pos 0) ≡ getD after-last i (pos 0)
-  no-mark i p q = getD-set-other after-from (256 + m .to) i (pos 1) (pos 0) q ∙ getD-set-other after-last (256 + m .from) i (pos 0) (pos 0) p
+  -- what is at other places than those counts
+  no-count : (i : ℕ) → i ≢ 256 + m .from → i ≢ 256 + m .to → getD after-move i (pos 0) ≡ getD after-last i (pos 0)
+  no-count i p q = getD-set-other after-from (256 + m .to) i more (pos 0) q ∙ getD-set-other after-last (256 + m .from) i less (pos 0) p
 
   not-last : (i : ℕ) → i < 512 → getD after-last i (pos 0) ≡ getD after-demand i (pos 0)
   not-last i l = getD-set-other after-demand (lastAt (g .away) (parent y (g .node))) i (pos (g .node)) (pos 0) (λ q. absurd (omega (arith, place)))
@@ -92,22 +98,28 @@ module _ (y : Yard) (m : Move) (g : Step y m) (n : Neediest (need y (g .away)) y
   demand-at v l (yes q) = rw (q, getD-set-same s (g .node) d (pos 0) (omega (arith, long, small (g .node) (g .node-lt)))) (e ∙ sym (demand-node y m g))
   demand-at v l (no q) = getD-set-other s (g .node) v d (pos 0) q ∙ k .demands v l ∙ sym (demand-other y m g v q)
 
-  mark-at : (v : ℕ) → v < size y → Dec (v ≡ m .to) → Dec (v ≡ m .from) → getD after-move (256 + v) (pos 0) ≡ pos (pebble (moved y m) v)
-  mark-at v l (yes q) _ =
-      let c : pebble (moved y m) v ≡ 1 = omega (arith, moved-pebble y m g v, g .room, ap (pebble y) q, ap one (eq-eqb v (m .to) q), ap one (ne-eqb v (m .from) (λ p. ends y m g .2 (sym p ∙ q)))) in
-      rw c (ap (λ (w : ℕ). getD after-move (256 + w) (pos 0)) q ∙ getD-set-same after-from (256 + m .to) (pos 1) (pos 0) (simp length-set (omega (arith, long, small (m .to) (ends y m g .1)))))
-  mark-at v l (no q) (yes p) =
-      let c : pebble (moved y m) v ≡ 0 = omega (arith, moved-pebble y m g v, facts y (g .tree) .pebble-le v l, ap one (ne-eqb v (m .to) q), ap one (eq-eqb v (m .from) p)) in
-      rw c (
-      getD-set-other after-from (256 + m .to) (256 + v) (pos 1) (pos 0) (omega arith)
-      ∙ ap (λ (w : ℕ). getD after-from (256 + w) (pos 0)) p ∙ getD-set-same after-last (256 + m .from) (pos 0) (pos 0) (simp length-set (omega (arith, long, small (m .from) (ends y m g .0))))
-      )
-  mark-at v l (no q) (no p) =
-      let c : pebble (moved y m) v ≡ pebble y v = omega (arith, moved-pebble y m g v, ap one (ne-eqb v (m .to) q), ap one (ne-eqb v (m .from) p)) in
-      rw c (
-      no-mark (256 + v) (omega arith) (omega arith) ∙ not-last (256 + v) (omega (arith, small v l))
+  -- the counts as they were
+  count-was : (v : ℕ) → v < size y → getD after-last (256 + v) (pos 0) ≡ pos (pebble y v)
+  count-was v l =
+      not-last (256 + v) (omega (arith, small v l))
       ∙ getD-set-other s (g .node) (256 + v) d (pos 0) (omega (arith, small (g .node) (g .node-lt))) ∙ k .pebbles v l
-      )
+
+  less-one : (p q : ℕ) → p ≡ q + 1 → nextℤ true (pos p) ≡ pos q
+  less-one p q e = let z : p ≡ suc q = omega arith in rw z
+
+  count-at : (v : ℕ) → v < size y → Dec (v ≡ m .to) → Dec (v ≡ m .from) → getD after-move (256 + v) (pos 0) ≡ pos (pebble (moved y m) v)
+  count-at v l (yes q) _ =
+      let c : pebble (moved y m) v ≡ suc (pebble y v) = omega (arith, moved-pebble y m g v, ap one (eq-eqb v (m .to) q), ap one (ne-eqb v (m .from) (λ p. ends y m g .2 (sym p ∙ q)))) in
+      rw c (ap (λ (w : ℕ). getD after-move (256 + w) (pos 0)) q ∙ getD-set-same after-from (256 + m .to) more (pos 0) (simp length-set (omega (arith, long, small (m .to) (ends y m g .1))))
+      ∙ ap (nextℤ false) (count-was (m .to) (ends y m g .1)) ∙ ap (λ (w : ℕ). pos (suc (pebble y w))) (sym q))
+  count-at v l (no q) (yes p) =
+      let c : pebble y v ≡ pebble (moved y m) v + 1 = omega (arith, moved-pebble y m g v, g .holds, ap (pebble y) p, ap one (ne-eqb v (m .to) q), ap one (eq-eqb v (m .from) p)) in
+      getD-set-other after-from (256 + m .to) (256 + v) more (pos 0) (omega arith)
+      ∙ ap (λ (w : ℕ). getD after-from (256 + w) (pos 0)) p ∙ getD-set-same after-last (256 + m .from) less (pos 0) (simp length-set (omega (arith, long, small (m .from) (ends y m g .0))))
+      ∙ ap (nextℤ true) (count-was (m .from) (ends y m g .0) ∙ ap (λ (w : ℕ). pos (pebble y w)) (sym p)) ∙ less-one (pebble y v) (pebble (moved y m) v) c
+  count-at v l (no q) (no p) =
+      let c : pebble (moved y m) v ≡ pebble y v = omega (arith, moved-pebble y m g v, ap one (ne-eqb v (m .to) q), ap one (ne-eqb v (m .from) p)) in
+      rw c (no-count (256 + v) (omega arith) (omega arith) ∙ count-was v l)
 
   -- the one served last, where it was chosen and elsewhere
   last-new : (b : Bool) (u : ℕ) → b ≡ g .away → u ≡ parent y (g .node) → Last b (moved y m) u (getD after-last (lastAt b u) (pos 0))
@@ -141,11 +153,15 @@ module _ (y : Yard) (m : Move) (g : Step y m) (n : Neediest (need y (g .away)) y
   kept-move : Kept (moved y m) after-move
   kept-move = record {
     long = simp length-set long;
-    demands = λ v l. no-mark v (omega (arith, small v l)) (omega (arith, small v l)) ∙ not-last v (omega (arith, small v l)) ∙ demand-at v l (ℕ-discrete v (g .node));
-    pebbles = λ v l. mark-at v l (ℕ-discrete v (m .to)) (ℕ-discrete v (m .from));
+    demands = λ v l. no-count v (omega (arith, small v l)) (omega (arith, small v l)) ∙ not-last v (omega (arith, small v l)) ∙ demand-at v l (ℕ-discrete v (g .node));
+    pebbles = λ v l. count-at v l (ℕ-discrete v (m .to)) (ℕ-discrete v (m .from));
     lasts = λ b u l.
         let r = last-place b u (small u l) in
-        rw (no-mark (lastAt b u) (λ q. absurd (omega (arith, r, small (m .from) (ends y m g .0)))) (λ q. absurd (omega (arith, r, small (m .to) (ends y m g .1))))) (last-at b u l (ℕ-discrete u (parent y (g .node))));
+        rw (no-count (lastAt b u) (λ q. absurd (omega (arith, r, small (m .from) (ends y m g .0)))) (λ q. absurd (omega (arith, r, small (m .to) (ends y m g .1))))) (last-at b u l (ℕ-discrete u (parent y (g .node))));
+    depths = λ v l.
+        no-count (1024 + v) (omega (arith, small (m .from) (ends y m g .0))) (omega (arith, small (m .to) (ends y m g .1)))
+        ∙ getD-set-other after-demand (lastAt (g .away) (parent y (g .node))) (1024 + v) (pos (g .node)) (pos 0) (λ q. absurd (omega (arith, place)))
+        ∙ getD-set-other s (g .node) (1024 + v) d (pos 0) (omega (arith, small (g .node) (g .node-lt))) ∙ k .depths v l;
   }
 
 -- no move, and one more
@@ -155,7 +171,7 @@ made-nil y s plan k = record { kept = k; written = refl; counted = refl }
 
 pub made-move : (y : Yard) (ms : List Move) (m : Move) (s : List ℤ) (before after : List ℕ) (count : ℕ) → Made y ms s before after count → (g : Step (run y ms) m)
     → Neediest (need (run y ms) (g .away)) (run y ms) (parent y (g .node)) (g .node) → 2 * length ms + 2 ≤ length before → (d : ℤ) → d ≡ nextℤ (g .away) (getD s (g .node) (pos 0))
-    → Made y (ms ++ (m ∷ [])) (set (set (set (set s (g .node) d) (lastAt (g .away) (parent y (g .node))) (pos (g .node))) (256 + m .from) (pos 0)) (256 + m .to) (pos 1)) before (set (set after (2 * count) (m .from)) (2 * count + 1) (m .to)) (count + 1)
+    → Made y (ms ++ (m ∷ [])) (shiftedState (m .from) (m .to) (set (set s (g .node) d) (lastAt (g .away) (parent y (g .node))) (pos (g .node)))) before (set (set after (2 * count) (m .from)) (2 * count + 1) (m .to)) (count + 1)
 made-move y ms m s before after count h g n room d e = record {
   kept = rw (after-append ms (m ∷ []) y, run-one (run y ms) m (legal-step (run y ms) m g) .0) (kept-move (run y ms) m g n s (h .kept) d (e ∙ ap (nextℤ (g .away)) (h .kept .demands (g .node) (g .node-lt))));
   written = rw (h .written, h .counted) (write-move ms before (m .from) (m .to) room);

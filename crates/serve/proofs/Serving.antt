@@ -7,11 +7,12 @@ use mathlib.Core.List.{List, [], _∷_, _++_}
 use Prim.Native.Nat.{ℕ, _+_, _-_, _*_, _≤_, _<_}
 use native.Mathlib.Omega.{arith}
 use lib.ListN.{length, getD, length-append}
-use lib.IntN.{ℤ, pos, natAbs}
+use lib.IntN.{ℤ, pos}
 use mir.Syntax.{w16}
 use mir.Val.{ofZ}
-use borrow.Author.Tests.{le-leb, lt-leb, lt-ltb, le-ltb}
-use Rattle.model.specs.Yard.{Yard, size, up, one, pebble}
+use lib.Dec.{ltb}
+use borrow.Author.Tests.{ltb-true, ltb-false, le-leb, lt-leb, lt-ltb, le-ltb}
+use Rattle.model.specs.Yard.{Yard, size, up, pebble, capacity, full}
 use Rattle.model.specs.Judge.{Tree}
 use Rattle.model.specs.Push.{Move, push, after, run}
 use Rattle.model.specs.Plan.{choice}
@@ -23,7 +24,7 @@ use Rattle.model.proofs.Shortest.{Good, good-nil, good-tree}
 use Rattle.model.proofs.Signed.{nextℤ, demand-range}
 use Rattle.model.proofs.Choice.{Neediest, neediest-some, choice-sound}
 use Rattle.model.proofs.Serve.{Due, Shift, Serves, direct, behind, blocked, due-step, due-behind, able-behind, need-behind, free-able, blocked-child, serves-shift}
-use Rattle.serve.specs.Serving.{Tables, Kept, Describes, movedState, movedPlan, AskedStart, Chain, at-top, down, Start, AskedMoves, Made, Served}
+use Rattle.serve.specs.Serving.{Tables, Kept, Describes, Small, Room, movedState, movedPlan, AskedStart, Chain, at-top, down, Start, AskedMoves, Made, Served}
 use Rattle.serve.proofs.Moving.{made-nil, made-move}
 use Rattle.serve.proofs.Stretches.{made-length}
 
@@ -32,24 +33,26 @@ crossing-table : {ps t : List ℕ} → Tables ps t → (b : Bool) (v : ℕ) → 
 crossing-table h true v l = ap (λ (p : ℕ). push p v) (h .parent v l)
 crossing-table h false v l = ap (push v) (h .parent v l)
 
--- a node's mark, as the code reads it
-pub mark-is : {y : Yard} {s : List ℤ} {v : ℕ} → Kept y s → v < size y → ofZ w16 (getD s (256 + v) (pos 0)) ≡ pebble y v
-mark-is {v = v} k l = ap (ofZ w16) (k .pebbles v l)
+-- a node's count, as the code reads it
+pub count-is : {y : Yard} {s : List ℤ} {v : ℕ} → Kept y s → v < size y → ofZ w16 (getD s (256 + v) (pos 0)) ≡ pebble y v
+count-is {v = v} k l = ap (ofZ w16) (k .pebbles v l)
 
-pub mark-one : {y : Yard} {t : List ℕ} {s : List ℤ} {v : ℕ} → Describes y t s → v < size y → (ofZ w16 (getD s (256 + v) (pos 0)) ≡ 0 → ⊥) → pebble y v ≡ 1
-mark-one {y} {v = v} r l d = go (pebble y v) (facts y (r .tree) .pebble-le v l) (λ e. d (mark-is (r .kept) l ∙ e))
-  where
-    go : (p : ℕ) → p ≤ 1 → (p ≡ 0 → ⊥) → p ≡ 1
-    go p h e = omega arith
+-- it and the depth, both small
+pub room : {y : Yard} {t : List ℕ} {s : List ℤ} {v : ℕ} → Describes y t s → v < size y → Room s v (pebble y v) (capacity y v)
+room {y} {v = v} r l =
+    let f = facts y (r .tree) in
+    (r .kept .pebbles v l, r .kept .depths v l, omega (arith, f .pebble-le v l, f .capacity-le v l), omega (arith, f .capacity-le v l))
 
--- it says whether the node is blocked
-pub free-node : (b : Bool) (y : Yard) (v : ℕ) → pebble y v ≡ one (not b) → blocked y b v ≡ false
-free-node true y v e = lt-leb 1 (pebble y v) (omega arith)
-free-node false y v e = ap not (lt-ltb 0 (pebble y v) (omega arith))
+-- they say whether the node is blocked
+pub free-full : (y : Yard) (v : ℕ) (b : Bool) → b ≡ ltb (pebble y v) (capacity y v) → full y v ≡ not b
+free-full y v true e = lt-leb (capacity y v) (pebble y v) (ltb-true (pebble y v) (capacity y v) (sym e))
+free-full y v false e = le-leb (capacity y v) (pebble y v) (ltb-false (pebble y v) (capacity y v) (sym e))
 
-pub blocked-node : (b : Bool) (y : Yard) (v : ℕ) → pebble y v ≡ one b → blocked y b v ≡ true
-blocked-node true y v e = le-leb 1 (pebble y v) (omega arith)
-blocked-node false y v e = ap not (le-ltb 0 (pebble y v) (omega arith))
+pub held-free : (y : Yard) (v : ℕ) → (pebble y v ≡ 0 → ⊥) → blocked y false v ≡ false
+held-free y v d = ap not (lt-ltb 0 (pebble y v) (omega arith))
+
+pub empty-blocked : (y : Yard) (v : ℕ) → pebble y v ≡ 0 → blocked y false v ≡ true
+empty-blocked y v e = ap not (le-ltb 0 (pebble y v) (omega arith))
 
 -- where v is blocked, the child that is chosen makes way
 module _ {b : Bool} {y : Yard} {t : List ℕ} {s : List ℤ} {v h : ℕ} (a : AskedStart b y t s v h) (e : blocked y b v ≡ true) where
@@ -137,12 +140,22 @@ module _ {b : Bool} {y : Yard} {t : List ℕ} {s₀ : List ℤ} {before : List �
     way-good (at-once e) = good-nil y
     way-good (cleared e r) = shift e r .good
 
-    -- room for the move, and a demand in range
+    -- room for the move, and a demand and counts in range
     pub climb-room : (length plan ≡ length before) × (2 * k + 2 ≤ length before)
     climb-room = omega (arith, made-length (way-good (c .way)) (a .room) (c .made), a .room, serves-shift choice choice-sound y (a .described .tree) (way-serves (c .way)) due .good .spends, length-append (c .moves) (crossing (y .parents) b v ∷ []), c .made .counted)
 
-    pub climb-range : natAbs (getD s v (pos 0)) ≤ 256
-    climb-range = rw (c .made .kept .demands v climb-node) (demand-range (run y (c .moves)) (good-tree y (a .described .tree) (c .moves) (way-good (c .way))) v)
+    tree : Tree (run y (c .moves))
+    tree = good-tree y (a .described .tree) (c .moves) (way-good (c .way))
+
+    count-small : (u : ℕ) → u < size y → Small s (256 + u)
+    count-small u l = let f = facts (run y (c .moves)) tree in rw (c .made .kept .pebbles u l) (omega (arith, f .pebble-le u l, f .capacity-le u l))
+
+    pub climb-range : Small s v × Small s (256 + v) × Small s (256 + getD t v 0)
+    climb-range = (
+      rw (c .made .kept .demands v climb-node) (demand-range (run y (c .moves)) tree v),
+      count-small v climb-node,
+      rw (a .described .tables .parent v climb-node) (count-small (up (y .parents) v) (wood y (a .described .tree) .parent-lt v climb-node)),
+    )
 
     neediest : Neediest (need y b) y (up (y .parents) v) v
     neediest = chain-neediest (a .described .tree) (a .due) (a .chosen) (c .chain)

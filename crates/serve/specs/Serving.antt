@@ -7,9 +7,9 @@ use mathlib.Core.List.{List}
 use Prim.Native.Nat.{ℕ, _+_, _*_, _≤_, _<_}
 use lib.ListN.{length, getD, set}
 use lib.Dec.{leb}
-use lib.IntN.{ℤ, pos}
+use lib.IntN.{ℤ, pos, natAbs}
 use lib.Signed.{ltZ}
-use Rattle.model.specs.Yard.{Yard, size, up, pebble, below, headOr, isChild, demand, shortest}
+use Rattle.model.specs.Yard.{Yard, size, maxDemand, up, pebble, capacity, below, headOr, isChild, demand, shortest}
 use Rattle.model.specs.Judge.{Tree}
 use Rattle.model.specs.Push.{Move, run}
 use Rattle.model.specs.Plan.{choice}
@@ -61,20 +61,32 @@ pub record Last (b : Bool) (y : Yard) (u : ℕ) (entry : ℤ) : Type 0 where
   pub is : entry ≡ pos node
   pub served : node ≢ u → LastServed b y u node
 
--- four tables of 256 entries in a row: a node's demand; its pebbles; the child of it that was filled last; the one that was drawn from last
+-- five tables of 256 entries in a row: a node's demand; its pebbles; the child of it that was filled last; the one that was drawn from last; its depth
 abbrev pub lastAt : Bool → ℕ → ℕ
 lastAt b u = cond b 512 768 + u
 
 pub record Kept (y : Yard) (s : List ℤ) : Type 0 where
-  pub long : length s ≡ 1024
+  pub long : length s ≡ 1280
   pub demands : (v : ℕ) → v < size y → getD s v (pos 0) ≡ demand y v
   pub pebbles : (v : ℕ) → v < size y → getD s (256 + v) (pos 0) ≡ pos (pebble y v)
   pub lasts : (b : Bool) (u : ℕ) → u < size y → Last b y u (getD s (lastAt b u) (pos 0))
+  pub depths : (v : ℕ) → v < size y → getD s (1024 + v) (pos 0) ≡ pos (capacity y v)
+
+-- an entry of the state in the range of demands
+abbrev pub Small : List ℤ → ℕ → Type 0
+Small s i = natAbs (getD s i (pos 0)) ≤ maxDemand
+
+-- the pebbles at v, and its depth, in the state
+abbrev pub Room : List ℤ → ℕ → ℕ → ℕ → Type 0
+Room s v p d = (getD s (256 + v) (pos 0) ≡ pos p) × (getD s (1024 + v) (pos 0) ≡ pos d) × (p < 256) × (d < 256)
+
+-- one pebble less at the first node, and one more at the second
+abbrev pub shiftedState : ℕ → ℕ → List ℤ → List ℤ
+shiftedState from to s = set (set s (256 + from) (nextℤ true (getD s (256 + from) (pos 0)))) (256 + to) (nextℤ false (getD s (256 + to) (pos 0)))
 
 -- the state after a move over the edge of v, away from the root (true) or towards it, and the list with it at place k
 abbrev pub movedState : List ℕ → Bool → ℕ → List ℤ → List ℤ
-movedState t b v s =
-    set (set (set (set s v (nextℤ b (getD s v (pos 0)))) (lastAt b (up t v)) (pos v)) (256 + crossing t b v .from) (pos 0)) (256 + crossing t b v .to) (pos 1)
+movedState t b v s = shiftedState (crossing t b v .from) (crossing t b v .to) (set (set s v (nextℤ b (getD s v (pos 0)))) (lastAt b (up t v)) (pos v))
 
 abbrev pub movedPlan : List ℕ → Bool → ℕ → ℕ → List ℕ → List ℕ
 movedPlan t b v k plan = set (set plan (2 * k) (crossing t b v .from)) (2 * k + 1) (crossing t b v .to)

@@ -3,7 +3,7 @@ ghost use mathlib.Core.Path.{_≡_};
 ghost use Prim.Native.Nat.{ℕ, _≤_, _<_};
 ghost use lib.ListN.{getD};
 ghost use lib.IntN.{pos, natAbs};
-ghost use Rattle.model.specs.Yard.{Yard, size};
+ghost use Rattle.model.specs.Yard.{Yard, size, maxDemand};
 ghost use Rattle.model.specs.Given.{was};
 ghost use Rattle.model.specs.Plan.{choice};
 ghost use Rattle.model.proofs.Step.{need};
@@ -31,7 +31,7 @@ fn passes(demand: i16, other: i16, away: bool) -> bool
 // the demands to foresee where the way leads.
 fn next_beyond(
     t: &[u8; 768],
-    s: &[i16; 1024],
+    s: &[i16; 1280],
     u: usize,
     from: usize,
     most: i16,
@@ -51,7 +51,7 @@ fn next_beyond(
 }
 
 // The child that is served before any other was: from each that is farther from 0 than those before it on to the next, through all children of u.
-fn choose_of_all(t: &[u8; 768], s: &[i16; 1024], u: usize, away: bool) -> usize
+fn choose_of_all(t: &[u8; 768], s: &[i16; 1280], u: usize, away: bool) -> usize
     requires { ⌜ ((y : Yard) × Describes y (now t) (now s) × (u < size y)) ⌝ }
     ensures { λ r. ⌜ ((y : Yard) → Describes y (was t) (was s) → u < size y → r ≡ choice (need y away) y u) ⌝ }
 {
@@ -70,7 +70,7 @@ fn choose_of_all(t: &[u8; 768], s: &[i16; 1024], u: usize, away: bool) -> usize
 }
 
 // The child of u that was served last for a sign, or u itself before one was.
-fn last_served(s: &[i16; 1024], u: usize, away: bool) -> usize
+fn last_served(s: &[i16; 1280], u: usize, away: bool) -> usize
     requires { ⌜ (u < 256) × ((c : ℕ) × (c < 256) × (getD (now s) (lastAt away u) (pos 0) ≡ pos c)) ⌝ }
     ensures { λ r. ⌜ getD (was s) (lastAt away u) (pos 0) ≡ pos r ⌝ }
 {
@@ -82,7 +82,7 @@ fn last_served(s: &[i16; 1024], u: usize, away: bool) -> usize
 
 // A demand, one nearer to 0 on the side of the sign wanted.
 pub fn nearer(demand: i16, away: bool) -> i16
-    requires { ⌜ natAbs demand ≤ 256 ⌝ }
+    requires { ⌜ natAbs demand ≤ maxDemand ⌝ }
     ensures { λ r. ⌜ r ≡ nextℤ away demand ⌝ }
 {
     if away {
@@ -93,7 +93,7 @@ pub fn nearer(demand: i16, away: bool) -> i16
 
 // The child that is served after `last`. Children at the greatest size are served in rising number, and no demand grows: so the next one lies behind it, by
 // what its demand then is; else it is the first that is as far from 0, at most `last` itself.
-fn choose_after(t: &[u8; 768], s: &[i16; 1024], u: usize, last: usize, away: bool) -> usize
+fn choose_after(t: &[u8; 768], s: &[i16; 1280], u: usize, last: usize, away: bool) -> usize
     requires { ⌜ ((y : Yard) × AskedAfter away y (now t) (now s) u last) ⌝ }
     ensures { λ r. ⌜ ((y : Yard) → AskedAfter away y (was t) (was s) u last → r ≡ choice (need y away) y u) ⌝ }
 {
@@ -108,7 +108,7 @@ fn choose_after(t: &[u8; 768], s: &[i16; 1024], u: usize, last: usize, away: boo
 }
 
 // The child of u that is served wherever one is chosen, or u itself if no child has a demand of the sign wanted.
-pub fn choose(t: &[u8; 768], s: &[i16; 1024], u: usize, away: bool) -> usize
+pub fn choose(t: &[u8; 768], s: &[i16; 1280], u: usize, away: bool) -> usize
     requires { ⌜ ((y : Yard) × Describes y (now t) (now s) × (u < size y)) ⌝ }
     ensures { λ r. ⌜ ((y : Yard) → Describes y (was t) (was s) → u < size y → r ≡ choice (need y away) y u) ⌝ }
 {

@@ -60,7 +60,7 @@ module _ (y : Yard) where
   unfolding yardSheet
   rows-all = rw sub-zero
 
-  pub length-yardSheet : 24 + length (rows y 0) ≡ length (yardSheet y)
+  pub length-yardSheet : 30 + length (rows y 0) ≡ length (yardSheet y)
   unfolding header text
   length-yardSheet = sym (length-append header (rows y 0)) ∙ ap length rows-all
 

@@ -11,9 +11,9 @@ pub record Written (word : List ℕ) (at : ℕ) (old : List ℕ) (behind : ℕ) 
   pub list : new ≡ sets old at word
   pub end : behind ≡ at + length word
 
--- three lists of one length
+-- four lists of one length
 abbrev pub SameLength : Yard → Type 0
-SameLength y = (length (y .pebbles) ≡ size y) × (length (y .targets) ≡ size y)
+SameLength y = (length (y .pebbles) ≡ size y) × (length (y .targets) ≡ size y) × (length (y .depths) ≡ size y)
 
 -- room for the moves of a plan of so many bytes: the head has 8, and in a line each byte of a move takes at most 4
 abbrev pub moveLinesRoom : ℕ → ℕ

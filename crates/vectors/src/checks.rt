@@ -9,26 +9,33 @@ use cases::print::tried;
 use checker::check::check;
 use checker::trial::trial;
 
-fn check_plan(line: &[u8], parents: &[u8], pebbles: &[u8], targets: &[u8]) {
-    let mut plan = [0u8; 131072];
-    let plan = entries(field(line, 5), &mut plan);
-    checked(check(parents, pebbles, targets, plan));
+fn check_plan(line: &[u8], parents: &[u8], pebbles: &[u8], targets: &[u8], depths: &[u8]) {
+    let mut plan = [0u8; 262146];
+    let plan = entries(field(line, 6), &mut plan);
+    checked(check(parents, pebbles, targets, depths, plan));
 }
 
 // The answer, and the pebble list after the trial.
-fn try_plan(line: &[u8], parents: &[u8], targets: &[u8]) {
+fn try_plan(line: &[u8], parents: &[u8], targets: &[u8], depths: &[u8]) {
     let mut pebbles = [0u8; 300];
     let pebbles = entries(field(line, 3), &mut pebbles);
-    let mut plan = [0u8; 131072];
-    let plan = entries(field(line, 5), &mut plan);
-    tried(trial(parents, pebbles, targets, plan, short(field(line, 6))));
-    list(b", marks", pebbles);
+    let mut plan = [0u8; 262146];
+    let plan = entries(field(line, 6), &mut plan);
+    tried(trial(
+        parents,
+        pebbles,
+        targets,
+        depths,
+        plan,
+        short(field(line, 7)),
+    ));
+    list(b", pebbles", pebbles);
 }
 
-pub fn case(line: &[u8], parents: &[u8], pebbles: &[u8], targets: &[u8]) -> bool {
-    match kind(line, b"check 5 | trial 6") {
-        0 => check_plan(line, parents, pebbles, targets),
-        1 => try_plan(line, parents, targets),
+pub fn case(line: &[u8], parents: &[u8], pebbles: &[u8], targets: &[u8], depths: &[u8]) -> bool {
+    match kind(line, b"check 6 | trial 7") {
+        0 => check_plan(line, parents, pebbles, targets, depths),
+        1 => try_plan(line, parents, targets, depths),
         _ => return false,
     }
     true

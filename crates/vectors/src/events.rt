@@ -16,11 +16,11 @@ use model::Event;
 
 // An entry, of those that the cases need.
 fn entry(word: &[u8]) -> i16 {
-    if same(word, b"257") {
-        return 257;
+    if same(word, b"2049") {
+        return 2049;
     }
-    if same(word, b"-257") {
-        return -257;
+    if same(word, b"-2049") {
+        return -2049;
     }
     if same(word, b"1") {
         return 1;
@@ -46,22 +46,23 @@ fn put(list: &mut [i16], at: usize, entry: i16) {
 }
 
 // The answer, and the three lists then. The demand list is the yard's, but for one entry.
-fn happen(line: &[u8], parents: &[u8], event: Event) {
+fn happen(line: &[u8], parents: &[u8], depths: &[u8], event: Event) {
     let mut pebbles = [0u8; 300];
     let mut targets = [0u8; 300];
     let mut account = [0i16; 300];
     let pebbles = entries(field(line, 3), &mut pebbles);
     let targets = entries(field(line, 4), &mut targets);
-    let account = signed_part(field(line, 6), &mut account);
-    demands(parents, pebbles, targets, account);
-    put(account, value(field(line, 7)), entry(field(line, 8)));
+    let account = signed_part(field(line, 7), &mut account);
+    demands(parents, pebbles, targets, depths, account);
+    put(account, value(field(line, 8)), entry(field(line, 9)));
     done(event_at(
         parents,
         pebbles,
         targets,
+        depths,
         account,
         event,
-        value(field(line, 5)),
+        value(field(line, 6)),
     ));
     list(b", pebbles", pebbles);
     list(b", targets", targets);
@@ -78,10 +79,10 @@ fn named(which: usize) -> Event {
     }
 }
 
-pub fn case(line: &[u8], parents: &[u8]) -> bool {
-    let which = kind(line, b"arrives 8 | leaves 8 | set 8 | cleared 8");
+pub fn case(line: &[u8], parents: &[u8], depths: &[u8]) -> bool {
+    let which = kind(line, b"arrives 9 | leaves 9 | set 9 | cleared 9");
     if which < NONE {
-        happen(line, parents, named(which));
+        happen(line, parents, depths, named(which));
         return true;
     }
     false

@@ -24,30 +24,32 @@ use cases::print::end;
 use cases::print::label;
 use yard::state::Yard;
 
-// A case on three lists: each module is asked whether it is one of its own.
-fn on_lists(line: &[u8], parents: &[u8], pebbles: &[u8], targets: &[u8]) {
-    let known = yards::case(line, parents, pebbles, targets)
-        | demands::case(line, parents, pebbles, targets)
-        | events::case(line, parents)
-        | distances::case(line, parents, pebbles, targets)
-        | plans::case(line, parents, pebbles, targets)
-        | checks::case(line, parents, pebbles, targets)
-        | steps::case(line, parents, targets)
-        | writes::case(line, parents, pebbles, targets);
+// A case on four lists: each module is asked whether it is one of its own.
+fn on_lists(line: &[u8], parents: &[u8], pebbles: &[u8], targets: &[u8], depths: &[u8]) {
+    let known = yards::case(line, parents, pebbles, targets, depths)
+        | demands::case(line, parents, pebbles, targets, depths)
+        | events::case(line, parents, depths)
+        | distances::case(line, parents, pebbles, targets, depths)
+        | plans::case(line, parents, pebbles, targets, depths)
+        | checks::case(line, parents, pebbles, targets, depths)
+        | steps::case(line, parents, targets, depths)
+        | writes::case(line, parents, pebbles, targets, depths);
     if !known {
         bad(line);
     }
 }
 
-// A case whose fields behind the label begin with a yard's three lists.
+// A case whose fields behind the label begin with a yard's four lists.
 fn with_lists(line: &[u8]) {
     let mut parents = [0u8; 300];
     let mut pebbles = [0u8; 300];
     let mut targets = [0u8; 300];
+    let mut depths = [0u8; 300];
     let parents = entries(field(line, 2), &mut parents);
     let pebbles = entries(field(line, 3), &mut pebbles);
     let targets = entries(field(line, 4), &mut targets);
-    on_lists(line, parents, pebbles, targets);
+    let depths = entries(field(line, 5), &mut depths);
+    on_lists(line, parents, pebbles, targets, depths);
 }
 
 // A case, with the yard state of the case before it; the state after it.

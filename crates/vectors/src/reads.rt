@@ -45,10 +45,12 @@ fn read_small(line: &[u8]) {
     let mut parents = [7u8; 256];
     let mut pebbles = [7u8; 256];
     let mut targets = [7u8; 256];
-    counted(read_sheet(sheet, &mut parents, &mut pebbles, &mut targets));
+    let mut depths = [7u8; 256];
+    counted(read_sheet(sheet, &mut parents, &mut pebbles, &mut targets, &mut depths));
     first(b", parents", &parents, 4);
     first(b", pebbles", &pebbles, 4);
     first(b", targets", &targets, 4);
+    first(b", depths", &depths, 4);
 }
 
 // The answer for lists as long as the fields say.
@@ -58,14 +60,16 @@ fn read_to_lists(line: &[u8]) {
     let mut parents = [0u8; 300];
     let mut pebbles = [0u8; 300];
     let mut targets = [0u8; 300];
+    let mut depths = [0u8; 300];
     let parents = part(field(line, 3), &mut parents);
     let pebbles = part(field(line, 4), &mut pebbles);
     let targets = part(field(line, 5), &mut targets);
-    counted(read_sheet(sheet, parents, pebbles, targets));
+    let depths = part(field(line, 6), &mut depths);
+    counted(read_sheet(sheet, parents, pebbles, targets, depths));
 }
 
 pub fn case(line: &[u8]) -> bool {
-    match kind(line, b"read 2 | lists 5") {
+    match kind(line, b"read 2 | lists 6") {
         0 => read_small(line),
         1 => read_to_lists(line),
         _ => return false,

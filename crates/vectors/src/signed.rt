@@ -15,13 +15,13 @@ pub fn signed_part<'a>(digits: &[u8], list: &'a mut [i16]) -> &'a mut [i16] {
     list
 }
 
-// A number's size, and 999 for a number outside −256 to 256, which no demand is.
+// A number's size, and 9,999 for a number outside −2,048 to 2,048, which no demand is.
 fn magnitude(x: i16) -> usize {
-    if x < -256 {
-        return 999;
+    if x < -2048 {
+        return 9999;
     }
-    if x > 256 {
-        return 999;
+    if x > 2048 {
+        return 9999;
     }
     size(x)
 }

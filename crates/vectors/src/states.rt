@@ -1,4 +1,4 @@
-// Yard states, and pushes of them. What is told ends with the size and the first four pebble marks of the yard that came back.
+// Yard states, and pushes of them. What is told ends with the size and the first four pebbles of the yard that came back.
 use cases::kinds::kind;
 use cases::lines::field;
 use cases::lists::entries;
@@ -15,7 +15,7 @@ fn show(a: Answered) -> Yard {
     let pebbles = yard.pebbles;
     done(answer);
     figure(b", size ", yard.size);
-    first(b" marks", &pebbles, 4);
+    first(b" pebbles", &pebbles, 4);
     yard
 }
 
@@ -31,10 +31,12 @@ fn made(line: &[u8]) -> Yard {
     let mut parents = [0u8; 300];
     let mut pebbles = [0u8; 300];
     let mut targets = [0u8; 300];
+    let mut depths = [0u8; 300];
     let parents = entries(field(line, 2), &mut parents);
     let pebbles = entries(field(line, 3), &mut pebbles);
     let targets = entries(field(line, 4), &mut targets);
-    show(Yard::from_lists(parents, pebbles, targets))
+    let depths = entries(field(line, 5), &mut depths);
+    show(Yard::from_lists(parents, pebbles, targets, depths))
 }
 
 // A state as it stands in the fields, with zeros behind each list.
@@ -42,21 +44,24 @@ fn state(line: &[u8]) -> Yard {
     let mut parents = [0u8; 256];
     let mut pebbles = [0u8; 256];
     let mut targets = [0u8; 256];
+    let mut depths = [0u8; 256];
     entries(field(line, 2), &mut parents);
     entries(field(line, 3), &mut pebbles);
     entries(field(line, 4), &mut targets);
-    let size = value(field(line, 5));
+    entries(field(line, 5), &mut depths);
+    let size = value(field(line, 6));
     Yard {
         parents,
         pebbles,
         targets,
+        depths,
         size,
     }
 }
 
 // Which of the kinds of a state a case is of.
 pub fn state_kind(line: &[u8]) -> usize {
-    kind(line, b"fresh 3 | made 4 | then 3 | state 7")
+    kind(line, b"fresh 3 | made 5 | then 3 | state 8")
 }
 
 // A case of such a kind, with the yard before it; the yard that came back.
@@ -65,6 +70,6 @@ pub fn case(line: &[u8], which: usize, yard: Yard) -> Yard {
         0 => push_state(line, Yard::new(), 2, 3),
         1 => made(line),
         2 => push_state(line, yard, 2, 3),
-        _ => push_state(line, state(line), 6, 7),
+        _ => push_state(line, state(line), 7, 8),
     }
 }

@@ -1,13 +1,12 @@
--- The tests of a move, and a push of three lists by them.
-use mathlib.Core.Path.{_≡_, refl, sym, ap, _∙_}
+-- The tests of a move, and a push of four lists by them.
+use mathlib.Core.Path.{_≡_, refl, sym, _∙_}
 use mathlib.Core.Bool.{Bool, true, false, not, cond, _&&_}
 use mathlib.Core.List.{List, [], _∷_}
 use mathlib.Core.Option.{Option, none, some}
-use Prim.Native.Nat.{ℕ, _<_}
+use Prim.Native.Nat.{ℕ}
 use native.Mathlib.Omega.{arith}
-use lib.ListN.{getD}
-use lib.Dec.{ltb, eqb}
-use borrow.Author.Tests.{lt-ltb, ne-eqb}
+use lib.Dec.{ltb}
+use borrow.Author.Tests.{lt-ltb}
 use Rattle.model.specs.Yard.{Yard, yardOf, size, held, full}
 use Rattle.model.specs.Judge.{Fault, fault, firstOf, unless, judge, Tree}
 use Rattle.model.specs.Push.{Move, adjacent, moveTests, moveFault, pushFault, isNone, legal, shifted, pushedPebbles}
@@ -34,30 +33,27 @@ pub last-met : (b : Bool) (n p : ℕ) → isNone (firstOf (unless b (fault n p) 
 last-met true n p e = cc
 last-met false n p e = refl
 
--- a node whose count is not 0 holds a pebble; it differs from one that holds none
+-- a node whose count is not 0 holds a pebble
 pub holds : (n : ℕ) → (n ≡ 0 → ⊥) → ltb 0 n ≡ true
 holds n h = lt-ltb 0 n (omega arith)
-
-pub apart : (qs : List ℕ) (a b : ℕ) → (getD qs a 0 ≡ 0 → ⊥) → getD qs b 0 < 1 → eqb a b ≡ false
-apart qs a b h k = ne-eqb a b (λ e. h (omega (arith, k, ap (λ (i : ℕ). getD qs i 0) e)))
 
 -- a push of lists that refusals 1 to 6 meet, and of lists that they do not: then the move's own tests, which read no targets, decide
 pub push-refused : (y : Yard) (m : Move) {f : Fault} → judge y ≡ some f → pushFault y m ≡ some f
 unfolding pushFault
 push-refused y m e = rw e
 
-push-tree : (ps qs ts : List ℕ) (m : Move) → judge (yardOf ps qs ts) ≡ none → pushFault (yardOf ps qs ts) m ≡ moveFault (yardOf ps qs []) m 0
+push-tree : (ps qs ts ds : List ℕ) (m : Move) → judge (yardOf ps qs ts ds) ≡ none → pushFault (yardOf ps qs ts ds) m ≡ moveFault (yardOf ps qs [] ds) m 0
 unfolding pushFault moveFault
-push-tree ps qs ts m e = rw e (first-join (moveTests (yardOf ps qs ts) m 0) [])
+push-tree ps qs ts ds m e = rw e (first-join (moveTests (yardOf ps qs ts ds) m 0) [])
 
 -- and so a step with place 0 is a push
 lent-cond : (f : Option Fault) (new old : List ℕ) → lent f new old ≡ cond (isNone f) new old
 lent-cond none new old = refl
 lent-cond (some f) new old = refl
 
-pub step-push : (ps qs ts : List ℕ) (m : Move) → Tree (yardOf ps qs ts) → {a : Option Fault} {rs : List ℕ}
-    → a ≡ moveFault (yardOf ps qs []) m 0 → rs ≡ lent a (shifted qs m) qs → (a ≡ pushFault (yardOf ps qs ts) m) × (rs ≡ pushedPebbles (yardOf ps qs ts) m)
+pub step-push : (ps qs ts ds : List ℕ) (m : Move) → Tree (yardOf ps qs ts ds) → {a : Option Fault} {rs : List ℕ}
+    → a ≡ moveFault (yardOf ps qs [] ds) m 0 → rs ≡ lent a (shifted qs m) qs → (a ≡ pushFault (yardOf ps qs ts ds) m) × (rs ≡ pushedPebbles (yardOf ps qs ts ds) m)
 unfolding legal
-step-push ps qs ts m t e k =
-    let f = e ∙ sym (push-tree ps qs ts m t) in
-    (f, k ∙ rw f (lent-cond (pushFault (yardOf ps qs ts) m) (shifted qs m) qs))
+step-push ps qs ts ds m t e k =
+    let f = e ∙ sym (push-tree ps qs ts ds m t) in
+    (f, k ∙ rw f (lent-cond (pushFault (yardOf ps qs ts ds) m) (shifted qs m) qs))

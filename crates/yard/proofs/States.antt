@@ -10,7 +10,7 @@ use lib.ListN.{length, take, drop, replicate, take-append-drop, length-set, leng
 use lib.Seq.{length-take-le, take-append-le, take-at}
 use lib.Dec.{leb, ltb}
 use borrow.Author.Tests.{lt-ltb, lt-leb, eq-eqb}
-use Rattle.model.specs.Yard.{Yard, yardOf, size, maxSize, parent, pebble, target, capacity, below, roots, root, climbs}
+use Rattle.model.specs.Yard.{Yard, yardOf, size, maxSize, maxDepth, parent, pebble, target, capacity, below, roots, root, climbs}
 use Rattle.model.specs.Yard as Y
 use Rattle.model.specs.Judge.{Fault, fault, lengthFault, rootFault, tests, judge, Tree}
 use Rattle.model.specs.Push.{Move, moveFault, pushFault, isNone, legal, shifted, pushedPebbles, pushed, after, run, accepted}
@@ -55,24 +55,24 @@ padded-back n list e h = rw (padded-room maxSize list (omega arith)) (padded-fro
 yardIn-of : (y : Yard) → Tree y → yardIn (stateOf y) ≡ y
 yardIn-of y t =
     let f = facts y t in
-    rw (padded-back (size y) (y .parents) refl (f .few .1), padded-back (size y) (y .pebbles) (f .pebbles-size) (f .few .1), padded-back (size y) (y .targets) (f .targets-size) (f .few .1))
+    rw (padded-back (size y) (y .parents) refl (f .few .1), padded-back (size y) (y .pebbles) (f .pebbles-size) (f .few .1), padded-back (size y) (y .targets) (f .targets-size) (f .few .1), padded-back (size y) (y .depths) (f .depths-size) (f .few .1))
 
-pub made : (y : Yard) → Tree y → {ps qs ts : List ℕ} → ps ≡ padded maxSize (y .parents) → qs ≡ padded maxSize (y .pebbles) → ts ≡ padded maxSize (y .targets)
-    → (yardIn (record { parents = ps; pebbles = qs; targets = ts; size = size y }) ≡ y) × (record { parents = ps; pebbles = qs; targets = ts; size = size y } ≡ stateOf y)
-made y t p q r = rw (p, q, r) (yardIn-of y t, refl)
+pub made : (y : Yard) → Tree y → {ps qs ts ds : List ℕ} → ps ≡ padded maxSize (y .parents) → qs ≡ padded maxSize (y .pebbles) → ts ≡ padded maxSize (y .targets) → ds ≡ padded maxSize (y .depths)
+    → (yardIn (record { parents = ps; pebbles = qs; targets = ts; depths = ds; size = size y }) ≡ y) × (record { parents = ps; pebbles = qs; targets = ts; depths = ds; size = size y } ≡ stateOf y)
+made y t p q r d = rw (p, q, r, d) (yardIn-of y t, refl)
 
 pub yardIn-large : (s : State) → maxSize < s .size → judge (yardIn s) ≡ fault 1 0
 unfolding judge
 yardIn-large s h = rw (length-padded (s .size) (s .parents), lt-ltb 0 (s .size) (omega arith), lt-leb (s .size) maxSize h)
 
 abbrev pub Roomy : State → Type 0
-Roomy s = (s .size ≤ length (s .parents)) × (s .size ≤ length (s .pebbles)) × (s .size ≤ length (s .targets))
+Roomy s = (s .size ≤ length (s .parents)) × (s .size ≤ length (s .pebbles)) × (s .size ≤ length (s .targets)) × (s .size ≤ length (s .depths))
 
 abbrev pub front : State → Yard
-front s = yardOf (take (s .size) (s .parents)) (take (s .size) (s .pebbles)) (take (s .size) (s .targets))
+front s = yardOf (take (s .size) (s .parents)) (take (s .size) (s .pebbles)) (take (s .size) (s .targets)) (take (s .size) (s .depths))
 
 pub yardIn-front : (s : State) → Roomy s → yardIn s ≡ front s
-yardIn-front s h = rw (padded-cut (s .size) (s .parents) (h .0), padded-cut (s .size) (s .pebbles) (h .1), padded-cut (s .size) (s .targets) (h .2))
+yardIn-front s h = rw (padded-cut (s .size) (s .parents) (h .0), padded-cut (s .size) (s .pebbles) (h .1), padded-cut (s .size) (s .targets) (h .2), padded-cut (s .size) (s .depths) (h .3))
 
 -- stateAfter
 length-shifted : (qs : List ℕ) (m : Move) → length (shifted qs m) ≡ length qs
@@ -91,13 +91,13 @@ yardIn-after s m = go (legal (yardIn s) m)
 
 -- what a push leaves in the first entries of the array, said of the state
 pub front-pushed : (s : State) → Roomy s → (m : Move) (pebbles : List ℕ) → pebbles ≡ pushedPebbles (front s) m
-    → record { parents = s .parents; pebbles = pebbles ++ drop (s .size) (s .pebbles); targets = s .targets; size = s .size } ≡ stateAfter s m
+    → record { parents = s .parents; pebbles = pebbles ++ drop (s .size) (s .pebbles); targets = s .targets; depths = s .depths; size = s .size } ≡ stateAfter s m
 front-pushed s h m pebbles e = rw (e, yardIn-front s h, padded-cut (s .size) (s .pebbles) (h .1)) (go (legal (front s) m))
   where
     qs : List ℕ
     qs = take (s .size) (s .pebbles)
 
-    go : (b : Bool) → record { parents = s .parents; pebbles = cond b (shifted qs m) qs ++ drop (s .size) (s .pebbles); targets = s .targets; size = s .size } ≡ cond b (holding s (shifted qs m)) s
+    go : (b : Bool) → record { parents = s .parents; pebbles = cond b (shifted qs m) qs ++ drop (s .size) (s .pebbles); targets = s .targets; depths = s .depths; size = s .size } ≡ cond b (holding s (shifted qs m)) s
     go true = rw (length-shifted qs m, length-take-le (s .size) (s .pebbles) (h .1))
     go false = rw (take-append-drop (s .size) (s .pebbles))
 
@@ -136,12 +136,15 @@ judge-other y e = other-first 2 (tests y) (
   (
     rw e (other-none 2),
     (
-      other-lowest 2 3 (omega arith) (below (size y) (λ v. ltb (capacity y v) (pebble y v))),
+      other-lowest 2 26 (omega arith) (below (size y) (λ v. not ((ltb 0 (capacity y v)) && (leb (capacity y v) maxDepth)))),
       (
-        other-lowest 2 3 (omega arith) (below (size y) (λ v. ltb (capacity y v) (target y v))),
+        other-lowest 2 27 (omega arith) (below (size y) (λ v. ltb (capacity y v) (pebble y v))),
         (
-          other-lowest 2 4 (omega arith) (below (size y) (λ v. leb (size y) (parent y v))),
-          (root-other (roots (y .parents)), (other-lowest 2 6 (omega arith) (below (size y) (λ v. not (climbs (size y) (y .parents) v (root y)))), tt)),
+          other-lowest 2 27 (omega arith) (below (size y) (λ v. ltb (capacity y v) (target y v))),
+          (
+            other-lowest 2 4 (omega arith) (below (size y) (λ v. leb (size y) (parent y v))),
+            (root-other (roots (y .parents)), (other-lowest 2 6 (omega arith) (below (size y) (λ v. not (climbs (size y) (y .parents) v (root y)))), tt)),
+          ),
         ),
       ),
     ),
@@ -151,6 +154,6 @@ judge-other y e = other-first 2 (tests y) (
 pub state-never-2 : (s : State) (m : Move) → Other 2 (pushFault (yardIn s) m)
 unfolding pushFault movesFault
 state-never-2 s m = other-first 2 (judge (yardIn s) ∷ moveFault (yardIn s) m 0 ∷ []) (
-  judge-other (yardIn s) (rw (length-padded (s .size) (s .parents), length-padded (s .size) (s .pebbles), length-padded (s .size) (s .targets), eq-eqb (s .size) (s .size) refl)),
+  judge-other (yardIn s) (rw (length-padded (s .size) (s .parents), length-padded (s .size) (s .pebbles), length-padded (s .size) (s .targets), length-padded (s .size) (s .depths), eq-eqb (s .size) (s .size) refl)),
   ((λ p e. other-moves 2 (omega arith) (m ∷ []) 0 (yardIn s) p (rw e)), tt),
 )

@@ -1,3 +1,3 @@
--- Definitions that the contracts cite: two lent lists as a yard, and the yard state.
+-- Definitions that the contracts cite: three lent lists as a yard, and the yard state.
 pub mod Given
 pub mod State

@@ -1,4 +1,4 @@
-// One push of three lists.
+// One push of four lists.
 ghost use mathlib.Core.Path.{_≡_};
 ghost use Rattle.model.specs.Given.{given, became};
 ghost use Rattle.model.specs.Push.{push, pushFault, pushedPebbles};
@@ -12,15 +12,16 @@ pub fn push_lists(
     parents: &[u8],
     pebbles: &mut [u8],
     targets: &[u8],
+    depths: &[u8],
     from: usize,
     to: usize,
 ) -> Done
-    ensures { λ r. ⌜ paperDone r ≡ pushFault (given parents pebbles targets) (push from to) ⌝ }
-    ensures { λ r. ⌜ became pebbles ≡ pushedPebbles (given parents pebbles targets) (push from to) ⌝ }
+    ensures { λ r. ⌜ paperDone r ≡ pushFault (given parents pebbles targets depths) (push from to) ⌝ }
+    ensures { λ r. ⌜ became pebbles ≡ pushedPebbles (given parents pebbles targets depths) (push from to) ⌝ }
 {
-    let tested = test_yard(parents, pebbles, targets);
+    let tested = test_yard(parents, pebbles, targets, depths);
     if let Done::Refused(r) = tested {
         return Done::Refused(r);
     }
-    step(parents, pebbles, from, to, 0)
+    step(parents, pebbles, depths, from, to, 0)
 }

@@ -19,6 +19,7 @@ pub struct Yard {
     pub parents: [u8; Yard::MAX],
     pub pebbles: [u8; Yard::MAX],
     pub targets: [u8; Yard::MAX],
+    pub depths: [u8; Yard::MAX],
     pub size: usize,
 }
 
@@ -46,28 +47,31 @@ impl Yard {
     // The largest yard.
     pub const MAX: usize = 256;
 
-    // A fresh yard: one node, its own parent, with no pebble and no target. The last clause says that MAX is the definition's largest yard: so
+    // A fresh yard: one node, its own parent, of depth 1, with no pebble and no target. The last clause says that MAX is the definition's largest yard: so
     // many entries the arrays have.
     pub fn new() -> Yard
         ensures { λ r. ⌜ yardIn r ≡ fresh ⌝ }
         ensures { λ r. ⌜ r ≡ stateOf fresh ⌝ }
         ensures { λ r. ⌜ length (r .parents) ≡ maxSize ⌝ }
     {
+        let mut depths = [0u8; Yard::MAX];
+        depths[0] = 1;
         Yard {
             parents: [0u8; Yard::MAX],
             pebbles: [0u8; Yard::MAX],
             targets: [0u8; Yard::MAX],
+            depths,
             size: 1,
         }
     }
 
-    // The yard of three lists; refused as they are (1 to 6), a fresh one. The last clause says what lies behind its nodes too: zeros.
-    pub fn from_lists(parents: &[u8], pebbles: &[u8], targets: &[u8]) -> Answered
-        ensures { λ r. ⌜ paperDone (r .answer) ≡ judge (given parents pebbles targets) ⌝ }
-        ensures { λ r. ⌜ yardIn (r .yard) ≡ orFresh (given parents pebbles targets) ⌝ }
-        ensures { λ r. ⌜ r .yard ≡ stateOf (orFresh (given parents pebbles targets)) ⌝ }
+    // The yard of four lists; refused as they are (1 to 6), a fresh one. The last clause says what lies behind its nodes too: zeros.
+    pub fn from_lists(parents: &[u8], pebbles: &[u8], targets: &[u8], depths: &[u8]) -> Answered
+        ensures { λ r. ⌜ paperDone (r .answer) ≡ judge (given parents pebbles targets depths) ⌝ }
+        ensures { λ r. ⌜ yardIn (r .yard) ≡ orFresh (given parents pebbles targets depths) ⌝ }
+        ensures { λ r. ⌜ r .yard ≡ stateOf (orFresh (given parents pebbles targets depths)) ⌝ }
     {
-        let answer = test_yard(parents, pebbles, targets);
+        let answer = test_yard(parents, pebbles, targets, depths);
         if let Done::Refused(r) = answer {
             return Answered {
                 yard: Yard::new(),
@@ -79,13 +83,14 @@ impl Yard {
                 parents: padded(parents),
                 pebbles: padded(pebbles),
                 targets: padded(targets),
+                depths: padded(depths),
                 size: parents.len(),
             },
             answer: Done::Accepted,
         }
     }
 
-    // One push: refusals 1 and 3 to 6, then 10 to 13 with place 0; refused, the yard comes back unchanged. The yard is the definition's; what lies
+    // One push: refusals 1, 26, 27, 4 to 6, then 10 to 13 with place 0; refused, the yard comes back unchanged. The yard is the definition's; what lies
     // behind its nodes stays (the last clause). States pushed one by one: proofs/States.antt.
     pub fn push(self, from: usize, to: usize) -> Answered
         ensures { λ r. ⌜ paperDone (r .answer) ≡ pushFault (yardIn self) (push from to) ⌝ }
@@ -102,10 +107,12 @@ impl Yard {
         let parents = self.parents;
         let mut pebbles = self.pebbles;
         let targets = self.targets;
+        let depths = self.depths;
         let answer = push_lists(
             &parents[..size],
             &mut pebbles[..size],
             &targets[..size],
+            &depths[..size],
             from,
             to,
         );
@@ -114,6 +121,7 @@ impl Yard {
                 parents,
                 pebbles,
                 targets,
+                depths,
                 size,
             },
             answer,

@@ -11,14 +11,14 @@ ghost use Rattle.model.specs.Push as Push;
 ghost use Rattle.model.specs.Push.{push, moveFault, isNone, shifted};
 ghost use Rattle.model.specs.Calls.Answers.{lent};
 ghost use Rattle.model.specs.Paper.{paper, paperDone};
-ghost use Rattle.yard.specs.Given.{givenBare, handedBare};
+ghost use Rattle.yard.specs.Given.{givenBare, handedBare, Alike};
 use model::Done;
 use model::Refusal;
 
 // Whether one of two nodes is the other's parent, and they differ.
 fn adjacent(parents: &[u8], a: usize, b: usize) -> bool
     requires { ⌜ (a < length (now parents)) × (b < length (now parents)) ⌝ }
-    ensures { λ r. ⌜ r ≡ Push.adjacent (yardOf (was parents) [] []) a b ⌝ }
+    ensures { λ r. ⌜ r ≡ Push.adjacent (yardOf (was parents) [] [] []) a b ⌝ }
 {
     if a == b {
         return false;
@@ -29,11 +29,10 @@ fn adjacent(parents: &[u8], a: usize, b: usize) -> bool
     parents[b] as usize == a
 }
 
-// Whether none of refusals 10 to 13 meets the move from `from` to `to`. That the nodes differ need not be tested: one holds a pebble, the
-// other none.
-fn free(parents: &[u8], pebbles: &[u8], from: usize, to: usize) -> bool
-    requires { ⌜ length (now pebbles) ≡ length (now parents) ⌝ }
-    ensures { λ r. ⌜ ((place : ℕ) → r ≡ isNone (moveFault (givenBare parents pebbles) (push from to) place)) ⌝ }
+// Whether none of refusals 10 to 13 meets the move from `from` to `to`.
+fn free(parents: &[u8], pebbles: &[u8], depths: &[u8], from: usize, to: usize) -> bool
+    requires { ⌜ Alike parents pebbles depths ⌝ }
+    ensures { λ r. ⌜ ((place : ℕ) → r ≡ isNone (moveFault (givenBare parents pebbles depths) (push from to) place)) ⌝ }
 {
     let n = parents.len();
     if n <= from {
@@ -45,7 +44,10 @@ fn free(parents: &[u8], pebbles: &[u8], from: usize, to: usize) -> bool
     if pebbles[from] == 0 {
         return false;
     }
-    if pebbles[to] >= 1 {
+    if pebbles[to] >= depths[to] {
+        return false;
+    }
+    if from == to {
         return false;
     }
     if parents[from] as usize == to {
@@ -55,10 +57,17 @@ fn free(parents: &[u8], pebbles: &[u8], from: usize, to: usize) -> bool
 }
 
 // Which of refusals 10 to 13 meets a move first, where one does.
-fn fault(parents: &[u8], pebbles: &[u8], from: usize, to: usize, place: usize) -> Refusal
-    requires { ⌜ length (now pebbles) ≡ length (now parents) ⌝ }
-    requires { ⌜ isNone (moveFault (handedBare parents pebbles) (push from to) place) ≡ false ⌝ }
-    ensures { λ r. ⌜ moveFault (givenBare parents pebbles) (push from to) place ≡ some (paper r) ⌝ }
+fn fault(
+    parents: &[u8],
+    pebbles: &[u8],
+    depths: &[u8],
+    from: usize,
+    to: usize,
+    place: usize,
+) -> Refusal
+    requires { ⌜ Alike parents pebbles depths ⌝ }
+    requires { ⌜ isNone (moveFault (handedBare parents pebbles depths) (push from to) place) ≡ false ⌝ }
+    ensures { λ r. ⌜ moveFault (givenBare parents pebbles depths) (push from to) place ≡ some (paper r) ⌝ }
 {
     let n = parents.len();
     if n <= from {
@@ -77,25 +86,39 @@ fn fault(parents: &[u8], pebbles: &[u8], from: usize, to: usize, place: usize) -
 }
 
 // Judges the move from `from` to `to` by refusals 10 to 13, with `place` as their place.
-pub fn test_move(parents: &[u8], pebbles: &[u8], from: usize, to: usize, place: usize) -> Done
-    requires { ⌜ length (now pebbles) ≡ length (now parents) ⌝ }
-    ensures { λ r. ⌜ paperDone r ≡ moveFault (givenBare parents pebbles) (push from to) place ⌝ }
+pub fn test_move(
+    parents: &[u8],
+    pebbles: &[u8],
+    depths: &[u8],
+    from: usize,
+    to: usize,
+    place: usize,
+) -> Done
+    requires { ⌜ Alike parents pebbles depths ⌝ }
+    ensures { λ r. ⌜ paperDone r ≡ moveFault (givenBare parents pebbles depths) (push from to) place ⌝ }
 {
-    if !free(parents, pebbles, from, to) {
-        return Done::Refused(fault(parents, pebbles, from, to, place));
+    if !free(parents, pebbles, depths, from, to) {
+        return Done::Refused(fault(parents, pebbles, depths, from, to, place));
     }
     Done::Accepted
 }
 
 // Judges a move likewise, and makes it if none meets it; a refusal leaves the
 // pebbles as they were. (Refusals 10 to 13 do not look at targets.)
-pub fn step(parents: &[u8], pebbles: &mut [u8], from: usize, to: usize, place: usize) -> Done
-    requires { ⌜ length (now pebbles) ≡ length (now parents) ⌝ }
-    ensures { λ r. ⌜ paperDone r ≡ moveFault (givenBare parents pebbles) (push from to) place ⌝ }
+pub fn step(
+    parents: &[u8],
+    pebbles: &mut [u8],
+    depths: &[u8],
+    from: usize,
+    to: usize,
+    place: usize,
+) -> Done
+    requires { ⌜ Alike parents pebbles depths ⌝ }
+    ensures { λ r. ⌜ paperDone r ≡ moveFault (givenBare parents pebbles depths) (push from to) place ⌝ }
     ensures { λ r. ⌜ became pebbles ≡ lent (paperDone r) (shifted (was pebbles) (push from to)) (was pebbles) ⌝ }
 {
-    if !free(parents, pebbles, from, to) {
-        return Done::Refused(fault(parents, pebbles, from, to, place));
+    if !free(parents, pebbles, depths, from, to) {
+        return Done::Refused(fault(parents, pebbles, depths, from, to, place));
     }
     let first = pebbles[from];
     let second = pebbles[to];

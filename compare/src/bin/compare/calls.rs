@@ -37,9 +37,9 @@ impl<'a> Inputs<'a> {
 
 impl fmt::Display for Inputs<'_> {
     fn fmt(&self, f: &mut fmt::Formatter) -> fmt::Result {
-        let Yard { parents, pebbles, targets } = self.yard;
+        let Yard { parents, pebbles, targets, depths } = self.yard;
         writeln!(f, "call {}, numbers {:?}", self.call, self.numbers)?;
-        writeln!(f, "parents {parents:?}\npebbles {pebbles:?}\ntargets {targets:?}")?;
+        writeln!(f, "parents {parents:?}\npebbles {pebbles:?}\ntargets {targets:?}\ndepths {depths:?}")?;
         if self.call.ends_with("sheet") {
             writeln!(f, "sheet \"{}\"", self.bytes.escape_ascii())
         } else {
@@ -83,9 +83,9 @@ pub fn watch_pages() {
 }
 
 /// The number of the last refusal in the papers.
-pub const LAST_REFUSAL: usize = 25;
-/// The one that no input meets any more (request 2.8).
-pub const UNUSED_REFUSAL: usize = 21;
+pub const LAST_REFUSAL: usize = 27;
+/// Those that no input meets any more (requests 2.10 and 2.8).
+pub const UNUSED_REFUSALS: [usize; 2] = [3, 21];
 
 /// Calls both sides; counts the calls, and how often each refusal was met.
 pub struct Caller {
@@ -94,18 +94,19 @@ pub struct Caller {
     pub refusals: [Cell<u64>; LAST_REFUSAL + 1],
 }
 
-/// A yard's three lists on loan.
+/// A yard's four lists on loan.
 struct LentYard<'a> {
     parents: Lent<'a, u8>,
     pebbles: Lent<'a, u8>,
     targets: Lent<'a, u8>,
+    depths: Lent<'a, u8>,
 }
 
 impl LentYard<'_> {
     fn wrong(&self, expected: &Yard) -> Option<String> {
-        let Yard { parents, pebbles, targets } = expected;
+        let Yard { parents, pebbles, targets, depths } = expected;
         let wrong = self.parents.wrong("parents", parents).or_else(|| self.pebbles.wrong("pebbles", pebbles));
-        wrong.or_else(|| self.targets.wrong("targets", targets))
+        wrong.or_else(|| self.targets.wrong("targets", targets)).or_else(|| self.depths.wrong("depths", depths))
     }
 }
 
@@ -124,7 +125,8 @@ impl Caller {
     }
 
     fn lend(&self, yard: &Yard) -> LentYard<'_> {
-        LentYard { parents: self.lender.lend(&yard.parents), pebbles: self.lender.lend(&yard.pebbles), targets: self.lender.lend(&yard.targets) }
+        let [parents, pebbles, targets, depths] = [&yard.parents, &yard.pebbles, &yard.targets, &yard.depths].map(|list| self.lender.lend(list));
+        LentYard { parents, pebbles, targets, depths }
     }
 
     /// Compares a call's answers; `wrong` tells what is amiss with the lent lists.
@@ -155,9 +157,9 @@ impl Caller {
     pub fn test_yard(&self, yard: &Yard) -> Same {
         let inputs = Inputs::of("test_yard", yard);
         let lent = self.lend(yard);
-        let got = during(&inputs, || library::test_yard(lent.parents.list(), lent.pebbles.list(), lent.targets.list()));
+        let got = during(&inputs, || library::test_yard(lent.parents.list(), lent.pebbles.list(), lent.targets.list(), lent.depths.list()));
         let expected = yard::judge(yard);
-        quick(&inputs, fast::test_yard(&yard.parents, &yard.pebbles, &yard.targets), &expected)?;
+        quick(&inputs, fast::test_yard(&yard.parents, &yard.pebbles, &yard.targets, &yard.depths), &expected)?;
         self.same(&inputs, got, expected, lent.wrong(yard))
     }
 
@@ -167,7 +169,8 @@ impl Caller {
         let before: Vec<i16> = (0..length).map(|at| 20_000 + at as i16).collect();
         let lent = self.lend(yard);
         let mut list = self.lender.lend(&before);
-        let got = during(&inputs, || library::demands(lent.parents.list(), lent.pebbles.list(), lent.targets.list(), list.list_mut()));
+        let got =
+            during(&inputs, || library::demands(lent.parents.list(), lent.pebbles.list(), lent.targets.list(), lent.depths.list(), list.list_mut()));
         let expected = demands::list(yard, length);
         if expected.is_ok() && !demands::meets_equation_2(yard, list.list()) {
             return Err(format!("{inputs}what the library wrote does not meet equation 2"));
@@ -182,9 +185,11 @@ impl Caller {
         let before = [1_234_567];
         let lent = self.lend(yard);
         let mut bytes = self.lender.lend(&before);
-        let got = during(&inputs, || library::length_bound(lent.parents.list(), lent.pebbles.list(), lent.targets.list(), &mut bytes.list_mut()[0]));
+        let got = during(&inputs, || {
+            library::length_bound(lent.parents.list(), lent.pebbles.list(), lent.targets.list(), lent.depths.list(), &mut bytes.list_mut()[0])
+        });
         let expected = figures::length_bound(yard);
-        quick(&inputs, fast::length_bound(&yard.parents, &yard.pebbles, &yard.targets), &expected)?;
+        quick(&inputs, fast::length_bound(&yard.parents, &yard.pebbles, &yard.targets, &yard.depths), &expected)?;
         let after = written(&before, &expected.map(|length| vec![length.bytes]));
         self.same(&inputs, got, expected, lent.wrong(yard).or_else(|| bytes.wrong("bytes", &after)))
     }
@@ -199,13 +204,13 @@ impl Caller {
     pub fn displaced(&self, yard: &Yard) -> Same {
         let inputs = Inputs::of("displaced", yard);
         let lent = self.lend(yard);
-        let got = during(&inputs, || library::displaced(lent.parents.list(), lent.pebbles.list(), lent.targets.list()));
+        let got = during(&inputs, || library::displaced(lent.parents.list(), lent.pebbles.list(), lent.targets.list(), lent.depths.list()));
         let off_target = figures::off_target(yard);
         if got.is_ok_and(|displaced| displaced < off_target) {
-            return Err(format!("{inputs}the library answers {got:?}, but {off_target} pebbles start on nodes that are no targets"));
+            return Err(format!("{inputs}the library answers {got:?}, but {off_target} pebbles are above the target counts"));
         }
         let expected = figures::displaced(yard);
-        quick(&inputs, fast::displaced(&yard.parents, &yard.pebbles, &yard.targets), &expected)?;
+        quick(&inputs, fast::displaced(&yard.parents, &yard.pebbles, &yard.targets, &yard.depths), &expected)?;
         self.same(&inputs, got, expected, lent.wrong(yard))
     }
 
@@ -215,13 +220,14 @@ impl Caller {
         let before = unwritten(room);
         let lent = self.lend(yard);
         let mut list = self.lender.lend(&before);
-        let got = during(&inputs, || library::plan(lent.parents.list(), lent.pebbles.list(), lent.targets.list(), list.list_mut()));
+        let got =
+            during(&inputs, || library::plan(lent.parents.list(), lent.pebbles.list(), lent.targets.list(), lent.depths.list(), list.list_mut()));
         let expected = planner::plan(yard, room);
         let after = written(&before, &expected);
         let moves = expected.map(|plan| plan.len() as u32 / 2);
         for planner in [fast::plan, fast::plan_by_rows, fast::plan_with_scans, fast::plan_by_ways] {
             let mut quick_list = before.clone();
-            quick(&inputs, planner(&yard.parents, &yard.pebbles, &yard.targets, &mut quick_list), &moves)?;
+            quick(&inputs, planner(&yard.parents, &yard.pebbles, &yard.targets, &yard.depths, &mut quick_list), &moves)?;
             quick(&inputs, Ok(quick_list), &Ok(after.clone()))?;
         }
         self.same(&inputs, got, moves, lent.wrong(yard).or_else(|| list.wrong("plan", &after)))
@@ -232,16 +238,19 @@ impl Caller {
         let Kept { yard, demands } = kept;
         let inputs = Inputs { demands, numbers: &[node], ..Inputs::of(event.name(), yard) };
         let mut lent = self.lend(yard);
-        let LentYard { parents, pebbles, targets } = &mut lent;
+        let LentYard { parents, pebbles, targets, depths } = &mut lent;
         let mut list = self.lender.lend(demands);
-        let got = during(&inputs, || library::event(parents.list(), pebbles.list_mut(), targets.list_mut(), list.list_mut(), event, node));
+        let got =
+            during(&inputs, || library::event(parents.list(), pebbles.list_mut(), targets.list_mut(), depths.list(), list.list_mut(), event, node));
         let expected = happen(kept, event, node);
         let accepted = expected.as_ref().map(|_| ()).map_err(|refusal| *refusal);
         let after = expected.as_ref().unwrap_or(kept);
-        let mut quick_kept = kept.clone();
-        let Yard { parents, pebbles, targets } = &mut quick_kept.yard;
-        quick(&inputs, fast::event(parents, pebbles, targets, &mut quick_kept.demands, event, node), &accepted)?;
-        quick(&inputs, Ok(&quick_kept), &Ok(after))?;
+        for call in [fast::event, fast::event_by_equation_2] {
+            let mut quick_kept = kept.clone();
+            let Yard { parents, pebbles, targets, depths } = &mut quick_kept.yard;
+            quick(&inputs, call(parents, pebbles, targets, depths, &mut quick_kept.demands, event, node), &accepted)?;
+            quick(&inputs, Ok(&quick_kept), &Ok(after))?;
+        }
         self.same(&inputs, got, accepted, lent.wrong(&after.yard).or_else(|| list.wrong("demands", &after.demands)))?;
         Ok(expected)
     }
@@ -253,9 +262,11 @@ impl Caller {
         let before = [1_234_567];
         let lent = self.lend(yard);
         let mut edges = self.lender.lend(&before);
-        let got = during(&inputs, || library::nearest(lent.parents.list(), lent.pebbles.list(), lent.targets.list(), node, &mut edges.list_mut()[0]));
+        let got = during(&inputs, || {
+            library::nearest(lent.parents.list(), lent.pebbles.list(), lent.targets.list(), lent.depths.list(), node, &mut edges.list_mut()[0])
+        });
         let expected = distance::nearest(yard, node);
-        quick(&inputs, fast::nearest(&yard.parents, &yard.pebbles, &yard.targets, node), &expected)?;
+        quick(&inputs, fast::nearest(&yard.parents, &yard.pebbles, &yard.targets, &yard.depths, node), &expected)?;
         let after = written(&before, &expected.map(|nearest| vec![nearest.distance]));
         self.same(&inputs, got, expected, lent.wrong(yard).or_else(|| edges.wrong("distance", &after)))?;
         Ok(expected)
@@ -267,7 +278,9 @@ impl Caller {
         let before = unwritten(length);
         let lent = self.lend(yard);
         let mut list = self.lender.lend(&before);
-        let got = during(&inputs, || library::reach(lent.parents.list(), lent.pebbles.list(), lent.targets.list(), list.list_mut(), node, reach));
+        let got = during(&inputs, || {
+            library::reach(lent.parents.list(), lent.pebbles.list(), lent.targets.list(), lent.depths.list(), list.list_mut(), node, reach)
+        });
         if got.is_ok_and(|count| count as usize != total(list.list())) {
             return Err(format!("{inputs}the library answers {got:?}, but wrote {:?}", list.list()));
         }
@@ -275,7 +288,7 @@ impl Caller {
         let after = written(&before, &expected);
         let count = expected.as_ref().map(|list| total(list) as u32).map_err(|refusal| *refusal);
         let mut quick_list = before.clone();
-        quick(&inputs, fast::reach(&yard.parents, &yard.pebbles, &yard.targets, &mut quick_list, node, reach), &count)?;
+        quick(&inputs, fast::reach(&yard.parents, &yard.pebbles, &yard.targets, &yard.depths, &mut quick_list, node, reach), &count)?;
         quick(&inputs, Ok(&quick_list), &Ok(&after))?;
         self.same(&inputs, got, count, lent.wrong(yard).or_else(|| list.wrong("reach", &after)))?;
         Ok(expected)
@@ -284,7 +297,7 @@ impl Caller {
     pub fn push(&self, yard: &Yard, from: usize, to: usize) -> Same {
         let inputs = Inputs { numbers: &[from, to], ..Inputs::of("push", yard) };
         let mut lent = self.lend(yard);
-        let got = during(&inputs, || library::push(lent.parents.list(), lent.pebbles.list_mut(), lent.targets.list(), from, to));
+        let got = during(&inputs, || library::push(lent.parents.list(), lent.pebbles.list_mut(), lent.targets.list(), lent.depths.list(), from, to));
         let expected = checker::push(yard, from, to);
         let after = Yard { pebbles: written(&yard.pebbles, &expected), ..yard.clone() };
         self.same(&inputs, got, expected.map(|_| ()), lent.wrong(&after))
@@ -296,13 +309,13 @@ impl Caller {
         let lent = self.lend(yard);
         let list = self.lender.lend(plan);
         let expected = checker::check(yard, plan);
-        let got = during(&inputs, || library::check(lent.parents.list(), lent.pebbles.list(), lent.targets.list(), list.list()));
+        let got = during(&inputs, || library::check(lent.parents.list(), lent.pebbles.list(), lent.targets.list(), lent.depths.list(), list.list()));
         let accepted = expected.map(|_| ());
-        quick(&inputs, fast::check(&yard.parents, &yard.pebbles, &yard.targets, plan), &accepted)?;
+        quick(&inputs, fast::check(&yard.parents, &yard.pebbles, &yard.targets, &yard.depths, plan), &accepted)?;
         self.same(&inputs, got, accepted, lent.wrong(yard).or_else(|| list.wrong("plan", plan)))?;
 
         let inputs = Inputs { call: "excess", ..inputs };
-        let got = during(&inputs, || library::excess(lent.parents.list(), lent.pebbles.list(), lent.targets.list(), list.list()));
+        let got = during(&inputs, || library::excess(lent.parents.list(), lent.pebbles.list(), lent.targets.list(), lent.depths.list(), list.list()));
         self.same(&inputs, got, expected.map(|checked| checked.excess), lent.wrong(yard).or_else(|| list.wrong("plan", plan)))
     }
 
@@ -310,12 +323,14 @@ impl Caller {
         let inputs = Inputs { bytes: plan, numbers: &[usize::from(budget)], ..Inputs::of("trial", yard) };
         let mut lent = self.lend(yard);
         let list = self.lender.lend(plan);
-        let got = during(&inputs, || library::trial(lent.parents.list(), lent.pebbles.list_mut(), lent.targets.list(), list.list(), budget));
+        let got = during(&inputs, || {
+            library::trial(lent.parents.list(), lent.pebbles.list_mut(), lent.targets.list(), lent.depths.list(), list.list(), budget)
+        });
         let expected = checker::trial(yard, plan, budget);
         let tried = expected.as_ref().map(|(tried, _)| *tried).map_err(|refusal| *refusal);
         let after = Yard { pebbles: written(&yard.pebbles, &expected.map(|(_, pebbles)| pebbles)), ..yard.clone() };
         let mut quick_pebbles = yard.pebbles.clone();
-        quick(&inputs, fast::trial(&yard.parents, &mut quick_pebbles, &yard.targets, plan, budget), &tried)?;
+        quick(&inputs, fast::trial(&yard.parents, &mut quick_pebbles, &yard.targets, &yard.depths, plan, budget), &tried)?;
         quick(&inputs, Ok(&quick_pebbles), &Ok(&after.pebbles))?;
         self.same(&inputs, got, tried, lent.wrong(&after).or_else(|| list.wrong("plan", plan)))
     }
@@ -324,34 +339,34 @@ impl Caller {
     pub fn step(&self, yard: &Yard, plan: &[u8], block: &[u8], failed: u8) -> Same<Answer<Stepped>> {
         let inputs = Inputs { bytes: plan, block, numbers: &[usize::from(failed)], ..Inputs::of("step", yard) };
         let mut lent = self.lend(yard);
-        let LentYard { parents, pebbles, targets } = &mut lent;
+        let LentYard { parents, pebbles, targets, depths } = &mut lent;
         let list = self.lender.lend(plan);
         let mut registers = self.lender.lend(block);
-        let got = during(&inputs, || library::step(parents.list(), pebbles.list_mut(), targets.list(), list.list(), registers.list_mut(), failed));
+        let got = during(&inputs, || {
+            library::step(parents.list(), pebbles.list_mut(), targets.list(), depths.list(), list.list(), registers.list_mut(), failed)
+        });
         let expected = cabinet::step(yard, plan, block, failed != 0);
         let line = expected.as_ref().map(|stepped| u32::from(stepped.registers.line())).map_err(|refusal| *refusal);
         let (pebbles, block_after) = match &expected {
             Ok(stepped) => (stepped.pebbles.clone(), stepped.registers.block().to_vec()),
             Err(_) => (yard.pebbles.clone(), block.to_vec()),
         };
-        for step in [fast::step, fast::step_by_climbs] {
-            let (mut quick_pebbles, mut quick_block) = (yard.pebbles.clone(), block.to_vec());
-            quick(&inputs, step(&yard.parents, &mut quick_pebbles, &yard.targets, plan, &mut quick_block, failed), &line)?;
-            quick(&inputs, Ok((&quick_pebbles, &quick_block)), &Ok((&pebbles, &block_after)))?;
-        }
+        let (mut quick_pebbles, mut quick_block) = (yard.pebbles.clone(), block.to_vec());
+        quick(&inputs, fast::step(&yard.parents, &mut quick_pebbles, &yard.targets, &yard.depths, plan, &mut quick_block, failed), &line)?;
+        quick(&inputs, Ok((&quick_pebbles, &quick_block)), &Ok((&pebbles, &block_after)))?;
         let wrong = lent.wrong(&Yard { pebbles, ..yard.clone() }).or_else(|| list.wrong("plan", plan));
         self.same(&inputs, got, line, wrong.or_else(|| registers.wrong("registers", &block_after)))?;
         Ok(expected)
     }
 
     /// The reader with lists of these lengths. A sheet that both accept must be what the writer makes of its lists.
-    pub fn read_sheet(&self, bytes: &[u8], lengths: [usize; 3]) -> Same {
+    pub fn read_sheet(&self, bytes: &[u8], lengths: [usize; 4]) -> Same {
         let nothing = Yard::default();
         let inputs = Inputs { bytes, numbers: &lengths, ..Inputs::of("read_sheet", &nothing) };
         let before = lengths.map(unwritten);
         let lent = self.lender.lend(bytes);
-        let [mut parents, mut pebbles, mut targets] = [0, 1, 2].map(|list| self.lender.lend(&before[list]));
-        let got = during(&inputs, || library::read_sheet(lent.list(), parents.list_mut(), pebbles.list_mut(), targets.list_mut()));
+        let [mut parents, mut pebbles, mut targets, mut depths] = [0, 1, 2, 3].map(|list| self.lender.lend(&before[list]));
+        let got = during(&inputs, || library::read_sheet(lent.list(), parents.list_mut(), pebbles.list_mut(), targets.list_mut(), depths.list_mut()));
         let expected = sheet::read(bytes, lengths);
         let after =
             |list: usize, read: fn(&Yard) -> &Vec<u8>| written(&before[list], &expected.as_ref().map(read).cloned().map_err(|refusal| *refusal));
@@ -359,7 +374,8 @@ impl Caller {
             .wrong("sheet", bytes)
             .or_else(|| parents.wrong("parents", &after(0, |yard| &yard.parents)))
             .or_else(|| pebbles.wrong("pebbles", &after(1, |yard| &yard.pebbles)))
-            .or_else(|| targets.wrong("targets", &after(2, |yard| &yard.targets)));
+            .or_else(|| targets.wrong("targets", &after(2, |yard| &yard.targets)))
+            .or_else(|| depths.wrong("depths", &after(3, |yard| &yard.depths)));
         self.same(&inputs, got, expected.as_ref().map(|yard| yard.nodes() as u32).map_err(|refusal| *refusal), wrong)?;
         match expected {
             Ok(yard) if sheet::unjudged(&yard) != bytes => Err(format!("{inputs}accepted, but not what the writer makes of {yard:?}")),
@@ -373,7 +389,9 @@ impl Caller {
         let before = unwritten(room);
         let lent = self.lend(yard);
         let mut list = self.lender.lend(&before);
-        let got = during(&inputs, || library::write_sheet(lent.parents.list(), lent.pebbles.list(), lent.targets.list(), list.list_mut()));
+        let got = during(&inputs, || {
+            library::write_sheet(lent.parents.list(), lent.pebbles.list(), lent.targets.list(), lent.depths.list(), list.list_mut())
+        });
         let expected = sheet::write(yard, room);
         let wrong = lent.wrong(yard).or_else(|| list.wrong("sheet", &written(&before, &expected)));
         self.same(&inputs, got, expected.map(|sheet| sheet.len() as u32), wrong)

@@ -7,7 +7,7 @@ use unrelated::damage;
 use unrelated::distance::{all_pairs, from_node};
 use unrelated::random::Random;
 use unrelated::shapes::{self, Shape};
-use unrelated::yard::{marked, total, Refusal, Yard, MAX_NODES};
+use unrelated::yard::{having, total, Refusal, Yard, MAX_DEPTH, MAX_NODES};
 
 /// The nearest pebble, and the pebbles within each of the reaches, which must agree: below the nearest distance no pebble is within reach, at it the nearest
 /// is the lowest that is, and beyond it still is. Without a pebble none ever is, and a number that is no node is refused by both calls.
@@ -18,7 +18,7 @@ fn agreed(caller: &Caller, yard: &Yard, node: usize, reaches: impl IntoIterator<
         let agree = match (nearest, &list) {
             (Ok(nearest), Ok(list)) => match u32::from(reach).cmp(&nearest.distance) {
                 Ordering::Less => total(list) == 0,
-                Ordering::Equal => marked(list).first() == Some(&(nearest.node as usize)),
+                Ordering::Equal => having(list).first() == Some(&(nearest.node as usize)),
                 Ordering::Greater => list[nearest.node as usize] == 1,
             },
             (Err(Refusal { number: 22, place: 0 }), Ok(list)) => total(list) == 0,
@@ -41,17 +41,22 @@ fn measured(yard: &Yard) -> Same {
     }
 }
 
-/// With all pebbles, at every node and at two numbers that are none: every reach up to n, which is farther than any node is, and the greatest. The targets
-/// are any, as they must not matter.
+/// With pebbles on all sets of nodes, at every node and at two numbers that are none: every reach up to n, which is farther than any node is, and the greatest.
+/// The targets are any, as they must not matter.
 pub fn every_node(caller: &Caller, thin: Thin) -> Same<u64> {
     let mut random = Random::new(33);
     let (mut number, mut cases) = (0, 0);
     for n in 1..=5 {
         for parents in shapes::every_tree(n) {
-            let marks = |set: usize| -> Vec<u8> { (0..n).map(|node| (set >> node & 1) as u8).collect() };
-            measured(&Yard { parents: parents.clone(), pebbles: marks(0), targets: marks(0) })?;
-            for held in 0..1usize << n {
-                let yard = Yard { parents: parents.clone(), pebbles: marks(held), targets: marks(random.below(1 << n)) };
+            let counts = shapes::every_count(&vec![1; n]);
+            measured(&Yard::shallow(&parents, &counts[0], &counts[0]))?;
+            for held in &counts {
+                let mut yard = Yard::shallow(&parents, held, &counts[random.below(counts.len())]);
+                // How many stand on a node must not matter either.
+                if random.once_in(2) {
+                    yard.depths = shapes::depths(n, MAX_DEPTH, &mut random);
+                    yard.pebbles = (0..n).map(|node| held[node] * random.within(1, usize::from(yard.depths[node])) as u8).collect();
+                }
                 for node in 0..n + 2 {
                     number += 1;
                     if thin.keeps(number) {
@@ -79,10 +84,10 @@ pub fn all_shapes(caller: &Caller, thin: Thin) -> Same<u64> {
     for case in 0..cases {
         let shape = Shape::ALL[case as usize % Shape::ALL.len()];
         let n = if random.once_in(20) { MAX_NODES } else { shapes::size(1, MAX_NODES, &mut random) };
-        let mut yard = shapes::yard(shape, n, &mut random);
+        let mut yard = shapes::any_yard(shape, n, &mut random);
         if random.once_in(2) {
             let k = random.below(4).min(n);
-            yard.pebbles = shapes::marks(n, k, &mut random);
+            yard.pebbles = shapes::scattered(&yard.depths, k, &mut random);
         }
         if n <= 24 {
             measured(&yard)?;
@@ -94,7 +99,7 @@ pub fn all_shapes(caller: &Caller, thin: Thin) -> Same<u64> {
             node = (0..n).max_by_key(|&at| distances[at]).unwrap_or(node);
             distances = from_node(&yard, node);
         }
-        let of_pebbles: Vec<usize> = marked(&yard.pebbles).into_iter().map(|pebble| distances[pebble]).collect();
+        let of_pebbles: Vec<usize> = having(&yard.pebbles).into_iter().map(|held| distances[held]).collect();
         let [nearest, farthest] = [of_pebbles.iter().min(), of_pebbles.iter().max()].map(|distance| distance.copied().unwrap_or(0));
         let any = random.pick(&distances);
         let met = [nearest, random.pick(&[farthest, any])];

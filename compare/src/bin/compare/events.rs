@@ -7,14 +7,14 @@ use unrelated::demands::{of_tree, MAX_DEMAND};
 use unrelated::event::{Event, Kept};
 use unrelated::random::Random;
 use unrelated::shapes::{self, Shape};
-use unrelated::yard::{judge, Refusal, Yard, MAX_NODES};
+use unrelated::yard::{each, judge, Refusal, Yard, MAX_DEPTH, MAX_NODES};
 
-/// An event on a tree with a list of its length: accepted exactly if node and mark allow it and the list is the tree's own, and then it is the altered
+/// An event on a tree with a list of its length: accepted exactly if node and count allow it and the list is the tree's own, and then it is the altered
 /// tree's own, as worked out afresh; refused with 23 only if it is not. Gives back what is kept afterwards.
 fn followed(caller: &Caller, kept: &Kept, event: Event, node: usize) -> Same<Kept> {
     let answer = caller.event(kept, event, node)?;
     let right = kept.demands == of_tree(&kept.yard);
-    let due = node < kept.yard.nodes() && event.alters(&kept.yard, node);
+    let due = node < kept.yard.nodes() && event.fits(&kept.yard, node);
     let sound = match &answer {
         Ok(after) => right && due && after.demands == of_tree(&after.yard),
         Err(Refusal { number: 23, .. }) => !right && due,
@@ -27,9 +27,9 @@ fn followed(caller: &Caller, kept: &Kept, event: Event, node: usize) -> Same<Kep
     }
 }
 
-/// Mostly an event that alters a mark of the node.
+/// Mostly an event that can be at the node.
 fn drawn(yard: &Yard, node: usize, random: &mut Random) -> Event {
-    let events: Vec<Event> = Event::ALL.into_iter().filter(|event| random.once_in(8) || event.alters(yard, node)).collect();
+    let events: Vec<Event> = Event::ALL.into_iter().filter(|event| random.once_in(8) || event.fits(yard, node)).collect();
     random.pick(&events)
 }
 
@@ -43,50 +43,53 @@ fn changed(list: &[i16], changes: &[i16]) -> Vec<Vec<i16>> {
     (0..list.len()).flat_map(|place| changes.iter().map(move |&by| change(place, by))).collect()
 }
 
-/// At every node, and at two numbers that are none: the tree's own list; at nodes also with each entry one more and one less; then each changed by more, and
-/// lists of other lengths, all of them, or with 4 nodes one of them.
+/// Every tree up to 4 nodes of depth 1, and up to 3 of depths 1 and 2, with all pebbles and targets. At every node, and at two numbers that are none: the tree's
+/// own list; at nodes also with each entry one more and one less; then each changed by more, and lists of other lengths, all of them, or where there are many
+/// yards one of them.
 pub fn every_event(caller: &Caller, thin: Thin) -> Same<u64> {
     let mut random = Random::new(14);
     let (mut number, mut cases) = (0, 0);
-    for n in 1..=4 {
-        for kept in shapes::every_yard(n).map(Kept::right) {
-            let near = changed(&kept.demands, &[1, -1]);
-            let far = changed(&kept.demands, &[256, -256, 257, -257, i16::MAX, -i16::MAX, i16::MIN]);
-            let resized = [0, n - 1, n + 1, n + 256].map(|length| (0..length).map(|at| kept.demands.get(at).copied().unwrap_or(0)).collect());
-            let others: Vec<Vec<i16>> = far.into_iter().chain(resized).collect();
-            let mut other = kept.clone();
-            for (event, node) in Event::ALL.into_iter().flat_map(|event| (0..n + 2).map(move |node| (event, node))) {
-                number += 1;
-                if !thin.keeps(number) {
-                    continue;
-                }
-                followed(caller, &kept, event, node)?;
-                let nearly = if node < n { &near[..] } else { &[] };
-                for list in nearly {
-                    other.demands.clone_from(list);
-                    followed(caller, &other, event, node)?;
-                }
-                let one = random.below(others.len());
-                let tried = if n < 4 { &others[..] } else { &others[one..=one] };
-                for list in tried {
-                    other.demands.clone_from(list);
-                    caller.event(&other, event, node).map(drop)?;
-                }
-                cases += (1 + nearly.len() + tried.len()) as u64;
+    let shallow = (1..=4).flat_map(|n| shapes::every_yard(vec![1; n]));
+    let deep = (1..=3).flat_map(|n| shapes::every_depths(n, 2)).flat_map(shapes::every_yard).filter(|yard| !yard.is_shallow());
+    for kept in shallow.chain(deep).map(Kept::right) {
+        let n = kept.yard.nodes();
+        let few = n < 3 || (n == 3 && kept.yard.is_shallow());
+        let near = changed(&kept.demands, &[1, -1]);
+        let far = changed(&kept.demands, &[256, -256, 257, -257, i16::MAX, -i16::MAX, i16::MIN]);
+        let resized = [0, n - 1, n + 1, n + 256].map(|length| (0..length).map(|at| kept.demands.get(at).copied().unwrap_or(0)).collect());
+        let others: Vec<Vec<i16>> = far.into_iter().chain(resized).collect();
+        let mut other = kept.clone();
+        for (event, node) in Event::ALL.into_iter().flat_map(|event| (0..n + 2).map(move |node| (event, node))) {
+            number += 1;
+            if !thin.keeps(number) {
+                continue;
             }
+            followed(caller, &kept, event, node)?;
+            let nearly = if node < n { &near[..] } else { &[] };
+            for list in nearly {
+                other.demands.clone_from(list);
+                followed(caller, &other, event, node)?;
+            }
+            let one = random.below(others.len());
+            let tried = if few { &others[..] } else { &others[one..=one] };
+            for list in tried {
+                other.demands.clone_from(list);
+                caller.event(&other, event, node).map(drop)?;
+            }
+            cases += (1 + nearly.len() + tried.len()) as u64;
         }
     }
     Ok(cases)
 }
 
-/// Event after event, some at numbers that are no nodes, some that find their mark already so. At times the keeper goes on with a list from before one event
+/// Event after event, some at numbers that are no nodes, some that find none to take or no place. At times the keeper goes on with a list from before one event
 /// or several, and after a while works it out anew.
 pub fn runs(caller: &Caller, thin: Thin) -> Same<u64> {
     let mut random = Random::new(15);
     let mut cases = 0;
     for run in 0..thin.of(240) {
         let n = if random.once_in(20) { MAX_NODES } else { shapes::size(1, MAX_NODES, &mut random) };
-        let mut kept = Kept::right(shapes::yard(Shape::ALL[run as usize % Shape::ALL.len()], n, &mut random));
+        let mut kept = Kept::right(shapes::any_yard(Shape::ALL[run as usize % Shape::ALL.len()], n, &mut random));
         // The lists from before each accepted event.
         let mut old = Vec::new();
         // One event more often than the others, so that totals part.
@@ -113,17 +116,23 @@ pub fn runs(caller: &Caller, thin: Thin) -> Same<u64> {
     Ok(cases)
 }
 
-/// In an empty yard of 256 nodes, root 0, each event in turn at every node, in any order: the root's demand goes to both ends of the range.
+/// In an empty yard of 256 nodes, root 0, each event in turn at every node, as often as its depth allows, in any order: the root's demand goes to both ends of
+/// what it can be there, and in the deepest yards to those of all demands.
 pub fn to_both_ends(caller: &Caller, thin: Thin) -> Same<u64> {
     let mut random = Random::new(16);
     let mut cases = 0;
-    let mut nodes: Vec<usize> = (0..MAX_NODES).collect();
-    let stages = [(Event::PebbleArrives, -MAX_DEMAND), (Event::TargetSet, 0), (Event::PebbleLeaves, MAX_DEMAND), (Event::TargetCleared, 0)];
-    for (number, shape) in (0..).zip(Shape::ALL) {
+    let deepest = [Shape::Line, Shape::Star].map(|shape| (shape, MAX_DEPTH));
+    for (number, (shape, depth)) in (0..).zip(Shape::ALL.map(|shape| (shape, 1)).into_iter().chain(deepest)) {
         if !thin.keeps(number) {
             continue;
         }
-        let mut kept = Kept::right(Yard { pebbles: vec![0; MAX_NODES], targets: vec![0; MAX_NODES], ..shapes::far(shape, MAX_NODES, &mut random) });
+        let mut nodes = each(&[depth; MAX_NODES]);
+        let end = nodes.len() as i16;
+        let stages = [(Event::PebbleArrives, -end), (Event::TargetSet, 0), (Event::PebbleLeaves, end), (Event::TargetCleared, 0)];
+        if depth == MAX_DEPTH && end != MAX_DEMAND {
+            return Err(format!("the root's demand goes to {end}, not to {MAX_DEMAND}"));
+        }
+        let mut kept = Kept::right(shapes::far(shape, MAX_NODES, depth, &mut random).emptied());
         for (event, end) in stages {
             random.shuffle(&mut nodes);
             for &node in &nodes {
@@ -148,7 +157,7 @@ pub fn stale_lists(caller: &Caller, thin: Thin) -> Same<u64> {
     let cases = thin.of(120_000);
     for _ in 0..cases {
         let n = if random.once_in(60) { random.within(200, MAX_NODES) } else { shapes::size(1, 30, &mut random) };
-        let yard = shapes::yard(random.pick(&Shape::ALL), n, &mut random);
+        let yard = shapes::any_yard(random.pick(&Shape::ALL), n, &mut random);
         let node = random.below(n);
         let event = drawn(&yard, node, &mut random);
         let demands = damage::demands(&yard, event, node, &mut random);

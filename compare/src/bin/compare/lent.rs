@@ -32,7 +32,7 @@ impl Element for u32 {}
 
 const MARGIN: usize = 64;
 
-/// What margins and unwritten lists hold: no two neighbours alike, and no run of marks or small nodes.
+/// What margins and unwritten lists hold: no two neighbours alike, and no run of small numbers.
 fn pattern(at: usize) -> u8 {
     (at * 37 + 0xa5) as u8
 }
@@ -51,7 +51,7 @@ pub struct Lender {
 
 /// Room for the longest list with its margins, in whole pages.
 const PAGE: usize = 4096;
-const ROOM: usize = 40 * PAGE;
+const ROOM: usize = 72 * PAGE;
 
 impl Lender {
     pub fn new(placement: Placement) -> Lender {

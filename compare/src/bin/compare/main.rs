@@ -13,7 +13,7 @@ mod sheets;
 mod steps;
 mod worked;
 
-use calls::{watch_pages, Caller, UNUSED_REFUSAL};
+use calls::{watch_pages, Caller, UNUSED_REFUSALS};
 use families::{Thin, FAMILIES};
 use lent::Placement;
 use std::process::ExitCode;
@@ -45,11 +45,11 @@ fn main() -> ExitCode {
     }
     let met: Vec<u64> = caller.refusals.iter().map(|met| met.get()).collect();
     println!("refusals met: {}", (1..met.len()).map(|number| format!("{number}: {}", met[number])).collect::<Vec<_>>().join(", "));
-    if met[UNUSED_REFUSAL] > 0 {
-        println!("refusal {UNUSED_REFUSAL} was met");
+    if let Some(number) = UNUSED_REFUSALS.into_iter().find(|&number| met[number] > 0) {
+        println!("refusal {number} was met");
         return ExitCode::FAILURE;
     }
-    if let Some(number) = (1..met.len()).find(|&number| thin.is_full() && number != UNUSED_REFUSAL && met[number] == 0) {
+    if let Some(number) = (1..met.len()).find(|number| thin.is_full() && !UNUSED_REFUSALS.contains(number) && met[*number] == 0) {
         println!("refusal {number} was never met: the families do not do what they are for");
         return ExitCode::FAILURE;
     }

@@ -6,7 +6,7 @@ use unrelated::cabinet::{command, flag, status, Registers, Stepped, BLOCK_BYTES}
 use unrelated::checker::MAX_PLAN_BYTES;
 use unrelated::random::Random;
 use unrelated::shapes::{self, Shape};
-use unrelated::yard::{total, Answer, Yard, MAX_NODES};
+use unrelated::yard::{total, Answer, Yard, MAX_DEPTH, MAX_NODES};
 use unrelated::{damage, planner};
 
 /// What is handed from step to step.
@@ -33,7 +33,7 @@ impl Cabinet {
         };
         let before = self.registers;
         let obeys = (before.command, before.status) == (command::NONE, status::RUNNING) && failed == 0;
-        let shown = if obeys { &self.plan[self.plan.len() - 2 * usize::from(before.left)..][..2] } else { &[before.from, before.to] };
+        let shown = if obeys { &self.plan[self.plan.len() - 2 * before.left as usize..][..2] } else { &[before.from, before.to] };
         let sound = (registers.command, registers.mask) == (command::NONE, before.mask)
             && [registers.from, registers.to] == shown
             && (pebbles != self.yard.pebbles) == obeys
@@ -69,7 +69,7 @@ fn drawn(moves: usize, random: &mut Random) -> Registers {
         status: random.below(3) as u8,
         from: random.byte(),
         to: random.byte(),
-        left: random.below(moves + 1) as u16,
+        left: random.below(moves + 1) as u32,
         mask: random.byte(),
         flags: random.below(4) as u8,
     }
@@ -77,13 +77,13 @@ fn drawn(moves: usize, random: &mut Random) -> Registers {
 
 /// Small yards with plans that a start accepts, and for each of its refusals one that it refuses.
 fn examples() -> Vec<(Yard, Vec<u8>)> {
-    let yard =
-        |parents: &[u8], pebbles: &[u8], targets: &[u8]| Yard { parents: parents.to_vec(), pebbles: pebbles.to_vec(), targets: targets.to_vec() };
-    let two = |pebbles: [u8; 2], targets: [u8; 2], plan: &[u8]| (yard(&[0, 0], &pebbles, &targets), plan.to_vec());
+    let two = |pebbles: [u8; 2], targets: [u8; 2], plan: &[u8]| (Yard::shallow(&[0, 0], &pebbles, &targets), plan.to_vec());
+    let deep = |depths: [u8; 2], (yard, plan): (Yard, Vec<u8>)| (Yard { depths: depths.to_vec(), ..yard }, plan);
     vec![
-        (yard(&[0], &[1], &[1]), vec![]),
-        (yard(&[0, 0, 1], &[1, 1, 0], &[0, 1, 1]), vec![1, 2, 0, 1]),
-        (yard(&[0, 0, 0, 1, 1], &[0, 1, 0, 1, 0], &[0, 0, 1, 0, 1]), vec![1, 0, 0, 2, 3, 1, 1, 4]),
+        (Yard::shallow(&[0], &[1], &[1]), vec![]),
+        (Yard::shallow(&[0, 0, 1], &[1, 1, 0], &[0, 1, 1]), vec![1, 2, 0, 1]),
+        (Yard::shallow(&[0, 0, 0, 1, 1], &[0, 1, 0, 1, 0], &[0, 0, 1, 0, 1]), vec![1, 0, 0, 2, 3, 1, 1, 4]),
+        deep([3, 2], two([3, 0], [1, 2], &[0, 1, 0, 1])),
         two([1, 0], [1, 0], &[0, 1, 1, 0]),
         two([1, 0], [1, 1], &[0, 1]),
         two([1, 0], [0, 1], &[0]),
@@ -93,6 +93,9 @@ fn examples() -> Vec<(Yard, Vec<u8>)> {
         two([0, 1], [0, 1], &[0, 1]),
         two([1, 1], [1, 1], &[0, 1]),
         two([1, 0], [0, 1], &[0, 1, 1, 0]),
+        // Full after two moves; a target count that is not reached.
+        deep([3, 2], two([3, 0], [0, 2], &[0, 1, 0, 1, 0, 1])),
+        deep([3, 2], two([3, 0], [1, 2], &[0, 1])),
     ]
 }
 
@@ -104,7 +107,7 @@ pub fn every_value(caller: &Caller, thin: Thin) -> Same<u64> {
     for (yard, plan) in examples() {
         let moves = plan.len() / 2;
         for state in 0..12 * (moves + 1) {
-            let (command, status, left) = ((state % 4) as u8, (state / 4 % 3) as u8, (state / 12) as u16);
+            let (command, status, left) = ((state % 4) as u8, (state / 4 % 3) as u8, (state / 12) as u32);
             let block = Registers { command, status, left, ..drawn(moves, &mut random) }.block();
             for (place, value) in (0..BLOCK_BYTES).flat_map(|place| (0..=255).map(move |value| (place, value))) {
                 number += 1;
@@ -121,12 +124,12 @@ pub fn every_value(caller: &Caller, thin: Thin) -> Same<u64> {
     Ok(caller.calls.get() - begun)
 }
 
-/// Every flags with every mask; where the flags can be, with every command, status and kind of push. Then blocks of every length to 12 and of some that are 8
+/// Every flags with every mask; where the flags can be, with every command, status and kind of push. Then blocks of every length to 12 and of some that are 9
 /// once the high bytes are lost.
 pub fn every_mask(caller: &Caller, thin: Thin) -> Same<u64> {
     let mut random = Random::new(36);
     let begun = caller.calls.get();
-    let yard = Yard { parents: vec![0, 0], pebbles: vec![1, 0], targets: vec![1, 0] };
+    let yard = Yard::shallow(&[0, 0], &[1, 0], &[1, 0]);
     let plan = [0, 1, 1, 0];
     let mut number = 0;
     for (flags, mask) in (0..=255).flat_map(|flags| (0..=255).map(move |mask| (flags, mask))) {
@@ -144,7 +147,7 @@ pub fn every_mask(caller: &Caller, thin: Thin) -> Same<u64> {
         }
     }
     let examples = examples();
-    for length in (0..=12).chain([16, 256 + 8, 65_536 + 8]) {
+    for length in (0..=12).chain([16, 18, 256 + 9, 65_536 + 9]) {
         for _ in 0..thin.of(200) {
             let (yard, plan) = &examples[random.below(examples.len())];
             let mut block = drawn(plan.len() / 2, &mut random).block().to_vec();
@@ -163,7 +166,7 @@ fn whole(caller: &Caller, cabinet: &mut Cabinet, stalls: bool, random: &mut Rand
         _ => running,
     };
     let plan = cabinet.plan.clone();
-    let mut due = settled(Registers { status: status::RUNNING, left: (plan.len() / 2) as u16, ..cabinet.registers });
+    let mut due = settled(Registers { status: status::RUNNING, left: (plan.len() / 2) as u32, ..cabinet.registers });
     cabinet.told(caller, command::START, random.pick(&[0, 1]), due)?;
     for ends in plan.chunks(2) {
         while stalls && random.once_in(4) {
@@ -197,7 +200,7 @@ fn three_runs(caller: &Caller, begun: &Cabinet, random: &mut Random) -> Same {
     if moves == 0 {
         return Ok(());
     }
-    stopped.told(caller, command::START, 0, Registers { status: status::RUNNING, left: moves as u16, ..begun.registers })?;
+    stopped.told(caller, command::START, 0, Registers { status: status::RUNNING, left: moves as u32, ..begun.registers })?;
     for _ in 0..random.below(moves) {
         stopped.step(caller, 0).map(drop)?;
     }
@@ -211,14 +214,14 @@ fn three_runs(caller: &Caller, begun: &Cabinet, random: &mut Random) -> Same {
     whole(caller, &mut stopped, false, random)
 }
 
-/// Plans at times with moves in front that go somewhere and back: spare ones, and more than 255. Then halves exchanged: 1,024 moves in a line of 64 nodes,
-/// and of 256 nodes the shapes in which no way is long.
+/// Plans at times with moves in front that go somewhere and back: spare ones, and more than 255. Then halves exchanged: some 1,000 moves in a line of 64 nodes
+/// of depth 1 or 22 of depth 8, and of 256 nodes the shapes in which no way is long.
 pub fn whole_runs(caller: &Caller, thin: Thin) -> Same<u64> {
     let mut random = Random::new(37);
     let begun = caller.calls.get();
     for run in 0..thin.of(1_000) {
         let n = shapes::size(1, 60, &mut random);
-        let yard = shapes::yard(Shape::ALL[run as usize % Shape::ALL.len()], n, &mut random);
+        let yard = shapes::any_yard(Shape::ALL[run as usize % Shape::ALL.len()], n, &mut random);
         let mut plan = planned(&yard);
         if random.once_in(3) {
             let most = random.pick(&[2, 10, 800]);
@@ -229,10 +232,15 @@ pub fn whole_runs(caller: &Caller, thin: Thin) -> Same<u64> {
         let registers = Registers { from: random.byte(), to: random.byte(), mask: random.byte(), ..Registers::default() };
         three_runs(caller, &Cabinet { yard, plan, registers }, &mut random)?;
     }
-    for (number, shape) in (0..).zip(Shape::ALL) {
+    let depths = [1, MAX_DEPTH].into_iter().flat_map(|depth| Shape::ALL.map(|shape| (shape, depth)));
+    for (number, (shape, depth)) in (0..).zip(depths) {
         if thin.keeps(number) {
-            let n = if matches!(shape, Shape::Line | Shape::Caterpillar | Shape::Broom) { 64 } else { MAX_NODES };
-            let yard = shapes::far(shape, n, &mut random);
+            let n = match (shape, depth) {
+                (Shape::Line | Shape::Caterpillar | Shape::Broom, 1) => 64,
+                (Shape::Line | Shape::Caterpillar | Shape::Broom, _) => 22,
+                _ => MAX_NODES,
+            };
+            let yard = shapes::far(shape, n, depth, &mut random);
             three_runs(caller, &Cabinet { plan: planned(&yard), yard, registers: Registers::default() }, &mut random)?;
         }
     }
@@ -260,18 +268,16 @@ fn alter(cabinet: &mut Cabinet, random: &mut Random) {
         }
         8 => {
             let within = random.below(moves + 1);
-            registers.left = random.pick(&[0, 1, moves, moves + 1, moves + 256, within]) as u16;
+            registers.left = random.pick(&[0, 1, moves, moves + 1, moves + 256, moves + 65_536, within]) as u32;
         }
         // Another plan, an altered one, or one that goes nowhere.
         9 => *plan = planned(yard),
         10 | 11 => damage::plan(plan, yard, random),
         12 => *plan = damage::wander(yard, 40, random),
-        // A pebble set elsewhere, or a mark more or less.
+        // The pebbles of two nodes exchanged, perhaps more than there is room for; one pebble or target more or less; another depth.
         13 => yard.pebbles.swap(random.below(n), random.below(n)),
-        14 => {
-            let marks = if random.once_in(2) { &mut yard.pebbles } else { &mut yard.targets };
-            marks[random.below(n)] ^= 1;
-        }
+        14 => damage::recount(yard, random.below(n), random),
+        15 => yard.depths[random.below(n)] = random.within(1, usize::from(MAX_DEPTH)) as u8,
         _ => {}
     }
 }
@@ -283,7 +289,7 @@ pub fn any_runs(caller: &Caller, thin: Thin) -> Same<u64> {
     let begun = caller.calls.get();
     for run in 0..thin.of(5_000) {
         let n = if random.once_in(100) { MAX_NODES } else { shapes::size(1, 60, &mut random) };
-        let yard = shapes::yard(Shape::ALL[run as usize % Shape::ALL.len()], n, &mut random);
+        let yard = shapes::any_yard(Shape::ALL[run as usize % Shape::ALL.len()], n, &mut random);
         let mut cabinet = Cabinet { plan: planned(&yard), yard, registers: Registers::default() };
         for _ in 0..random.within(20, 200) {
             alter(&mut cabinet, &mut random);
@@ -296,7 +302,8 @@ pub fn any_runs(caller: &Caller, thin: Thin) -> Same<u64> {
             }
             if refused && random.once_in(2) {
                 let Cabinet { yard, plan, registers } = &mut cabinet;
-                yard.targets = shapes::marks(n, total(&yard.pebbles), &mut random);
+                let k = random.within(0, total(&yard.depths));
+                [yard.pebbles, yard.targets] = [(); 2].map(|()| shapes::scattered(&yard.depths, k, &mut random));
                 *plan = planned(yard);
                 *registers = Registers { mask: random.byte(), ..Registers::default() };
             }
@@ -306,19 +313,19 @@ pub fn any_runs(caller: &Caller, thin: Thin) -> Same<u64> {
 }
 
 /// One pebble goes to and fro between two nodes, for as many bytes as a plan may have and some more or fewer: every command and status with moves left at the
-/// ends of both bytes, then some steps on from there. The longest plan that is accepted also runs whole, through every number of moves left.
+/// ends of each byte, then some steps on from there. The longest plan that is accepted also runs whole, through every number of moves left.
 pub fn long_plans(caller: &Caller, thin: Thin) -> Same<u64> {
     let mut random = Random::new(39);
     let begun = caller.calls.get();
     // The pebble is at one of the nodes, the target where the plan brings it that began at node 0.
     let cabinet = |length: usize, at: usize, registers: Registers| {
-        let mark = |at: usize| vec![u8::from(at == 0), u8::from(at == 1)];
-        let yard = Yard { parents: vec![0, 0], pebbles: mark(at), targets: mark(length / 2 % 2) };
+        let held = |at: usize| [u8::from(at == 0), u8::from(at == 1)];
+        let yard = Yard::shallow(&[0, 0], &held(at), &held(length / 2 % 2));
         Cabinet { yard, plan: [0, 1, 1, 0].into_iter().cycle().take(length).collect(), registers }
     };
     let mut number = 0;
     for length in MAX_PLAN_BYTES - 4..=MAX_PLAN_BYTES + 6 {
-        for left in [0, 1, 2, 255, 256, 257, 511, 512, 32_768, 65_279, 65_280, 65_281, 65_533, 65_534, 65_535] {
+        for left in [0, 1, 255, 256, 257, 65_535, 65_536, 65_537, 65_792, 131_070, 131_071, 131_072, 131_073, 131_328, 16_777_215] {
             for state in 0..24 {
                 number += 1;
                 if thin.keeps(number) {

@@ -3,21 +3,26 @@
 
 use crate::calls::{Caller, Same};
 use std::fmt::Debug;
-use unrelated::cabinet::{self, Registers, Stepped};
-use unrelated::checker::{check, push, trial, Checked, Tried};
+use unrelated::cabinet::{self, Registers, Stepped, BLOCK_BYTES};
+use unrelated::checker::{check, push, trial, Checked, Tried, MAX_PLAN_BYTES};
 use unrelated::distance::{nearest, reach, Nearest};
 use unrelated::event::{happen, Event, Kept};
-use unrelated::planner::{plan, plan_by, Choice};
+use unrelated::planner::{plan, plan_by, Choice, Turn};
 use unrelated::random::Random;
 use unrelated::shapes::{far, Shape};
-use unrelated::sheet::{self, program};
+use unrelated::sheet::{self, program, HEADER};
 use unrelated::yard::{judge, refuse, Answer, Yard};
 use unrelated::{demands, figures, follow, report};
 
 const ANY: usize = usize::MAX;
 
+/// The worked yards of before request 2.10 get depth 1.
 fn yard(parents: &[u8], pebbles: &[u8], targets: &[u8]) -> Yard {
-    Yard { parents: parents.to_vec(), pebbles: pebbles.to_vec(), targets: targets.to_vec() }
+    Yard::shallow(parents, pebbles, targets)
+}
+
+fn deep(parents: &[u8], pebbles: &[u8], targets: &[u8], depths: &[u8]) -> Yard {
+    Yard { depths: depths.to_vec(), ..yard(parents, pebbles, targets) }
 }
 
 struct Worked<'a> {
@@ -38,7 +43,7 @@ impl Worked<'_> {
     fn plan(&mut self, name: &str, yard: &Yard, room: usize, expected: Answer<&[u8]>) -> Same {
         self.is(name, plan(yard, room), expected.map(<[u8]>::to_vec))?;
         self.caller.figures(yard)?;
-        self.caller.plan(yard, room.min(40_000))
+        self.caller.plan(yard, room.min(MAX_PLAN_BYTES))
     }
 
     /// What the move program prints, line by line.
@@ -57,7 +62,7 @@ impl Worked<'_> {
         self.caller.trial(yard, moves, budget)
     }
 
-    fn read(&mut self, name: &str, sheet: &[u8], lengths: [usize; 3], expected: Answer<Yard>) -> Same {
+    fn read(&mut self, name: &str, sheet: &[u8], lengths: [usize; 4], expected: Answer<Yard>) -> Same {
         self.is(name, sheet::read(sheet, lengths), expected)?;
         self.caller.read_sheet(sheet, lengths)
     }
@@ -85,7 +90,7 @@ impl Worked<'_> {
     }
 
     /// What a step leaves: pebbles, block and line.
-    fn step(&mut self, name: &str, yard: &Yard, plan: &[u8], block: &[u8], failed: u8, expected: Answer<(&[u8], [u8; 8], bool)>) -> Same {
+    fn step(&mut self, name: &str, yard: &Yard, plan: &[u8], block: &[u8], failed: u8, expected: Answer<(&[u8], [u8; BLOCK_BYTES], bool)>) -> Same {
         let got = cabinet::step(yard, plan, block, failed != 0);
         let left = expected.map(|(pebbles, block, _)| Stepped { pebbles: pebbles.to_vec(), registers: Registers::read(block) });
         self.is(name, got, left)?;
@@ -147,7 +152,7 @@ pub fn worked(caller: &Caller) -> Same<u64> {
 
     w.check("G", &b, &[0, 1], refuse(13, 0))?;
 
-    let i = far(Shape::Line, 256, &mut Random::new(0));
+    let i = far(Shape::Line, 256, 1, &mut Random::new(0));
     w.is("I, moves", plan(&i, 32_768).map(|plan| plan.len() / 2), Ok(16_384))?;
     w.plan("I, 32,767 bytes", &i, 32_767, refuse(8, 16_384))?;
     caller.plan(&i, 32_768)?;
@@ -155,7 +160,7 @@ pub fn worked(caller: &Caller) -> Same<u64> {
     // Request 2.6 gives the first move by its choice and by the one before it; the others follow from Algorithms 1 to 4.
     let neediest = yard(&[0, 0, 0, 2, 0, 4, 5], &[0, 1, 1, 1, 0, 0, 0], &[0, 0, 0, 0, 1, 1, 1]);
     w.plan("the neediest branch first", &neediest, ANY, Ok(&[2, 0, 0, 4, 1, 0, 4, 5, 0, 4, 3, 2, 2, 0, 5, 6, 4, 5, 0, 4]))?;
-    let earlier = plan_by(Choice::Lowest, &neediest, ANY);
+    let earlier = plan_by(Choice::Lowest, Turn::HoldsAndWanted, &neediest, ANY);
     w.is("the lowest branch first", earlier, Ok(vec![1, 0, 0, 4, 2, 0, 4, 5, 0, 4, 3, 2, 2, 0, 5, 6, 4, 5, 0, 4]))?;
 
     events_on_a(&mut w, &a)?;
@@ -166,13 +171,17 @@ pub fn worked(caller: &Caller) -> Same<u64> {
     run_on_a(&mut w, &a, &a_plan)?;
     registers_on_a(&mut w, &a, &a_plan)?;
     steps_on_two(&mut w)?;
+    deep_nodes(&mut w)?;
+    order_of_26_and_27(&mut w)?;
+    longest_of_all(&mut w)?;
 
     // The table of refusals, with H among them.
     let two = |pebbles: &[u8], targets: &[u8]| yard(&[0, 0], pebbles, targets);
     for (lists, number, place) in [
         (yard(&[], &[], &[]), 1, 0),
         (yard(&[0, 0], &[1], &[0, 0]), 2, 0),
-        (two(&[0, 2], &[0, 0]), 3, 1),
+        (deep(&[0, 0], &[2, 0], &[0, 0], &[1, 0]), 26, 1),
+        (two(&[0, 2], &[0, 0]), 27, 1),
         (yard(&[0, 2], &[0, 0], &[0, 0]), 4, 1),
         (yard(&[0, 1], &[0, 0], &[0, 0]), 5, 1),
         (yard(&[0, 2, 1], &[0, 0, 0], &[0, 0, 0]), 6, 1),
@@ -193,16 +202,20 @@ pub fn worked(caller: &Caller) -> Same<u64> {
     w.push("push", &away, 0, 1, Ok(vec![0, 1]))?;
     w.push("push, refusal 10", &away, 0, 2, refuse(10, 0))?;
 
-    let header = "berth parent car target\n";
-    let longest = yard(&[255; 256], &[255; 256], &[255; 256]);
+    let longest = deep(&[255; 256], &[255; 256], &[255; 256], &[255; 256]);
     w.is("the longest sheet", sheet::write(&longest, ANY).map(|sheet| sheet.len()), Ok(sheet::MAX_SHEET_BYTES))?;
     caller.write_sheet(&longest, sheet::MAX_SHEET_BYTES)?;
-    w.read("refusal 1 of a sheet", header.as_bytes(), [256; 3], refuse(1, 2))?;
-    w.read("refusal 1 of a long sheet", &[&sheet::unjudged(&longest)[..], b"2"].concat(), [256; 3], refuse(1, 258))?;
-    w.read("refusal 15", b"berth parent", [256; 3], refuse(15, 1))?;
-    w.read("refusal 16", format!("{header}0 00 1 1\n").as_bytes(), [256; 3], refuse(16, 2))?;
-    w.read("refusal 17", format!("{header}1 0 1 1\n").as_bytes(), [256; 3], refuse(17, 2))?;
-    w.read("refusal 18", b"", [256, 255, 256], refuse(18, 0))?;
+    w.is("the header", HEADER, "berth parent car target depth\n")?;
+    w.read("refusal 1 of a sheet", HEADER.as_bytes(), [256; 4], refuse(1, 2))?;
+    w.read("refusal 1 of a long sheet", &[&sheet::unjudged(&longest)[..], b"2"].concat(), [256; 4], refuse(1, 258))?;
+    w.read("refusal 15", b"berth parent", [256; 4], refuse(15, 1))?;
+    w.read("refusal 16", format!("{HEADER}0 00 1 1 1\n").as_bytes(), [256; 4], refuse(16, 2))?;
+    w.read("refusal 17", format!("{HEADER}1 0 1 1 1\n").as_bytes(), [256; 4], refuse(17, 2))?;
+    for short in 0..4 {
+        let mut lengths = [256; 4];
+        lengths[short] = 255;
+        w.read("refusal 18", b"", lengths, refuse(18, 0))?;
+    }
     Ok(w.cases)
 }
 
@@ -210,8 +223,8 @@ pub fn worked(caller: &Caller) -> Same<u64> {
 fn events_on_a(w: &mut Worked, a: &Yard) -> Same {
     use Event::{PebbleArrives, PebbleLeaves, TargetCleared, TargetSet};
     let kept = |yard: &Yard, demands: &[i16]| Kept { yard: yard.clone(), demands: demands.to_vec() };
-    let pebbles = |marks: &[u8]| yard(&a.parents, marks, &a.targets);
-    let targets = |marks: &[u8]| yard(&a.parents, &a.pebbles, marks);
+    let pebbles = |held: &[u8]| yard(&a.parents, held, &a.targets);
+    let targets = |wanted: &[u8]| yard(&a.parents, &a.pebbles, wanted);
     let right = kept(a, &[0, -1, 1, -1, 1]);
     w.event("A, a pebble arrives at 4", &right, PebbleArrives, 4, Ok(kept(&pebbles(&[0, 1, 0, 1, 1]), &[-1, -2, 1, -1, 0])))?;
     w.event("A, a pebble arrives at the root", &right, PebbleArrives, 0, Ok(kept(&pebbles(&[1, 1, 0, 1, 0]), &[-1, -1, 1, -1, 1])))?;
@@ -219,11 +232,11 @@ fn events_on_a(w: &mut Worked, a: &Yard) -> Same {
     w.event("A, a target is set at 3", &right, TargetSet, 3, Ok(kept(&targets(&[0, 0, 1, 1, 1]), &[1, 0, 1, 0, 1])))?;
     w.event("A, a target is cleared at 2", &right, TargetCleared, 2, Ok(kept(&targets(&[0, 0, 0, 0, 1]), &[-1, -1, 0, -1, 1])))?;
 
-    // Each mark already so.
+    // No place, or none to take.
     for (event, node) in [(PebbleArrives, 1), (PebbleLeaves, 4), (TargetSet, 2), (TargetCleared, 0)] {
         w.event("A, refusal 20", &right, event, node, refuse(20, 0))?;
     }
-    // Each refusal before the next: a circle, a list too long, a node outside, a mark already so, an entry that is not the yard's.
+    // Each refusal before the next: a circle, a list too long, a node outside, no place, an entry that is not the yard's.
     let circle = yard(&[0, 0, 0, 4, 3], &a.pebbles, &a.targets);
     w.event("A, 6 before 2", &kept(&circle, &[0, -1, 1, -1, 1, 999]), PebbleArrives, 5, refuse(6, 3))?;
     w.event("A, 2 before 19", &kept(a, &[0, -1, 1, -1, 1, 999]), PebbleArrives, 5, refuse(2, 0))?;
@@ -351,19 +364,19 @@ fn farthest(w: &mut Worked) -> Same {
 /// Request 2.9 on yard A and its plan, from start to finish: each step is handed what the one before it left, but for the command. The third push fails.
 fn run_on_a(w: &mut Worked, a: &Yard, plan: &[u8]) -> Same {
     let mut pebbles = a.pebbles.clone();
-    let mut block = [0, 0, 9, 8, 0, 0, 3, 0];
+    let mut block = [0, 0, 9, 8, 0, 0, 0, 3, 0];
     for (name, command, failed, pebbles_after, after, line) in [
-        ("idle", 0, 1, [0, 1, 0, 1, 0], [0, 0, 9, 8, 0, 0, 3, 0], false),
-        ("start", 1, 1, [0, 1, 0, 1, 0], [0, 1, 9, 8, 4, 0, 3, 0], false),
-        ("first move", 0, 0, [1, 0, 0, 1, 0], [0, 1, 1, 0, 3, 0, 3, 0], false),
-        ("second move", 0, 0, [0, 0, 1, 1, 0], [0, 1, 0, 2, 2, 0, 3, 0], false),
-        ("failed", 0, 255, [0, 0, 1, 1, 0], [0, 2, 0, 2, 2, 0, 3, 2], true),
-        ("stalled", 0, 0, [0, 0, 1, 1, 0], [0, 2, 0, 2, 2, 0, 3, 2], true),
-        ("acknowledged", 3, 1, [0, 0, 1, 1, 0], [0, 1, 0, 2, 2, 0, 3, 0], false),
-        ("third move", 0, 0, [0, 1, 1, 0, 0], [0, 1, 3, 1, 1, 0, 3, 0], false),
-        ("last move", 0, 0, [0, 0, 1, 0, 1], [0, 0, 1, 4, 0, 0, 3, 1], true),
-        ("finished", 0, 1, [0, 0, 1, 0, 1], [0, 0, 1, 4, 0, 0, 3, 1], true),
-        ("acknowledged when idle", 3, 0, [0, 0, 1, 0, 1], [0, 0, 1, 4, 0, 0, 3, 0], false),
+        ("idle", 0, 1, [0, 1, 0, 1, 0], [0, 0, 9, 8, 0, 0, 0, 3, 0], false),
+        ("start", 1, 1, [0, 1, 0, 1, 0], [0, 1, 9, 8, 4, 0, 0, 3, 0], false),
+        ("first move", 0, 0, [1, 0, 0, 1, 0], [0, 1, 1, 0, 3, 0, 0, 3, 0], false),
+        ("second move", 0, 0, [0, 0, 1, 1, 0], [0, 1, 0, 2, 2, 0, 0, 3, 0], false),
+        ("failed", 0, 255, [0, 0, 1, 1, 0], [0, 2, 0, 2, 2, 0, 0, 3, 2], true),
+        ("stalled", 0, 0, [0, 0, 1, 1, 0], [0, 2, 0, 2, 2, 0, 0, 3, 2], true),
+        ("acknowledged", 3, 1, [0, 0, 1, 1, 0], [0, 1, 0, 2, 2, 0, 0, 3, 0], false),
+        ("third move", 0, 0, [0, 1, 1, 0, 0], [0, 1, 3, 1, 1, 0, 0, 3, 0], false),
+        ("last move", 0, 0, [0, 0, 1, 0, 1], [0, 0, 1, 4, 0, 0, 0, 3, 1], true),
+        ("finished", 0, 1, [0, 0, 1, 0, 1], [0, 0, 1, 4, 0, 0, 0, 3, 1], true),
+        ("acknowledged when idle", 3, 0, [0, 0, 1, 0, 1], [0, 0, 1, 4, 0, 0, 0, 3, 0], false),
     ] {
         block[0] = command;
         w.step(&format!("A, {name}"), &yard(&a.parents, &pebbles, &a.targets), plan, &block, failed, Ok((&pebbles_after, after, line)))?;
@@ -375,13 +388,13 @@ fn run_on_a(w: &mut Worked, a: &Yard, plan: &[u8]) -> Same {
 /// Request 2.9 on yard A and its plan: single steps, most of which push nothing, and wrong blocks.
 fn registers_on_a(w: &mut Worked, a: &Yard, plan: &[u8]) -> Same {
     for (name, block, after, line) in [
-        ("stop when running", [2, 1, 9, 8, 3, 0, 255, 0], [0, 0, 9, 8, 0, 0, 255, 0], false),
-        ("stop when stalled keeps the flag", [2, 2, 9, 8, 3, 0, 2, 2], [0, 0, 9, 8, 0, 0, 2, 2], true),
-        ("stop when idle", [2, 0, 9, 8, 3, 0, 0, 3], [0, 0, 9, 8, 0, 0, 0, 3], false),
-        ("acknowledge when running", [3, 1, 9, 8, 3, 0, 3, 3], [0, 1, 9, 8, 3, 0, 3, 0], false),
-        ("start keeps the flags, not the moves left", [1, 0, 9, 8, 3, 0, 1, 3], [0, 1, 9, 8, 4, 0, 1, 3], true),
-        ("idle with moves left", [0, 0, 9, 8, 3, 0, 254, 1], [0, 0, 9, 8, 3, 0, 254, 1], false),
-        ("the mask has other bits than the flags", [0, 0, 9, 8, 0, 0, 253, 2], [0, 0, 9, 8, 0, 0, 253, 2], false),
+        ("stop when running", [2, 1, 9, 8, 3, 0, 0, 255, 0], [0, 0, 9, 8, 0, 0, 0, 255, 0], false),
+        ("stop when stalled keeps the flag", [2, 2, 9, 8, 3, 0, 0, 2, 2], [0, 0, 9, 8, 0, 0, 0, 2, 2], true),
+        ("stop when idle", [2, 0, 9, 8, 3, 0, 0, 0, 3], [0, 0, 9, 8, 0, 0, 0, 0, 3], false),
+        ("acknowledge when running", [3, 1, 9, 8, 3, 0, 0, 3, 3], [0, 1, 9, 8, 3, 0, 0, 3, 0], false),
+        ("start keeps the flags, not the moves left", [1, 0, 9, 8, 3, 0, 0, 1, 3], [0, 1, 9, 8, 4, 0, 0, 1, 3], true),
+        ("idle with moves left", [0, 0, 9, 8, 3, 0, 0, 254, 1], [0, 0, 9, 8, 3, 0, 0, 254, 1], false),
+        ("the mask has other bits than the flags", [0, 0, 9, 8, 0, 0, 0, 253, 2], [0, 0, 9, 8, 0, 0, 0, 253, 2], false),
     ] {
         // Told with a command or while not running, a failure is ignored.
         for failed in [0, 1] {
@@ -390,39 +403,48 @@ fn registers_on_a(w: &mut Worked, a: &Yard, plan: &[u8]) -> Same {
     }
     // The next move is counted from the end of the plan that is handed in: here the third.
     let moved = [0, 1, 0, 0, 1];
-    w.step("A, a plan swapped", a, &[1, 0, 1, 0, 3, 1, 1, 4], &[0, 1, 9, 8, 2, 0, 0, 0], 0, refuse(13, 2))?;
-    w.step("A, another swapped", a, &[9, 9, 3, 4, 1, 4], &[0, 1, 9, 8, 1, 0, 0, 0], 0, Ok((&[0, 0, 0, 1, 1], [0, 0, 1, 4, 0, 0, 0, 1], false)))?;
-    w.step("A, its end missed", &yard(&a.parents, &moved, &a.targets), plan, &[0, 1, 9, 8, 1, 0, 0, 0], 0, refuse(13, 3))?;
+    w.step("A, a plan swapped", a, &[1, 0, 1, 0, 3, 1, 1, 4], &[0, 1, 9, 8, 2, 0, 0, 0, 0], 0, refuse(13, 2))?;
+    w.step(
+        "A, another swapped",
+        a,
+        &[9, 9, 3, 4, 1, 4],
+        &[0, 1, 9, 8, 1, 0, 0, 0, 0],
+        0,
+        Ok((&[0, 0, 0, 1, 1], [0, 0, 1, 4, 0, 0, 0, 0, 1], false)),
+    )?;
+    w.step("A, its end missed", &yard(&a.parents, &moved, &a.targets), plan, &[0, 1, 9, 8, 1, 0, 0, 0, 0], 0, refuse(13, 3))?;
 
     // Each refusal before the next: a circle, a block of another length, the registers in their order, a start while not idle, the checker.
     let circle = yard(&[0, 0, 0, 4, 3], &a.pebbles, &a.targets);
-    w.step("A, 6 before 2", &circle, plan, &[9; 9], 0, refuse(6, 3))?;
+    w.step("A, 6 before 2", &circle, plan, &[9; 8], 0, refuse(6, 3))?;
     // As many bytes as registers once the high bytes are lost.
-    for length in [0, 7, 9, 16, 256 + 8, 65_536 + 8] {
+    for length in [0, 8, 10, 18, 256 + 9, 65_536 + 9] {
         w.step("A, 2 before 24", a, plan, &vec![9; length], 0, refuse(2, 0))?;
     }
     for (block, place) in [
-        ([4, 3, 9, 8, 5, 0, 0, 4], 0),
-        ([255, 0, 9, 8, 0, 0, 0, 0], 0),
-        ([3, 3, 9, 8, 5, 0, 0, 4], 1),
-        ([3, 255, 9, 8, 0, 0, 0, 4], 1),
-        ([3, 2, 9, 8, 5, 0, 0, 4], 4),
-        ([0, 1, 9, 8, 0, 0, 0, 4], 4),
-        ([0, 2, 9, 8, 0, 0, 0, 0], 4),
-        // Too many by the high byte alone.
-        ([0, 0, 9, 8, 0, 1, 0, 0], 4),
-        ([0, 1, 9, 8, 4, 1, 0, 0], 4),
+        ([4, 3, 9, 8, 5, 0, 0, 0, 4], 0),
+        ([255, 0, 9, 8, 0, 0, 0, 0, 0], 0),
+        ([3, 3, 9, 8, 5, 0, 0, 0, 4], 1),
+        ([3, 255, 9, 8, 0, 0, 0, 0, 4], 1),
+        ([3, 2, 9, 8, 5, 0, 0, 0, 4], 4),
+        ([0, 1, 9, 8, 0, 0, 0, 0, 4], 4),
+        ([0, 2, 9, 8, 0, 0, 0, 0, 0], 4),
+        // Too many by a higher byte alone.
+        ([0, 0, 9, 8, 0, 1, 0, 0, 0], 4),
+        ([0, 1, 9, 8, 4, 1, 0, 0, 0], 4),
+        ([0, 0, 9, 8, 0, 0, 1, 0, 0], 4),
+        ([0, 1, 9, 8, 4, 0, 1, 0, 0], 4),
         // Also before a stop, which would put it right, and before 25.
-        ([2, 1, 9, 8, 5, 0, 0, 0], 4),
-        ([1, 0, 9, 8, 5, 0, 0, 0], 4),
-        ([1, 1, 9, 8, 5, 0, 0, 0], 4),
-        ([1, 1, 9, 8, 4, 0, 0, 4], 7),
-        ([3, 2, 9, 8, 4, 0, 0, 255], 7),
+        ([2, 1, 9, 8, 5, 0, 0, 0, 0], 4),
+        ([1, 0, 9, 8, 5, 0, 0, 0, 0], 4),
+        ([1, 1, 9, 8, 5, 0, 0, 0, 0], 4),
+        ([1, 1, 9, 8, 4, 0, 0, 0, 4], 8),
+        ([3, 2, 9, 8, 4, 0, 0, 0, 255], 8),
     ] {
         w.step("A, refusal 24", a, plan, &block, 0, refuse(24, place))?;
     }
     for status in [1, 2] {
-        w.step("A, 25 before 9", a, &[plan, &[0]].concat(), &[1, status, 9, 8, 4, 0, 0, 3], 0, refuse(25, 0))?;
+        w.step("A, 25 before 9", a, &[plan, &[0]].concat(), &[1, status, 9, 8, 4, 0, 0, 0, 3], 0, refuse(25, 0))?;
     }
     Ok(())
 }
@@ -430,11 +452,11 @@ fn registers_on_a(w: &mut Worked, a: &Yard, plan: &[u8]) -> Same {
 /// Request 2.9 on two nodes: what the checker refuses, and what a running step does.
 fn steps_on_two(w: &mut Worked) -> Same {
     let two = |pebbles: &[u8], targets: &[u8]| yard(&[0, 0], pebbles, targets);
-    let start = |mask: u8| [1, 0, 9, 8, 0, 0, mask, 2];
-    let running = |left: u8| [0, 1, 9, 8, left, 0, 0, 0];
+    let start = |mask: u8| [1, 0, 9, 8, 0, 0, 0, mask, 2];
+    let running = |left: u8| [0, 1, 9, 8, left, 0, 0, 0, 0];
     let (there, home) = (two(&[1, 0], &[0, 1]), two(&[1, 0], &[1, 0]));
-    w.step("an empty plan finishes", &home, &[], &start(1), 0, Ok((&[1, 0], [0, 0, 9, 8, 0, 0, 1, 3], true)))?;
-    w.step("an empty plan finishes unseen", &home, &[], &start(4), 0, Ok((&[1, 0], [0, 0, 9, 8, 0, 0, 4, 3], false)))?;
+    w.step("an empty plan finishes", &home, &[], &start(1), 0, Ok((&[1, 0], [0, 0, 9, 8, 0, 0, 0, 1, 3], true)))?;
+    w.step("an empty plan finishes unseen", &home, &[], &start(4), 0, Ok((&[1, 0], [0, 0, 9, 8, 0, 0, 0, 4, 3], false)))?;
     w.step("start, 7 before 9", &two(&[1, 0], &[1, 1]), &[0, 1, 1], &start(0), 0, refuse(7, 0))?;
     w.step("start, 9 before 10", &there, &[2, 0, 1], &start(0), 0, refuse(9, 0))?;
     w.step("start, 10", &there, &[0, 1, 1, 2], &start(0), 0, refuse(10, 1))?;
@@ -444,11 +466,11 @@ fn steps_on_two(w: &mut Worked) -> Same {
     w.step("start, 14", &there, &[0, 1, 1, 0], &start(0), 0, refuse(14, 1))?;
 
     // Each flag is set beside the other.
-    w.step("stalled, had finished", &there, &[0, 1], &[0, 1, 9, 8, 1, 0, 2, 1], 1, Ok((&[1, 0], [0, 2, 9, 8, 1, 0, 2, 3], true)))?;
-    w.step("finished, had stalled", &there, &[0, 1], &[0, 1, 9, 8, 1, 0, 0, 2], 0, Ok((&[0, 1], [0, 0, 0, 1, 0, 0, 0, 3], false)))?;
+    w.step("stalled, had finished", &there, &[0, 1], &[0, 1, 9, 8, 1, 0, 0, 2, 1], 1, Ok((&[1, 0], [0, 2, 9, 8, 1, 0, 0, 2, 3], true)))?;
+    w.step("finished, had stalled", &there, &[0, 1], &[0, 1, 9, 8, 1, 0, 0, 0, 2], 0, Ok((&[0, 1], [0, 0, 0, 1, 0, 0, 0, 0, 3], false)))?;
 
     // A running step looks at its own move alone, not at those before and behind it, nor at the targets.
-    w.step("running, others not", &two(&[1, 0], &[1, 1]), &[9, 9, 0, 1, 9, 9], &running(2), 0, Ok((&[0, 1], [0, 1, 0, 1, 1, 0, 0, 0], false)))?;
+    w.step("running, others not", &two(&[1, 0], &[1, 1]), &[9, 9, 0, 1, 9, 9], &running(2), 0, Ok((&[0, 1], [0, 1, 0, 1, 1, 0, 0, 0, 0], false)))?;
     for failed in [0, 1] {
         w.step("running, 9 before 10", &there, &[0, 1, 2, 0, 1], &running(1), failed, refuse(9, 0))?;
         w.step("running, 10", &there, &[0, 1, 1, 2], &running(1), failed, refuse(10, 1))?;
@@ -456,15 +478,110 @@ fn steps_on_two(w: &mut Worked) -> Same {
         w.step("running, 12", &there, &[0, 1, 1, 0], &running(1), failed, refuse(12, 1))?;
         w.step("running, 13", &two(&[1, 1], &[1, 1]), &[0, 1, 0, 1], &running(1), failed, refuse(13, 1))?;
     }
-    // Of an odd plan the other steps see the whole moves only. With more than 65,535 of them any moves left are within the plan.
-    let long = vec![0; 131_076];
+    // Of an odd plan the other steps see the whole moves only. It may be too long.
+    let long = vec![0; 262_146];
     for plan in [&[0, 1, 1][..], &long] {
         let left = if plan.len() == 3 { 1 } else { 5 };
-        w.step("idle, no 9", &there, plan, &[0, 0, 9, 8, left, 0, 0, 0], 1, Ok((&[1, 0], [0, 0, 9, 8, left, 0, 0, 0], false)))?;
-        w.step("stalled, no 9", &there, plan, &[0, 2, 9, 8, left, 0, 0, 0], 1, Ok((&[1, 0], [0, 2, 9, 8, left, 0, 0, 0], false)))?;
-        w.step("stop, no 9", &there, plan, &[2, 1, 9, 8, left, 0, 0, 0], 1, Ok((&[1, 0], [0, 0, 9, 8, 0, 0, 0, 0], false)))?;
-        w.step("acknowledge, no 9", &there, plan, &[3, 2, 9, 8, left, 0, 0, 2], 1, Ok((&[1, 0], [0, 1, 9, 8, left, 0, 0, 0], false)))?;
+        w.step("idle, no 9", &there, plan, &[0, 0, 9, 8, left, 0, 0, 0, 0], 1, Ok((&[1, 0], [0, 0, 9, 8, left, 0, 0, 0, 0], false)))?;
+        w.step("stalled, no 9", &there, plan, &[0, 2, 9, 8, left, 0, 0, 0, 0], 1, Ok((&[1, 0], [0, 2, 9, 8, left, 0, 0, 0, 0], false)))?;
+        w.step("stop, no 9", &there, plan, &[2, 1, 9, 8, left, 0, 0, 0, 0], 1, Ok((&[1, 0], [0, 0, 9, 8, 0, 0, 0, 0, 0], false)))?;
+        w.step("acknowledge, no 9", &there, plan, &[3, 2, 9, 8, left, 0, 0, 0, 2], 1, Ok((&[1, 0], [0, 1, 9, 8, left, 0, 0, 0, 0], false)))?;
         w.step("running, 9", &there, plan, &running(left), 0, refuse(9, 0))?;
     }
-    w.step("24 by whole moves", &there, &[0, 1, 1], &[0, 0, 9, 8, 2, 0, 0, 0], 0, refuse(24, 4))
+    w.step("24 by whole moves", &there, &[0, 1, 1], &[0, 0, 9, 8, 2, 0, 0, 0, 0], 0, refuse(24, 4))
+}
+
+/// Request 2.10, each of its rules on the smallest yard that shows it.
+fn deep_nodes(w: &mut Worked) -> Same {
+    let plans: [(&str, Yard, &[u8], u32); 6] = [
+        // A name, the yard, its plan, the displaced.
+        ("two of three go down", deep(&[0, 0], &[3, 0], &[1, 2], &[3, 2]), &[0, 1, 0, 1], 2),
+        // The root holds a pebble that is to stay.
+        ("draws while it holds one", deep(&[0, 0, 0], &[1, 1, 0], &[2, 0, 0], &[2, 1, 1]), &[1, 0], 1),
+        // Yard B, its node 1 with a place: the pebble that came last goes on.
+        ("not cleared with a place", deep(&[0, 0, 1], &[1, 1, 0], &[0, 1, 1], &[1, 2, 1]), &[0, 1, 1, 2], 1),
+        ("cleared when full", deep(&[0, 0, 1], &[1, 2, 0], &[0, 2, 1], &[1, 2, 1]), &[1, 2, 0, 1], 2),
+        ("not drawn to while it holds one", deep(&[0, 0, 1], &[0, 2, 1], &[1, 2, 0], &[1, 2, 1]), &[1, 0, 2, 1], 2),
+        ("drawn to when it holds none", deep(&[0, 0, 1], &[0, 0, 1], &[1, 0, 0], &[1, 2, 1]), &[2, 1, 1, 0], 1),
+    ];
+    for (name, yard, moves, displaced) in plans {
+        w.plan(name, &yard, ANY, Ok(moves))?;
+        w.is(name, figures::displaced(&yard), Ok(displaced))?;
+        w.check(name, &yard, moves, Ok(Checked { moves: moves.len() as u32 / 2, excess: 0 }))?;
+        w.is(name, follow::judge(&yard, moves), Ok(()))?;
+    }
+    let two = |pebbles: &[u8], targets: &[u8]| deep(&[0, 0], pebbles, targets, &[3, 2]);
+    w.is("of counts, demands", demands::of_tree(&two(&[3, 0], &[0, 2])), vec![-1, 2])?;
+    w.printed("of counts, printed", &two(&[3, 0], &[1, 2]), &["from to", "0 1", "0 1", "track up down", "1 0 2", "total", "2"])?;
+    w.plan("of counts, 7", &two(&[3, 0], &[0, 2]), ANY, refuse(7, 0))?;
+    // A pebble that goes there and back crosses an edge twice, whoever goes.
+    w.is("there and back", follow::judge(&two(&[2, 0], &[2, 0]), &[0, 1, 1, 0]).is_err(), true)?;
+
+    w.push("push to one with a place", &two(&[2, 1], &[0, 0]), 0, 1, Ok(vec![1, 2]))?;
+    w.push("push, 12", &two(&[2, 0], &[0, 0]), 1, 0, refuse(12, 0))?;
+    w.push("push, 13", &two(&[2, 2], &[0, 0]), 0, 1, refuse(13, 0))?;
+    w.check("13 at the third move", &two(&[3, 0], &[1, 2]), &[0, 1, 0, 1, 0, 1], refuse(13, 2))?;
+    w.check("14 by the count", &two(&[3, 0], &[1, 2]), &[0, 1], refuse(14, 1))?;
+    w.trial("budget 1", &two(&[3, 0], &[1, 2]), &[0, 1, 0, 1], 1, Ok((Tried { taken: 1, budget_ended: true }, vec![2, 1])))?;
+
+    let kept = |pebbles: &[u8], targets: &[u8], demands: &[i16]| Kept { yard: two(pebbles, targets), demands: demands.to_vec() };
+    let right = kept(&[2, 2], &[0, 1], &[-3, -1]);
+    w.event("one more", &right, Event::PebbleArrives, 0, Ok(kept(&[3, 2], &[0, 1], &[-4, -1])))?;
+    w.event("no place", &right, Event::PebbleArrives, 1, refuse(20, 0))?;
+    w.event("one less", &right, Event::PebbleLeaves, 1, Ok(kept(&[2, 1], &[0, 1], &[-2, 0])))?;
+    w.event("a second target", &right, Event::TargetSet, 1, Ok(kept(&[2, 2], &[0, 2], &[-2, 0])))?;
+    w.event("no target to take", &right, Event::TargetCleared, 0, refuse(20, 0))?;
+
+    w.nearest("of several pebbles", &two(&[3, 2], &[0, 0]), 1, Ok((1, 0)))?;
+    w.reach("nodes are counted, not pebbles", &two(&[3, 2], &[0, 0]), 2, 1, 1, Ok(&[1, 1]))?;
+
+    let plan = [0, 1, 0, 1];
+    w.step("start", &two(&[3, 0], &[1, 2]), &plan, &[1, 0, 9, 8, 0, 0, 0, 0, 0], 0, Ok((&[3, 0], [0, 1, 9, 8, 2, 0, 0, 0, 0], false)))?;
+    w.step("a step", &two(&[3, 0], &[1, 2]), &plan, &[0, 1, 9, 8, 2, 0, 0, 0, 0], 0, Ok((&[2, 1], [0, 1, 0, 1, 1, 0, 0, 0, 0], false)))?;
+    w.step("the last step", &two(&[2, 1], &[1, 2]), &plan, &[0, 1, 9, 8, 1, 0, 0, 1, 0], 0, Ok((&[1, 2], [0, 0, 0, 1, 0, 0, 0, 1, 1], true)))?;
+    w.step("a step, 13", &two(&[2, 2], &[1, 2]), &plan, &[0, 1, 9, 8, 1, 0, 0, 1, 0], 0, refuse(13, 1))
+}
+
+/// A depth outside 1 to 8 is 26, over all nodes before 27, a count above its depth: all pebbles before the targets. Both stand between 2 and 4.
+fn order_of_26_and_27(w: &mut Worked) -> Same {
+    let three = |pebbles: &[u8], targets: &[u8], depths: &[u8]| deep(&[0, 0, 0], pebbles, targets, depths);
+    for (name, yard, number, place) in [
+        ("no depth", three(&[0; 3], &[0; 3], &[1, 0, 0]), 26, 1),
+        ("too deep", three(&[0; 3], &[0; 3], &[8, 8, 9]), 26, 2),
+        ("26 before 27", three(&[9, 0, 0], &[0; 3], &[1, 1, 255]), 26, 2),
+        ("2 before 26", three(&[0; 3], &[0; 3], &[0, 1]), 2, 0),
+        ("2 of depths", three(&[0; 3], &[0; 3], &[1; 4]), 2, 0),
+        ("2 of no depths", three(&[0; 3], &[0; 3], &[]), 2, 0),
+        ("1 before 2", deep(&[], &[0], &[0], &[1]), 1, 0),
+        ("pebbles before targets", three(&[0, 0, 2], &[2, 0, 0], &[1; 3]), 27, 2),
+        ("each by its own depth", three(&[8, 7, 2], &[8, 7, 1], &[8, 7, 1]), 27, 2),
+        ("targets too", three(&[0; 3], &[3, 4, 4], &[3, 3, 3]), 27, 1),
+        ("26 before 4", deep(&[0, 9], &[0; 2], &[0; 2], &[1, 9]), 26, 1),
+        ("27 before 4", deep(&[0, 9], &[0; 2], &[0, 2], &[1, 1]), 27, 1),
+    ] {
+        w.is(name, judge(&yard), refuse(number, place))?;
+        w.caller.figures(&yard)?;
+        if yard.depths.len() == yard.nodes() && yard.nodes() > 0 {
+            w.printed(name, &yard, &["refusal place", &format!("{number} {place}")])?;
+        }
+    }
+    // As full as can be.
+    let full = three(&[8, 1, 3], &[8, 1, 3], &[8, 1, 3]);
+    w.plan("as full as can be", &full, ANY, Ok(&[]))
+}
+
+/// The longest plans of all, of 131,072 moves, and the longest that the move program has room for.
+fn longest_of_all(w: &mut Worked) -> Same {
+    let line = |n: usize| far(Shape::Line, n, 8, &mut Random::new(0));
+    let longest = line(256);
+    let moves = plan(&longest, MAX_PLAN_BYTES).unwrap_or_default();
+    w.is("the longest plan", moves.len(), 262_144)?;
+    w.is("the figure for 256", figures::longest_plan(256), Ok(131_072))?;
+    w.check("the longest plan", &longest, &moves, Ok(Checked { moves: 131_072, excess: 0 }))?;
+    w.plan("a byte too few", &longest, 262_143, refuse(8, 131_072))?;
+    w.printed("too long for the program", &longest, &["refusal place", "8 131072"])?;
+    w.printed("a little too long for it", &line(129), &["refusal place", "8 33280"])?;
+    let printed = program(&sheet::unjudged(&line(128)));
+    w.is("just not too long for it", report::judge(&line(128), &printed), Ok(()))?;
+    w.is("its total", printed.ends_with(b"\ntotal\n32768\n"), true)
 }

@@ -56,10 +56,10 @@ abbrev pub noted : {A : Type 0} → Answer A → (A → ℕ) → ℕ → ℕ
 noted (answered a) value old = value a
 noted (refused f) value old = old
 
--- an answer that one number tells: a value below 1,000,000, or a refusal of the table, which has no row 21 (request 2.8), with such a place. So all fits 32 bits, and value or number
+-- an answer that one number tells: a value below 1,000,000, or a refusal of the table, which has no rows 3 and 21, with such a place. So all fits 32 bits, and value or number
 -- and place can be read off again (`tells`)
 abbrev pub InTable : ℕ → Type 0
-InTable n = (0 < n) × (n ≤ rowCount) × (n ≢ 21)
+InTable n = (0 < n) × (n ≤ rowCount) × (n ≢ 3) × (n ≢ 21)
 
 pub record Row (f : Fault) : Type 0 where
   pub numbered : InTable (f .number)
@@ -71,4 +71,4 @@ Small (refused f) = Row f
 
 -- the version of the calls for C: raised whenever one is added, or gets further arguments or another meaning under its name
 abbrev pub version : ℕ
-version = 8
+version = 9

@@ -11,11 +11,11 @@ use Rattle.model.specs.Push.{Move, moveFault, pushed, after, run}
 use Rattle.model.specs.Calls.Answers.{Answer, answer, lent}
 use Rattle.model.specs.Calls.Plans.{movesOf}
 
--- the longest plan that checker and trial read, in bytes: 65,535 moves
+-- the longest plan that checker and trial read, in bytes (request 2.10): 131,072 moves
 abbrev pub maxPlanBytes : ℕ
-maxPlanBytes = 131_070
+maxPlanBytes = 262_144
 
--- 9: a plan of odd length, or above 131,070 bytes
+-- 9: a plan of odd length, or above 262,144 bytes
 abbrev pub bytesFault : List ℕ → Option Fault
 bytesFault bs = unless ((eqb (length bs % 2) 0) && (leb (length bs) maxPlanBytes)) (fault 9 0)
 
@@ -24,7 +24,7 @@ unfoldable pub movesFault : ℕ → Yard → List Move → Option Fault
 movesFault i y [] = none
 movesFault i y (m ∷ ms) = firstOf (moveFault y m i ∷ movesFault (suc i) (pushed y m) ms ∷ [])
 
--- 14: a target is empty at the end, at the lowest such node
+-- 14: a node has fewer pebbles than targets at the end, the lowest such one
 abbrev pub endFault : Yard → Option Fault
 endFault y = atLowest 14 (below (size y) (λ v. ltb (pebble y v) (target y v)))
 
@@ -47,7 +47,7 @@ abbrev pub checkAnswer : Yard → List ℕ → Answer Verdict
 checkAnswer y bs = answer (checkFault y bs) (record { moves = length (movesOf bs); excess = length (movesOf bs) - shortest y })
 
 -- The trial: refusals 1 to 6, 9, then 10 to 13 on the moves that it obeys, which are those from the front until the budget or the plan ends.
--- It answers how many it took and whether the plan ended (also where both end together), and writes the new marks into the pebble list.
+-- It answers how many it took and whether the plan ended (also where both end together), and writes the new counts into the pebble list.
 pub record Trial : Type 0 where
   pub taken : ℕ
   pub planEnded : Bool

@@ -8,7 +8,7 @@ use Prim.Native.Nat.{ℕ, _*_, _/_, _<_}
 use lib.ListN.{length}
 use lib.Dec.{leb, ltb, eqb}
 use lib.IntN.{ℤ}
-use Rattle.model.specs.Yard.{Yard, size, maxSize, demand, Equation2}
+use Rattle.model.specs.Yard.{Yard, size, maxSize, maxDepth, demand, Equation2}
 use Rattle.model.specs.Judge.{Fault, fault, firstOf, unless, judge, Tree, matchedFault}
 use Rattle.model.specs.Plan.{plan}
 use Rattle.model.specs.Follow.{displaced}
@@ -47,9 +47,10 @@ boundAnswer y = answer (matchedFault y) (lengthOf (length (plan y)))
 abbrev pub displacedAnswer : Yard → Answer ℕ
 displacedAnswer y = answer (matchedFault y) (displaced y)
 
--- The figure for n alone (request 2.2): the most moves that a yard of n nodes can need, a quarter of n × n, rounded down; 1, n is 0 or above 256
+-- The figure for n alone (requests 2.2 and 2.10): the most moves that a yard of n nodes can need, for each of eight layers a quarter of n × n, rounded down; 1, n is 0 or
+-- above 256
 abbrev pub longest : ℕ → ℕ
-longest n = n * n / 4
+longest n = maxDepth * (n * n / 4)
 
 abbrev pub longestFault : ℕ → Option Fault
 longestFault n = unless ((ltb 0 n) && (leb n maxSize)) (fault 1 0)

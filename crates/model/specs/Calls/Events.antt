@@ -15,7 +15,7 @@ use Rattle.model.specs.Judge.{Fault, fault, firstOf, unless, atLowest, j
 use Rattle.model.specs.Calls.Answers.{lent, range}
 use Rattle.model.specs.Calls.Demands.{demandsOf}
 
--- one more, and one less, at a node of a list of marks
+-- one more, and one less, at a node of a list of counts
 abbrev pub oneMore : List ℕ → ℕ → List ℕ
 oneMore list v = set list v (getD list v 0 + 1)
 
@@ -36,7 +36,7 @@ targetsAfter y TargetSet v = oneMore (y .targets) v
 targetsAfter y TargetCleared v = oneLess (y .targets) v
 
 unfoldable pub altered : Yard → Event → ℕ → Yard
-altered y e v = yardOf (y .parents) (pebblesAfter y e v) (targetsAfter y e v)
+altered y e v = yardOf (y .parents) (pebblesAfter y e v) (targetsAfter y e v) (y .depths)
 
 -- an entry that it changes, by one: a demand is targets minus pebbles
 abbrev pub changed : Event → ℤ → ℤ
@@ -52,13 +52,14 @@ entryAfter y e v list u = cond (inside (y .parents) u v) (changed e (entry list 
 unfoldable pub demandsAfter : Yard → Event → ℕ → List ℤ → List ℤ
 demandsAfter y e v list = map (entryAfter y e v list) (range 0 (size y))
 
--- 20, the event finds its mark already so: no room for the pebble or the target that comes, or none to take
+-- 20: no room for the pebble or the target that comes, or none to take
 abbrev pub possible : Yard → Event → ℕ → Bool
 possible y PebbleArrives v = ltb (pebble y v) (capacity y v)
 possible y PebbleLeaves v = ltb 0 (pebble y v)
 possible y TargetSet v = ltb (target y v) (capacity y v)
 possible y TargetCleared v = ltb 0 (target y v)
 
+-- 20 (with request 2.10), there is none to take, or no room for one more
 abbrev pub alreadyFault : Yard → Event → ℕ → Option Fault
 alreadyFault y e v = unless (possible y e v) (fault 20 0)
 
@@ -122,7 +123,7 @@ refusalOf c h = eventFault (c .yard) (c .demands) (h .event) (h .node)
 unfoldable pub leaves : Console → Happening → Console
 leaves c h =
     console
-    (yardOf (c .yard .parents) (eventPebbles (c .yard) (c .demands) (h .event) (h .node)) (eventTargets (c .yard) (c .demands) (h .event) (h .node)))
+    (yardOf (c .yard .parents) (eventPebbles (c .yard) (c .demands) (h .event) (h .node)) (eventTargets (c .yard) (c .demands) (h .event) (h .node)) (c .yard .depths))
     (eventDemands (c .yard) (c .demands) (h .event) (h .node))
 
 -- each event gets what the one before left, after a refusal too

@@ -1,4 +1,4 @@
--- The cabinet's step (request 2.9). The pusher cabinet is driven through a block of eight bytes. It lends the block to each step, together with the yard and
+-- The cabinet's step (requests 2.9 and 2.10). The pusher cabinet is driven through a block of nine bytes. It lends the block to each step, together with the yard and
 -- the plan, and may tell the step that the pebble did not arrive (`failed`). One step is one function of these: `stepped`.
 use mathlib.Core.Bool.{Bool, not, cond, _&&_, _||_}
 use mathlib.Core.List.{List, [], _∷_}
@@ -37,12 +37,12 @@ running = 1
 abbrev pub stalled : ℕ
 stalled = 2
 
--- the block, a byte for each register but for the moves left, which have two, the lower one first
+-- the block, a byte for each register but for the moves left, which have three (request 2.10), the lowest one first
 abbrev pub blockLength : ℕ
-blockLength = 8
+blockLength = 9
 
 unfoldable pub blockOf : Registers → List ℕ
-blockOf r = r .command ∷ r .status ∷ r .from ∷ r .to ∷ r .left % 256 ∷ r .left / 256 ∷ r .mask ∷ r .flags ∷ []
+blockOf r = r .command ∷ r .status ∷ r .from ∷ r .to ∷ r .left % 256 ∷ r .left / 256 % 256 ∷ r .left / 65_536 ∷ r .mask ∷ r .flags ∷ []
 
 unfoldable pub registersOf : List ℕ → Registers
 registersOf block = record {
@@ -50,9 +50,9 @@ registersOf block = record {
   status = getD block 1 0;
   from = getD block 2 0;
   to = getD block 3 0;
-  left = getD block 4 0 + 256 * getD block 5 0;
-  mask = getD block 6 0;
-  flags = getD block 7 0;
+  left = getD block 4 0 + 256 * getD block 5 0 + 65_536 * getD block 6 0;
+  mask = getD block 7 0;
+  flags = getD block 8 0;
 }
 
 -- bit k of a number, and the number with bit k set
@@ -102,7 +102,7 @@ registerTests moves r =
     unless (leb (r .command) acknowledge) (fault 24 0)
     ∷ unless (leb (r .status) stalled) (fault 24 1)
     ∷ unless ((leb (r .left) moves) && ((eqb (r .status) idle) || (ltb 0 (r .left)))) (fault 24 4)
-    ∷ unless (leb (r .flags) maxFlags) (fault 24 7)
+    ∷ unless (leb (r .flags) maxFlags) (fault 24 8)
     ∷ []
 
 unfoldable pub registerFault : ℕ → Registers → Option Fault

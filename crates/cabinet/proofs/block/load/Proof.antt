@@ -1,4 +1,4 @@
--- `load` reads the eight bytes.
+-- `load` reads the nine bytes.
 use borrow.Author.Needs.{needs}
 use native.Mathlib.Omega.{arith}
 use mathlib.Core.Path.{refl}
@@ -22,25 +22,37 @@ shared-slice-read-t11 : tie.Need-shared-slice-read-t11
 shared-slice-read-t11 c = search needs
 
 cast-t12 : tie.Need-cast-t12
-cast-t12 c = omega (arith, c .shared-slice-known5 .given 4, c .shared-slice-known5 .given 5)
+cast-t12 c = omega (arith, c .shared-slice-known5 .given 4, c .shared-slice-known5 .given 5, c .shared-slice-known5 .given 6)
 
 shared-slice-read-t14 : tie.Need-shared-slice-read-t14
 shared-slice-read-t14 c = search needs
 
 cast-t15 : tie.Need-cast-t15
-cast-t15 c = omega (arith, c .shared-slice-known6 .given 4, c .shared-slice-known6 .given 5)
+cast-t15 c = omega (arith, c .shared-slice-known6 .given 4, c .shared-slice-known6 .given 5, c .shared-slice-known6 .given 6)
 
 mul-t16 : tie.Need-mul-t16
-mul-t16 c = omega (arith, c .shared-slice-known6 .given 4, c .shared-slice-known6 .given 5)
+mul-t16 c = omega (arith, c .shared-slice-known6 .given 4, c .shared-slice-known6 .given 5, c .shared-slice-known6 .given 6)
 
 add-t17 : tie.Need-add-t17
-add-t17 c = omega (arith, c .shared-slice-known6 .given 4, c .shared-slice-known6 .given 5)
+add-t17 c = omega (arith, c .shared-slice-known6 .given 4, c .shared-slice-known6 .given 5, c .shared-slice-known6 .given 6)
 
 shared-slice-read-t19 : tie.Need-shared-slice-read-t19
 shared-slice-read-t19 c = search needs
 
-shared-slice-read-t21 : tie.Need-shared-slice-read-t21
-shared-slice-read-t21 c = search needs
+cast-t20 : tie.Need-cast-t20
+cast-t20 c = omega (arith, c .shared-slice-known7 .given 4, c .shared-slice-known7 .given 5, c .shared-slice-known7 .given 6)
+
+mul-t21 : tie.Need-mul-t21
+mul-t21 c = omega (arith, c .shared-slice-known7 .given 4, c .shared-slice-known7 .given 5, c .shared-slice-known7 .given 6)
+
+add-t22 : tie.Need-add-t22
+add-t22 c = omega (arith, c .shared-slice-known7 .given 4, c .shared-slice-known7 .given 5, c .shared-slice-known7 .given 6)
+
+shared-slice-read-t24 : tie.Need-shared-slice-read-t24
+shared-slice-read-t24 c = search needs
+
+shared-slice-read-t26 : tie.Need-shared-slice-read-t26
+shared-slice-read-t26 c = search needs
 
 returns : tie.Need-returns
 unfolding registersOf
@@ -61,5 +73,9 @@ load-spec =
     mul-t16
     add-t17
     shared-slice-read-t19
-    shared-slice-read-t21
+    cast-t20
+    mul-t21
+    add-t22
+    shared-slice-read-t24
+    shared-slice-read-t26
     returns)

@@ -1,9 +1,9 @@
--- `store` writes the eight bytes.
+-- `store` writes the nine bytes.
 use borrow.Author.Needs.{needs}
 use native.Mathlib.Omega.{arith}
 use lib.ListN.{length-set}
 use Rattle.model.specs.Calls.Registers.{blockOf}
-use Rattle.cabinet.proofs.Laws.{eight}
+use Rattle.cabinet.proofs.Laws.{nine}
 use Rattle.cabinet.proofs.block.store.Statement.{statement}
 use Rattle.cabinet.proofs.block.store.Tie as tie
 
@@ -31,18 +31,24 @@ cast-block-2 c = search needs
 slice-write-block-6 : tie.Need-slice-write-block-6
 slice-write-block-6 c = simp length-set (omega arith)
 
+cast-block-3 : tie.Need-cast-block-3
+cast-block-3 c = search needs
+
 slice-write-block-7 : tie.Need-slice-write-block-7
 slice-write-block-7 c = simp length-set (omega arith)
 
 slice-write-block-8 : tie.Need-slice-write-block-8
 slice-write-block-8 c = simp length-set (omega arith)
 
+slice-write-block-9 : tie.Need-slice-write-block-9
+slice-write-block-9 c = simp length-set (omega arith)
+
 same-length : tie.Need-same-length
 same-length c = search needs
 
 returns : tie.Need-returns
 unfolding blockOf
-returns c = eight (c .before .before .args .block .now) _ _ _ _ _ _ _ _ (search needs)
+returns c = nine (c .before .before .before .args .block .now) _ _ _ _ _ _ _ _ _ (search needs)
 
 pub store-spec : {M : Type 1} → statement M
 store-spec =
@@ -56,7 +62,9 @@ store-spec =
     slice-write-block-5
     cast-block-2
     slice-write-block-6
+    cast-block-3
     slice-write-block-7
     slice-write-block-8
+    slice-write-block-9
     same-length
     returns)

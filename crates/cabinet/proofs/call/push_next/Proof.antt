@@ -27,7 +27,7 @@ cast-step-2 : tie.Need-cast-step-2
 cast-step-2 c = search needs
 
 step-requires : tie.Need-step-requires
-step-requires c κs = let s = c .before .before .before .before .before .before .before .before .before .before .before in facts _ (s .pre) .pebbles-size
+step-requires c κs = let s = c .before .before .before .before .before .before .before .before .before .before .before in let f = facts _ (s .before .pre) in (f .pebbles-size, f .depths-size)
 
 same-length : tie.Need-same-length
 same-length c = search needs
@@ -38,9 +38,9 @@ returns-4 c =
     let p = c .before .before in
     let o = p .before .before .before .before in
     let n = o .before in
-    let s = n .before .before .before .before .before .before .before in
+    let s = n .before .before .before .before .before .before .before .before in
     let h = p .step .ensures in
-    rw (n .before .before .if1 .left, n .if2 .left, o .if3 .left) (step-push (s .args .parents .now) (s .args .pebbles .now) (s .args .targets .now) (push (s .args .told .from) (s .args .told .to)) (s .pre) (h .0) (h .1) .1)
+    rw (n .before .before .if1 .left, n .if2 .left, o .if3 .left) (step-push (s .args .parents .now) (s .args .pebbles .now) (s .args .targets .now) (s .args .depths .now) (push (s .args .told .from) (s .args .told .to)) (s .pre) (h .0) (h .1) .1)
 
 pub push-next-spec : {M : Type 1} → statement M
 push-next-spec =

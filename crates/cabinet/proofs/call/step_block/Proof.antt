@@ -15,10 +15,10 @@ use Rattle.cabinet.proofs.call.step_block.Statement.{statement}
 use Rattle.cabinet.proofs.call.step_block.Tie as tie
 
 abbrev start : tie.After-enum-told → tie.Start
-start e = e .before .before .before .before .before .before .before .before .before .before
+start e = (e .before .before .before .before .before .before .before .before .before .before .before)
 
 abbrev yard : tie.After-enum-told → Yard
-yard e = let a = start e .args in yardOf (a .parents .now) (a .pebbles .now) (a .targets .now)
+yard e = let a = start e .args in yardOf (a .parents .now) (a .pebbles .now) (a .targets .now) (a .depths .now)
 
 none-yet : (e : tie.After-enum-told) → let a = start e .args in stepFault (yard e) (a .plan .now) (a .block .now) ≡ none
 none-yet e = sees (e .before .before .test-step .ensures) (e .enum-told .given .1)
@@ -57,8 +57,8 @@ same-length-2 c = search needs
 returns : tie.Need-returns
 returns c =
     let t = c .before .before .before in
-    let a = t .before .before .before .before .before .before .before .before .args in
-    left-refused (yardOf (a .parents .now) (a .pebbles .now) (a .targets .now)) (a .plan .now) (a .block .now) (a .failed) (sees (t .test-step .ensures) (c .before .tested .given .1))
+    let a = t .before .before .before .before .before .before .before .before .before .args in
+    left-refused (yardOf (a .parents .now) (a .pebbles .now) (a .targets .now) (a .depths .now)) (a .plan .now) (a .block .now) (a .failed) (sees (t .test-step .ensures) (c .before .tested .given .1))
 
 enum-told : tie.Need-enum-told
 enum-told c = search needs
@@ -82,7 +82,7 @@ store-requires c κs =
     let e = o .before .before .before in
     let a = start e .args in
     let k = e .before .before .before .before .before in
-    (passed e .1, left-fits (yard e) (a .plan .now) (a .block .now) (a .failed) (none-yet e) (λ i. omega (arith, k .slice-known2 .given i)) (λ i. omega (arith, k .before .shared-slice-known3 .given i)) _ _ _ (o .before .load .ensures) (o .tell .ensures) (l .lend .ensures))
+    (passed e .1, left-fits (yard e) (a .plan .now) (a .block .now) (a .failed) (none-yet e) (λ i. omega (arith, k .slice-known2 .given i)) (λ i. omega (arith, k .before .shared-slice-known4 .given i)) _ _ _ (o .before .load .ensures) (o .tell .ensures) (l .lend .ensures))
 
 same-length-3 : tie.Need-same-length-3
 same-length-3 c = search needs

@@ -12,10 +12,10 @@ use Rattle.cabinet.proofs.test.test_next.Statement.{statement}
 use Rattle.cabinet.proofs.test.test_next.Tie as tie
 
 abbrev start : tie.Else1 → tie.Start
-start c = c .before .before .before .before .before .before
+start c = (c .before .before .before .before .before .before .before)
 
 abbrev yard : tie.Start → Yard
-yard s = yardOf (s .args .parents .now) (s .args .pebbles .now) (s .args .targets .now)
+yard s = yardOf (s .args .parents .now) (s .args .pebbles .now) (s .args .targets .now) (s .args .depths .now)
 
 -- the number of the next move, as it is worked out
 abbrev place : tie.Start → ℕ
@@ -37,7 +37,7 @@ shared-slice-read-test-move : tie.Need-shared-slice-read-test-move
 shared-slice-read-test-move c = let s = start (c .before .before) in omega (arith, next-lt (s .args .plan .now) (s .args .r) (s .pre .1) (s .pre .2))
 
 cast-test-move : tie.Need-cast-test-move
-cast-test-move c = omega (arith, c .shared-slice-known5 .given (2 * place (start (c .before .before))))
+cast-test-move c = omega (arith, c .shared-slice-known6 .given (2 * place (start (c .before .before))))
 
 mul-test-move-2 : tie.Need-mul-test-move-2
 mul-test-move-2 c = search needs
@@ -49,10 +49,10 @@ shared-slice-read-test-move-2 : tie.Need-shared-slice-read-test-move-2
 shared-slice-read-test-move-2 c = let s = start (c .before .before .before) in omega (arith, next-lt (s .args .plan .now) (s .args .r) (s .pre .1) (s .pre .2))
 
 cast-test-move-2 : tie.Need-cast-test-move-2
-cast-test-move-2 c = omega (arith, c .shared-slice-known6 .given (2 * place (start (c .before .before .before)) + 1))
+cast-test-move-2 c = omega (arith, c .shared-slice-known7 .given (2 * place (start (c .before .before .before)) + 1))
 
 test-move-requires : tie.Need-test-move-requires
-test-move-requires c κs = let s = start (c .before .before .before) in facts (yard s) (s .pre .0) .pebbles-size
+test-move-requires c κs = let s = start (c .before .before .before) in let f = facts (yard s) (s .pre .0) in (f .pebbles-size, f .depths-size)
 
 returns-2 : tie.Need-returns-2
 returns-2 c =

@@ -14,10 +14,10 @@ use Rattle.cabinet.proofs.test.test_step.Statement.{statement}
 use Rattle.cabinet.proofs.test.test_step.Tie as tie
 
 abbrev start : tie.After-enum-told → tie.Start
-start e = e .before .before .before .before .before .before .before .before
+start e = (e .before .before .before .before .before .before .before .before .before)
 
 abbrev yard : tie.After-enum-told → Yard
-yard e = let a = start e .args in yardOf (a .parents .now) (a .pebbles .now) (a .targets .now)
+yard e = let a = start e .args in yardOf (a .parents .now) (a .pebbles .now) (a .targets .now) (a .depths .now)
 
 tree : (e : tie.After-enum-told) → Tree (yard e)
 tree e = sees (e .before .before .test-yard .ensures) (e .enum-told .given .1)
@@ -44,7 +44,7 @@ enum-told c = search needs
 
 returns-2 : tie.Need-returns-2
 unfolding stepFault
-returns-2 c = rw (tree (c .before), ne-eqb _ 8 (c .if1 .taken))
+returns-2 c = rw (tree (c .before), ne-eqb _ 9 (c .if1 .taken))
 
 load-requires : tie.Need-load-requires
 load-requires c κs = search needs
@@ -60,7 +60,7 @@ unfolding stepFault
 returns-3 c =
     let t = c .before .before .before in
     let o = t .before .before in
-    rw (tree (o .before), eq-eqb _ 8 (o .if1 .left), told t (sees (t .test-registers .ensures) (c .before .right .given .1)))
+    rw (tree (o .before), eq-eqb _ 9 (o .if1 .left), told t (sees (t .test-registers .ensures) (c .before .right .given .1)))
 
 enum-told-2 : tie.Need-enum-told-2
 enum-told-2 c = search needs
@@ -78,7 +78,7 @@ returns-4 c =
     let o = t .before .before in
     let e = o .before in
     c .test-task .ensures ∙ ap (taskFault (yard e) (start e .args .plan .now)) (t .before .load .ensures)
-    ∙ rw (tree e, eq-eqb _ 8 (o .if1 .left), told t (sees (t .test-registers .ensures) (c .before .enum-told2 .given .1))) (sym (single _))
+    ∙ rw (tree e, eq-eqb _ 9 (o .if1 .left), told t (sees (t .test-registers .ensures) (c .before .enum-told2 .given .1))) (sym (single _))
 
 pub test-step-spec : {M : Type 1} → statement M
 test-step-spec =

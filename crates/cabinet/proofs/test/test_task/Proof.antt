@@ -9,7 +9,7 @@ use Rattle.cabinet.proofs.test.test_task.Statement.{statement}
 use Rattle.cabinet.proofs.test.test_task.Tie as tie
 
 abbrev start : tie.Else4 → tie.Start
-start c = c .before .before .before .before .before .before .before .before .before .before
+start c = (c .before .before .before .before .before .before .before .before .before .before .before)
 
 returns : tie.Need-returns
 unfolding taskFault

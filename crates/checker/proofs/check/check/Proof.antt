@@ -22,8 +22,8 @@ enum-told c = search needs
 shortest-length-requires : tie.Need-shortest-length-requires
 shortest-length-requires c κs = check-fit _ _ (sees (c .before .before .test-plan .ensures) (c .enum-told .given .1)) .0
 
-sub-t9 : tie.Need-sub-t9
-sub-t9 c =
+sub-t10 : tie.Need-sub-t10
+sub-t10 c =
     let e = sees (c .before .before .before .test-plan .ensures) (c .before .enum-told .given .1) in
     omega (arith, c .shortest-length .ensures, check-long _ _ e)
 
@@ -39,5 +39,5 @@ check-spec =
     returns
     enum-told
     shortest-length-requires
-    sub-t9
+    sub-t10
     returns-2)

@@ -10,7 +10,7 @@ whole-plan-requires c κs = search needs
 
 returns : tie.Need-returns
 returns c =
-    let s = c .before .before .before .before .before .before in
+    let s = c .before .before .before .before .before .before .before in
     let w = c .before .whole-plan in
     sym (check-bytes _ (s .pre .0) (s .pre .1) _ _ (not-whole (w .result) (w .ensures) (c .if1 .taken)))
 
@@ -19,7 +19,7 @@ obey-to-end-requires c κs = search needs
 
 returns-2 : tie.Need-returns-2
 returns-2 c =
-    let s = c .before .before .before .before .before .before .before in
+    let s = c .before .before .before .before .before .before .before .before in
     let w = c .before .before .whole-plan in
     c .obey-to-end .ensures ∙ sym (check-moves _ (s .pre .0) (s .pre .1) _ (whole (w .result) (w .ensures) (c .before .if1 .left)))
 

@@ -1,4 +1,4 @@
--- `obey_copy` obeys a copy: the marks are the pebbles where `obey` begins.
+-- `obey_copy` obeys a copy: the counts are the pebbles where `obey` begins.
 use borrow.Author.Needs.{needs}
 use Rattle.checker.proofs.obey.obey_copy.Statement.{statement}
 use Rattle.checker.proofs.obey.obey_copy.Tie as tie
@@ -8,7 +8,7 @@ copy-requires c κs = search needs
 
 obey-requires : tie.Need-obey-requires
 obey-requires c κs =
-    let s = c .before .before .before .before .before .before .before .before .before .before in
+    let s = c .before .before .before .before .before .before .before .before .before .before .before in
     rw (c .before .before .before .copy .ensures) (s .pre .0)
 
 same-length : tie.Need-same-length

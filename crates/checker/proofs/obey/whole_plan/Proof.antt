@@ -1,4 +1,4 @@
--- `whole_plan` makes the two tests of refusal 9: an even length, and at most 131,070 bytes.
+-- `whole_plan` makes the two tests of refusal 9: an even length, and at most 262,144 bytes.
 use borrow.Author.Tests.{eq-eqb, ne-eqb}
 use Rattle.checker.proofs.obey.whole_plan.Statement.{statement}
 use Rattle.checker.proofs.obey.whole_plan.Tie as tie

@@ -13,18 +13,18 @@ use Rattle.checker.proofs.trial.obey_or_leave.Tie as tie
 few : (s : tie.Start) → length (s .args .parents .now) ≤ 256
 few s = facts _ (s .pre .0) .few .1
 
-back : (c : tie.After-obey-copy) → Back (length (c .before .before .before .before .before .before .before .args .parents .now)) (c .obey-copy .last .1 .1 .0)
-back c = came-back _ _ (few (c .before .before .before .before .before .before .before)) (c .obey-copy .kept .1 .1 .0)
+back : (c : tie.After-obey-copy) → Back (length (c .before .before .before .before .before .before .before .before .args .parents .now)) (c .obey-copy .last .1 .1 .0)
+back c = came-back _ _ (few (c .before .before .before .before .before .before .before .before)) (c .obey-copy .kept .1 .1 .0)
 
-array-borrow-prefix-marks : tie.Need-array-borrow-prefix-marks
-array-borrow-prefix-marks c = few (c .before .before .before .before .before)
+array-borrow-prefix-counts : tie.Need-array-borrow-prefix-counts
+array-borrow-prefix-counts c = few (c .before .before .before .before .before .before)
 
 slice-aggregate-obey-copy : tie.Need-slice-aggregate-obey-copy
-slice-aggregate-obey-copy c = sym (front-zeros _ (few (c .before .before .before .before .before .before)))
+slice-aggregate-obey-copy c = sym (front-zeros _ (few (c .before .before .before .before .before .before .before)))
 
 obey-copy-requires : tie.Need-obey-copy-requires
 obey-copy-requires c κs =
-    let s = c .before .before .before .before .before .before in
+    let s = c .before .before .before .before .before .before .before in
     (s .pre, front-zeros _ (few s) ∙ sym (facts _ (s .pre .0) .pebbles-size))
 
 enum-known-done : tie.Need-enum-known-done
@@ -41,14 +41,14 @@ returns c =
 enum-told : tie.Need-enum-told
 enum-told c = search needs
 
-array-share-prefix-marks : tie.Need-array-share-prefix-marks
-array-share-prefix-marks c = back (c .before .before .before) .fits
+array-share-prefix-counts : tie.Need-array-share-prefix-counts
+array-share-prefix-counts c = back (c .before .before .before) .fits
 
 slice-aggregate-copy : tie.Need-slice-aggregate-copy
 slice-aggregate-copy c = back (c .before .before .before .before) .long
 
 copy-requires : tie.Need-copy-requires
-copy-requires c κs = facts _ (c .before .before .before .before .before .before .before .before .before .before .before .before .pre .0) .pebbles-size ∙ back (c .before .before .before .before .before) .long
+copy-requires c κs = facts _ (c .before .before .before .before .before .before .before .before .before .before .before .before .before .pre .0) .pebbles-size ∙ back (c .before .before .before .before .before) .long
 
 same-length-2 : tie.Need-same-length-2
 same-length-2 c = search needs
@@ -63,14 +63,14 @@ pub obey-or-leave-spec : {M : Type 1} → statement M
 obey-or-leave-spec =
     tie.close
     (tie.spec
-    array-borrow-prefix-marks
+    array-borrow-prefix-counts
     slice-aggregate-obey-copy
     obey-copy-requires
     enum-known-done
     same-length
     returns
     enum-told
-    array-share-prefix-marks
+    array-share-prefix-counts
     slice-aggregate-copy
     copy-requires
     same-length-2

@@ -15,11 +15,11 @@ use Rattle.checker.proofs.Laws.{whole, not-whole, trial-refused, trial-
 use Rattle.checker.proofs.trial.trial.Statement.{statement}
 use Rattle.checker.proofs.trial.trial.Tie as tie
 
-told : (c : tie.After-enum-told) → let a = c .before .before .before .before .before .before .before .before .args in Tree (yardOf (a .parents .now) (a .pebbles .now) (a .targets .now))
+told : (c : tie.After-enum-told) → let a = c .before .before .before .before .before .before .before .before .before .args in Tree (yardOf (a .parents .now) (a .pebbles .now) (a .targets .now) (a .depths .now))
 told c = sees (c .before .before .test-yard .ensures) (c .enum-told .given .1)
 
 -- the moves taken decide the answer and the pebbles
-obeyed : (c : tie.After-obey-or-leave) → let a = c .before .before .before .before .before .before .before .before .before .before .before .before .before .args in let y = yardOf (a .parents .now) (a .pebbles .now) (a .targets .now) in
+obeyed : (c : tie.After-obey-or-leave) → let a = c .before .before .before .before .before .before .before .before .before .before .before .before .before .before .args in let y = yardOf (a .parents .now) (a .pebbles .now) (a .targets .now) (a .depths .now) in
     (paperDone (c .obey-or-leave .result) ≡ trialFault y (a .plan .now) (a .budget)) × (c .obey-or-leave .last .1 .0 ≡ trialPebbles y (a .plan .now) (a .budget))
 obeyed c =
     let e = c .before .before .before in
@@ -80,7 +80,7 @@ same-length-4 c = search needs
 returns-4 : tie.Need-returns-4
 returns-4 c =
     let o = obeyed (c .before .before .before .before .before) in
-    let a = c .before .before .before .before .before .before .before .before .before .before .before .before .before .before .before .before .before .before .args in
+    let a = c .before .before .before .before .before .before .before .before .before .before .before .before .before .before .before .before .before .before .before .args in
     (trial-answered _ _ _ (sees (o .0) (c .before .enum-told2 .given .1)) (omega (arith, c .before .before .before .before .before .before .before .smaller .ensures)) (le-leb (length (a .plan .now) / 2) (a .budget) (omega arith)), o .1)
 
 same-length-5 : tie.Need-same-length-5
@@ -89,7 +89,7 @@ same-length-5 c = search needs
 returns-5 : tie.Need-returns-5
 returns-5 c =
     let o = obeyed (c .before .before .before .before .before) in
-    let a = c .before .before .before .before .before .before .before .before .before .before .before .before .before .before .before .before .before .before .args in
+    let a = c .before .before .before .before .before .before .before .before .before .before .before .before .before .before .before .before .before .before .before .args in
     (trial-answered _ _ _ (sees (o .0) (c .before .enum-told2 .given .1)) (omega (arith, c .before .before .before .before .before .before .before .smaller .ensures)) (lt-leb (length (a .plan .now) / 2) (a .budget) (omega arith)), o .1)
 
 pub trial-spec : {M : Type 1} → statement M

@@ -9,19 +9,19 @@ use Rattle.demand.proofs.call.shortest_length.Statement.{statement}
 use Rattle.demand.proofs.call.shortest_length.Tie as tie
 
 abbrev yard : tie.Start → Yard
-yard s = yardOf (s .args .parents .now) (s .args .pebbles .now) (s .args .targets .now)
+yard s = yardOf (s .args .parents .now) (s .args .pebbles .now) (s .args .targets .now) (s .args .depths .now)
 
 array-borrow-prefix-list : tie.Need-array-borrow-prefix-list
-array-borrow-prefix-list c = let s = c .before .before .before in demands-room (yard s) (s .pre)
+array-borrow-prefix-list c = let s = c .before .before .before in demands-room (yard (s .before)) (s .before .pre)
 
 slice-aggregate-fill : tie.Need-slice-aggregate-fill
 slice-aggregate-fill c = sym (length-take-le _ _ (array-borrow-prefix-list (c .before)))
 
 fill-requires : tie.Need-fill-requires
-fill-requires c κs = (c .before .before .before .before .pre, length-take-le _ _ (array-borrow-prefix-list (c .before)))
+fill-requires c κs = (c .before .before .before .before .before .pre, length-take-le _ _ (array-borrow-prefix-list (c .before)))
 
 abbrev start : tie.After-fill → tie.Start
-start c = c .before .before .before .before .before
+start c = (c .before .before .before .before .before .before)
 
 array-share-prefix-list : tie.Need-array-share-prefix-list
 array-share-prefix-list c = simp length-append (omega (arith, demands-long (yard (start (c .before))) (c .before .fill .ensures)))

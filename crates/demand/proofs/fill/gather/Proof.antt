@@ -17,39 +17,39 @@ use Rattle.demand.proofs.fill.gather.Statement.{statement}
 use Rattle.demand.proofs.fill.gather.Tie as tie
 
 abbrev Inv-loop2 : tie.InvT-loop2
-Inv-loop2 parents pebbles targets list₀ n pending₀ left₀ v u₀ list pending left u =
-    (u < length parents) × Partial (yardOf parents pebbles targets) pending list × ((w : ℕ) → w < v + 1 → getD pending w 0 ≡ 1 → w ≡ u)
-    × (left ≡ overWaiting (yardOf parents pebbles targets) pending (λ _. 1))
+Inv-loop2 parents pebbles targets depths list₀ n pending₀ left₀ v u₀ list pending left u =
+    (u < length parents) × Partial (yardOf parents pebbles targets depths) pending list × ((w : ℕ) → w < v + 1 → getD pending w 0 ≡ 1 → w ≡ u)
+    × (left ≡ overWaiting (yardOf parents pebbles targets depths) pending (λ _. 1))
 
 abbrev μ-loop2 : tie.MeasureT-loop2
-μ-loop2 parents pebbles targets list₀ n pending₀ left₀ v u₀ list pending left u = left
+μ-loop2 parents pebbles targets depths list₀ n pending₀ left₀ v u₀ list pending left u = left
 
 abbrev Inv-loop : tie.InvT-loop
-Inv-loop parents pebbles targets list₀ n pending₀ left₀ v₀ list pending left v =
-    (v ≤ length parents) × Partial (yardOf parents pebbles targets) pending list × ((w : ℕ) → w < v → getD pending w 0 ≡ 1 → ⊥)
-    × (left ≡ overWaiting (yardOf parents pebbles targets) pending (λ _. 1))
+Inv-loop parents pebbles targets depths list₀ n pending₀ left₀ v₀ list pending left v =
+    (v ≤ length parents) × Partial (yardOf parents pebbles targets depths) pending list × ((w : ℕ) → w < v → getD pending w 0 ≡ 1 → ⊥)
+    × (left ≡ overWaiting (yardOf parents pebbles targets depths) pending (λ _. 1))
 
 abbrev μ-loop : tie.MeasureT-loop
-μ-loop parents pebbles targets list₀ n pending₀ left₀ v₀ list pending left v = length parents - v
+μ-loop parents pebbles targets depths list₀ n pending₀ left₀ v₀ list pending left v = length parents - v
 
 abbrev yard : tie.Start Inv-loop2 μ-loop2 Inv-loop μ-loop → Yard
-yard c = yardOf (c .args .parents .now) (c .args .pebbles .now) (c .args .targets .now)
+yard c = yardOf (c .args .parents .now) (c .args .pebbles .now) (c .args .targets .now) (c .args .depths .now)
 
 few : (c : tie.Start Inv-loop2 μ-loop2 Inv-loop μ-loop) → length (c .args .parents .now) ≤ 256
 few c = flat (yard c) (c .pre .0) .few .1
 
 own-requires : tie.Need-own-requires Inv-loop2 μ-loop2 Inv-loop μ-loop
 own-requires c κs =
-    let s = c .before .before .before .before in
+    let s = c .before .before .before .before .before in
     let f = flat (yard s) (s .pre .0) in
     (f .pebbles-size ∙ sym (s .pre .1), f .targets-size ∙ sym (s .pre .1))
 
 count-children-requires : tie.Need-count-children-requires Inv-loop2 μ-loop2 Inv-loop μ-loop
-count-children-requires c κs = few (c .before .before .before .before .before .before)
+count-children-requires c κs = few (c .before .before .before .before .before .before .before)
 
 loop-holds : tie.Need-loop-holds Inv-loop2 μ-loop2 Inv-loop μ-loop
 loop-holds c =
-    let s = c .before .before .before .before .before .before .before in
+    let s = c .before .before .before .before .before .before .before .before in
     let own = c .before .before .own in
     let counted = c .count-children .ensures in (
       omega arith,
@@ -62,14 +62,14 @@ loop2-holds : tie.Need-loop2-holds Inv-loop2 μ-loop2 Inv-loop μ-loop
 loop2-holds c = let i = c .before .loop .inv in (omega arith, i .1, below-more _ _ (λ w l e. absurd (i .2 w l e)) (λ _. refl), i .3)
 
 mul-loop2 : tie.Need-mul-loop2 Inv-loop2 μ-loop2 Inv-loop μ-loop
-mul-loop2 c = omega (arith, few (c .before .before .before .before .before .before .before .before .before .before))
+mul-loop2 c = omega (arith, few (c .before .before .before .before .before .before .before .before .before .before .before))
 
 array-read-loop2 : tie.Need-array-read-loop2 Inv-loop2 μ-loop2 Inv-loop μ-loop
-array-read-loop2 c = omega (arith, few (c .before .before .before .before .before .before .before .before .before .before))
+array-read-loop2 c = omega (arith, few (c .before .before .before .before .before .before .before .before .before .before .before))
 
 -- a turn of the climb: the node, its parent, and their entries
 abbrev start : tie.In-loop2 Inv-loop2 μ-loop2 Inv-loop μ-loop → tie.Start Inv-loop2 μ-loop2 Inv-loop μ-loop
-start t = t .before .before .before .before .before .before .before .before .before .before .before
+start t = (t .before .before .before .before .before .before .before .before .before .before .before .before)
 
 abbrev node : tie.In-loop2 Inv-loop2 μ-loop2 Inv-loop μ-loop → ℕ
 node t = t .before .loop2 .u
@@ -115,8 +115,8 @@ slice-copy-out-plus-2 c = omega (arith, within (c .before .before))
 plus-requires : tie.Need-plus-requires Inv-loop2 μ-loop2 Inv-loop μ-loop
 plus-requires c κs = omega (arith, ap natAbs (held (c .before .before .before)), joined-small (ready (c .before .before .before)))
 
-mul-t29 : tie.Need-mul-t29 Inv-loop2 μ-loop2 Inv-loop μ-loop
-mul-t29 c = omega (arith, within (c .before .before .before .before))
+mul-t30 : tie.Need-mul-t30 Inv-loop2 μ-loop2 Inv-loop μ-loop
+mul-t30 c = omega (arith, within (c .before .before .before .before))
 
 slice-set-from-list : tie.Need-slice-set-from-list Inv-loop2 μ-loop2 Inv-loop μ-loop
 slice-set-from-list c = omega (arith, within (c .before .before .before .before))
@@ -163,16 +163,16 @@ loop-again c =
     (omega arith, loop2 .inv .1, (λ w l e. c .loop2-test .left (ap (λ (u : ℕ). getD (loop2 .pending) u 0) (sym (loop2 .inv .2 w l e)) ∙ e)), loop2 .inv .3)
 
 same-length : tie.Need-same-length Inv-loop2 μ-loop2 Inv-loop μ-loop
-same-length c = c .before .loop .inv .1 .long ∙ sym (c .before .before .before .before .before .before .before .before .before .pre .1)
+same-length c = c .before .loop .inv .1 .long ∙ sym (c .before .before .before .before .before .before .before .before .before .before .pre .1)
 
 returns : tie.Need-returns Inv-loop2 μ-loop2 Inv-loop μ-loop
 returns c =
-    let y = yard (c .before .before .before .before .before .before .before .before .before) in
+    let y = yard (c .before .before .before .before .before .before .before .before .before .before) in
     let i = c .before .loop .inv in
     let none : (w : ℕ) → w < size y → getD (c .before .loop .pending) w 0 ≡ 1 → ⊥ = λ w k. i .2 w (omega arith) in
     record {
       long = i .1 .long;
-      shape = λ e. shape-wood (left-wood (i .1) none (sym (i .3) ∙ e) .1) (y .pebbles) (y .targets);
+      shape = λ e. shape-wood (left-wood (i .1) none (sym (i .3) ∙ e) .1) (y .pebbles) (y .targets) (y .depths);
       tree = λ t. i .3 ∙ root-left (i .1) none t;
       meets = λ e. left-meets (i .1) none (sym (i .3) ∙ e);
     }
@@ -198,7 +198,7 @@ gather-spec =
     mul-plus-2
     slice-copy-out-plus-2
     plus-requires
-    mul-t29
+    mul-t30
     slice-set-from-list
     mul-pending
     array-read-pending

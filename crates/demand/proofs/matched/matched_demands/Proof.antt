@@ -21,10 +21,10 @@ use Rattle.demand.proofs.matched.matched_demands.Statement.{statement}
 use Rattle.demand.proofs.matched.matched_demands.Tie as tie
 
 abbrev start : tie.After-enum-told → tie.Start
-start e = e .before .before .before .before .before .before .before .before
+start e = (e .before .before .before .before .before .before .before .before .before)
 
 abbrev yard : tie.After-enum-told → Yard
-yard e = let a = start e .args in yardOf (a .parents .now) (a .pebbles .now) (a .targets .now)
+yard e = let a = start e .args in yardOf (a .parents .now) (a .pebbles .now) (a .targets .now) (a .depths .now)
 
 tree : (e : tie.After-enum-told) → Tree (yard e)
 tree e = sees (e .before .before .before .tree-demands .ensures .0) (e .enum-told .given .1)
@@ -36,7 +36,7 @@ within : (c : tie.After-first-own) → c .first-own .result < 256
 within c = let e = c .before in omega (arith, found c, wood (yard e) (tree e) .root-lt, facts (yard e) (tree e) .few)
 
 -- the root's entry
-entry : (c : tie.After-first-own) → let e = c .before in getD (e .before .before .before .tree-demands .last .1 .1 .1 .0) (c .first-own .result) (pos 0) ≡ demand (yard e) (root (yard e))
+entry : (c : tie.After-first-own) → let e = c .before in getD (e .before .before .before .tree-demands .last .1 .1 .1 .1 .0) (c .first-own .result) (pos 0) ≡ demand (yard e) (root (yard e))
 entry c =
     let e = c .before in
     rw (found c) (demands-at (yard e) _ (root (yard e)) (e .before .before .before .tree-demands .ensures .1 (tree e)) (wood (yard e) (tree e) .root-lt))

@@ -20,10 +20,10 @@ use Rattle.demand.proofs.matched.tree_demands.Statement.{statement}
 use Rattle.demand.proofs.matched.tree_demands.Tie as tie
 
 abbrev start : tie.After-enum-told → tie.Start
-start e = e .before .before .before .before .before .before
+start e = (e .before .before .before .before .before .before .before)
 
 abbrev yard : tie.After-enum-told → Yard
-yard e = let a = start e .args in yardOf (a .parents .now) (a .pebbles .now) (a .targets .now)
+yard e = let a = start e .args in yardOf (a .parents .now) (a .pebbles .now) (a .targets .now) (a .depths .now)
 
 -- where the lists pass
 passed : (e : tie.After-enum-told) → firstOf (listTests (yard e)) ≡ none
@@ -52,8 +52,8 @@ enum-known-lists c = search needs
 returns : tie.Need-returns
 returns c =
     let t = c .before .before .before in
-    let a = t .before .before .before .before .args in
-    let y = yardOf (a .parents .now) (a .pebbles .now) (a .targets .now) in
+    let a = t .before .before .before .before .before .args in
+    let y = yardOf (a .parents .now) (a .pebbles .now) (a .targets .now) (a .depths .now) in
     told y _ (sym (judge-lists y _ (sym (sees (t .test-lists .ensures) (c .before .lists .given .1)))))
 
 enum-told : tie.Need-enum-told
@@ -88,7 +88,7 @@ returns-3 c =
     let g = c .before .before in
     let y = yard (g .before .before) in
     let e = g .gather .ensures in
-    let gathered : g .gather .last .1 .1 .1 .0 ≡ demandsOf y = only-demands y (tree c) _ (e .long) .0 (e .meets (e .tree (tree c))) in
+    let gathered : g .gather .last .1 .1 .1 .1 .0 ≡ demandsOf y = only-demands y (tree c) _ (e .long) .0 (e .meets (e .tree (tree c))) in
     (sym (tree c), λ _. demands-front y _ gathered)
 
 pub tree-demands-spec : {M : Type 1} → statement M

@@ -1,4 +1,4 @@
--- `size` drops the sign: a number below 0 is taken from 0, which gives its size, and any other number is its size. Both are at most 256
+-- `size` drops the sign: a number below 0 is taken from 0, which gives its size, and any other number is its size. Both are at most 2,048
 -- and fit.
 use borrow.Author.Needs.{needs}
 use mathlib.Core.Path.{_≡_, ap, _∙_}

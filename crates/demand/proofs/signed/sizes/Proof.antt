@@ -1,4 +1,4 @@
--- `sizes` is the sum: after i turns the total is the sum of the sizes of the first i demands. Each is at most 256, and there are at most 256,
+-- `sizes` is the sum: after i turns the total is the sum of the sizes of the first i demands. Each is at most 2,048, and there are at most 256,
 -- so it fits.
 use borrow.Author.Needs.{needs}
 use native.Mathlib.Omega.{arith}
@@ -10,13 +10,13 @@ use lib.ListN.{length, getD}
 use mir.Syntax.{w16}
 use mir.Val.{toZ, ofZ}
 use mir.ValLaws.{toZ-ofZ}
-use Rattle.model.specs.Yard.{sum, maxSize}
+use Rattle.model.specs.Yard.{sum, maxDemand}
 use Rattle.demand.proofs.Numbers.{small-fits}
 use Rattle.demand.proofs.signed.sizes.Statement.{statement}
 use Rattle.demand.proofs.signed.sizes.Tie as tie
 
 abbrev Inv-loop : tie.InvT-loop
-Inv-loop list total₀ i₀ total i = (i ≤ length list) × (total ≡ sum i (λ v. natAbs (getD list v (pos 0)))) × (total ≤ 256 * i)
+Inv-loop list total₀ i₀ total i = (i ≤ length list) × (total ≡ sum i (λ v. natAbs (getD list v (pos 0)))) × (total ≤ 2_048 * i)
 
 abbrev μ-loop : tie.MeasureT-loop
 μ-loop list total₀ i₀ total i = length list - i
@@ -25,7 +25,7 @@ abbrev μ-loop : tie.MeasureT-loop
 abbrev entry : tie.At-loop Inv-loop μ-loop → ℤ
 entry c = getD (c .before .args .list .now) (c .loop .i) (pos 0)
 
-small : (c : tie.At-loop Inv-loop μ-loop) → natAbs (entry c) ≤ maxSize
+small : (c : tie.At-loop Inv-loop μ-loop) → natAbs (entry c) ≤ maxDemand
 small c = c .before .pre .1 (c .loop .i)
 
 held : (c : tie.At-loop Inv-loop μ-loop) → toZ w16 (ofZ w16 (entry c)) ≡ entry c

@@ -12,17 +12,17 @@ use Rattle.distance.proofs.call.nearest.Statement.{statement}
 use Rattle.distance.proofs.call.nearest.Tie as tie
 
 abbrev yard : tie.Start → Yard
-yard s = let a = s .args in yardOf (a .parents .now) (a .pebbles .now) (a .targets .now)
+yard s = let a = s .args in yardOf (a .parents .now) (a .pebbles .now) (a .targets .now) (a .depths .now)
 
 abbrev start : tie.After-enum-told → tie.Start
-start e = e .before .before .before .before .before .before .before .before
+start e = (e .before .before .before .before .before .before .before .before .before)
 
 tree : (e : tie.After-enum-told) → Tree (yard (start e))
 tree e = sees (e .before .before .before .test-from .ensures .0) (e .enum-told .given .1)
 
 -- where the node is one its distances are known
-asked : (c : tie.Else1) → let e = c .before in Asked (yard (start e)) (start e .args .node) (start e .args .pebbles .now) (e .before .before .before .test-from .last .1 .1 .1 .0)
-asked c = let e = c .before in record { tree = tree e; node = omega (arith, c .if1 .left); marks = refl; distances = e .before .before .before .test-from .ensures .1 (tree e) (omega (arith, c .if1 .left)) }
+asked : (c : tie.Else1) → let e = c .before in Asked (yard (start e)) (start e .args .node) (start e .args .pebbles .now) (e .before .before .before .test-from .last .1 .1 .1 .1 .0)
+asked c = let e = c .before in record { tree = tree e; node = omega (arith, c .if1 .left); counts = refl; distances = e .before .before .before .test-from .ensures .1 (tree e) (omega (arith, c .if1 .left)) }
 
 slice-aggregate-test-from : tie.Need-slice-aggregate-test-from
 slice-aggregate-test-from c = search needs

@@ -13,17 +13,17 @@ use Rattle.distance.proofs.call.reach.Statement.{statement}
 use Rattle.distance.proofs.call.reach.Tie as tie
 
 abbrev yard : tie.Start → Yard
-yard s = let a = s .args in yardOf (a .parents .now) (a .pebbles .now) (a .targets .now)
+yard s = let a = s .args in yardOf (a .parents .now) (a .pebbles .now) (a .targets .now) (a .depths .now)
 
 abbrev start : tie.After-enum-told → tie.Start
-start e = e .before .before .before .before .before .before .before .before .before
+start e = (e .before .before .before .before .before .before .before .before .before .before)
 
 tree : (e : tie.After-enum-told) → Tree (yard (start e))
 tree e = sees (e .before .before .before .test-from .ensures .0) (e .enum-told .given .1)
 
 -- where the node is one its distances are known
-asked : (c : tie.Else2) → let e = c .before .before in Asked (yard (start e)) (start e .args .node) (start e .args .pebbles .now) (e .before .before .before .test-from .last .1 .1 .1 .0)
-asked c = let e = c .before .before in record { tree = tree e; node = omega (arith, c .if2 .left); marks = refl; distances = e .before .before .before .test-from .ensures .1 (tree e) (omega (arith, c .if2 .left)) }
+asked : (c : tie.Else2) → let e = c .before .before in Asked (yard (start e)) (start e .args .node) (start e .args .pebbles .now) (e .before .before .before .test-from .last .1 .1 .1 .1 .0)
+asked c = let e = c .before .before in record { tree = tree e; node = omega (arith, c .if2 .left); counts = refl; distances = e .before .before .before .test-from .ensures .1 (tree e) (omega (arith, c .if2 .left)) }
 
 slice-aggregate-test-from : tie.Need-slice-aggregate-test-from
 slice-aggregate-test-from c = search needs
@@ -35,7 +35,7 @@ enum-known-tested : tie.Need-enum-known-tested
 enum-known-tested c = search needs
 
 returns : tie.Need-returns
-returns c = let t = c .before .before .before .before in let s = t .before .before .before .before .before .before .args in rw (← reach-judge _ (s .list .now) (s .node) _ (sees (t .test-from .ensures .0) (c .before .tested .given .1))) (refl, refl)
+returns c = let t = c .before .before .before .before in let s = t .before .before .before .before .before .before .before .args in rw (← reach-judge _ (s .list .now) (s .node) _ (sees (t .test-from .ensures .0) (c .before .tested .given .1))) (refl, refl)
 
 enum-told : tie.Need-enum-told
 enum-told c = search needs

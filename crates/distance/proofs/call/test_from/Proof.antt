@@ -13,10 +13,10 @@ use Rattle.distance.proofs.call.test_from.Statement.{statement}
 use Rattle.distance.proofs.call.test_from.Tie as tie
 
 abbrev yard : tie.Start → Yard
-yard s = let a = s .args in yardOf (a .parents .now) (a .pebbles .now) (a .targets .now)
+yard s = let a = s .args in yardOf (a .parents .now) (a .pebbles .now) (a .targets .now) (a .depths .now)
 
 abbrev start : tie.After-enum-told → tie.Start
-start e = e .before .before .before .before .before .before .before
+start e = (e .before .before .before .before .before .before .before .before)
 
 -- where the lists pass
 passed : (e : tie.After-enum-told) → firstOf (listTests (yard (start e))) ≡ none
@@ -34,7 +34,7 @@ enum-known-lists c = search needs
 returns : tie.Need-returns
 returns c =
     let t = c .before .before .before in
-    let y = yard (t .before .before .before .before .before) in
+    let y = yard (t .before .before .before .before .before .before) in
     let j = judge-lists y _ (sym (sees (t .test-lists .ensures) (c .before .lists .given .1))) in
     (j, λ m. let no : _≡_ {A = ℕ} 0 1 = cc (j ∙ m) in absurd (omega arith))
 

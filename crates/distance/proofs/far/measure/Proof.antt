@@ -44,7 +44,7 @@ returns c =
     let p = c .before .before .before in
     let s = p .before .before .before .before in
     let w = p .fill .ensures .0 (c .if1 .taken) in (
-      sym (shape-wood (w .1) [] []),
+      sym (shape-wood (w .1) [] [] []),
       λ y f v l. List·getD-append (p .fill .last .1 .0) (drop (length (s .args .parents .now)) (s .args .list .now)) 0 v (omega (arith, p .fill .kept .1 .0, front-long s, as-long f)) ∙ p .fill .ensures .1 y f .1 v l,
     )
 

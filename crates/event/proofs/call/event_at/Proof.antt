@@ -13,16 +13,16 @@ use Rattle.model.proofs.Calls.{sees}
 use Rattle.model.proofs.EventRuns.{Ready, accepted, caught-was}
 use Rattle.demand.proofs.Answers.{demands-small}
 use Rattle.event.specs.Change.{stepOf, steppedAfter}
-use Rattle.event.proofs.Steps.{step-small, step-held, stepped-demands}
-use Rattle.event.proofs.Happened.{by-marks, left-refused, left-accepted}
+use Rattle.event.proofs.Steps.{possible-can, more, step-small, step-held, stepped-demands}
+use Rattle.event.proofs.Happened.{by-counts, left-refused, left-accepted}
 use Rattle.event.proofs.call.event_at.Statement.{statement}
 use Rattle.event.proofs.call.event_at.Tie as tie
 
 abbrev start : tie.After-enum-told → tie.Start
-start e = e .before .before .before .before .before .before .before .before .before
+start e = (e .before .before .before .before .before .before .before .before .before .before)
 
 abbrev yard : tie.After-enum-told → Yard
-yard e = let a = start e .args in yardOf (a .parents .now) (a .pebbles .now) (a .targets .now)
+yard e = let a = start e .args in yardOf (a .parents .now) (a .pebbles .now) (a .targets .now) (a .depths .now)
 
 -- no test refuses
 passes : (e : tie.After-enum-told) → let a = start e .args in eventFault (yard e) (a .list .now) (a .event) (a .node) ≡ none
@@ -53,8 +53,8 @@ same-length-3 c = search needs
 returns : tie.Need-returns
 returns c =
     let t = c .before .before .before in
-    let a = t .before .before .before .before .before .before .before .args in
-    left-refused (yardOf (a .parents .now) (a .pebbles .now) (a .targets .now)) (a .list .now) (a .event) (a .node) (sees (t .test-event .ensures) (c .before .tested .given .1))
+    let a = t .before .before .before .before .before .before .before .before .args in
+    left-refused (yardOf (a .parents .now) (a .pebbles .now) (a .targets .now) (a .depths .now)) (a .list .now) (a .event) (a .node) (sees (t .test-event .ensures) (c .before .tested .given .1))
 
 enum-told : tie.Need-enum-told
 enum-told c = search needs
@@ -74,7 +74,7 @@ alter-requires c κs =
     let e = c .before .before .before .before .before .before in
     let h = ready e in
     let f = facts (yard e) (h .tree) in
-    ((omega (arith, h .node-lt, f .pebbles-size), omega (arith, h .node-lt, f .targets-size)), by-marks (yard e) (start e .args .event) (start e .args .node) .0 ∙ h .can)
+    ((omega (arith, h .node-lt, f .pebbles-size), omega (arith, h .node-lt, f .targets-size)), more (start e .args .event) _ _ _ _ (omega (arith, f .capacity-le _ (h .node-lt))) (possible-can (yard e) (start e .args .event) (start e .args .node) ∙ h .can))
 
 same-length-4 : tie.Need-same-length-4
 same-length-4 c = search needs
@@ -92,12 +92,12 @@ returns-2 c =
     let e = w .before .before .before in
     let a = start e .args in
     let h = left-accepted (yard e) (a .list .now) (a .event) (a .node) (passes e) in
-    let b = by-marks (yard e) (a .event) (a .node) in (
+    let b = by-counts (yard e) (a .event) (a .node) in (
       h .0,
       (
-        m .alter .ensures .0 ∙ b .1 ∙ h .1 .0,
+        m .alter .ensures .0 ∙ b .0 ∙ h .1 .0,
         (
-          m .alter .ensures .1 ∙ b .2 ∙ h .1 .1 .0,
+          m .alter .ensures .1 ∙ b .1 ∙ h .1 .1 .0,
           w .climb .ensures ∙ ap (λ (k : ℤ). steppedAfter (a .parents .now) k (a .node) (a .list .now)) (by (w .before)) ∙ stepped-demands (yard e) (a .event) (a .node) (a .list .now) ∙ h .1 .1 .1,
         ),
       ),

@@ -20,8 +20,8 @@ use Rattle.figures.proofs.bound.length_bound.Tie as tie
 
 abbrev yard : tie.After-enum-told → Yard
 yard c =
-    let a = c .before .before .before .before .before .before .before .before .args in
-    yardOf (a .parents .now) (a .pebbles .now) (a .targets .now)
+    let a = c .before .before .before .before .before .before .before .before .before .args in
+    yardOf (a .parents .now) (a .pebbles .now) (a .targets .now) (a .depths .now)
 
 accepted : (c : tie.After-enum-told) → matchedFault (yard c) ≡ none
 accepted c = sees (c .before .before .before .matched-demands .ensures .0) (c .enum-told .given .1)
@@ -30,7 +30,7 @@ tree : (c : tie.After-enum-told) → Tree (yard c)
 tree c = matched-tree (yard c) (accepted c) .0
 
 -- the demands
-front : (c : tie.After-enum-told) → take (size (yard c)) (c .before .before .before .matched-demands .last .1 .1 .1 .0) ≡ demandsOf (yard c)
+front : (c : tie.After-enum-told) → take (size (yard c)) (c .before .before .before .matched-demands .last .1 .1 .1 .1 .0) ≡ demandsOf (yard c)
 front c = c .before .before .before .matched-demands .ensures .1 (tree c)
 
 measured : (c : tie.After-sizes) → c .sizes .result ≡ shortest (yard (c .before .before))
@@ -60,8 +60,8 @@ slice-aggregate-sizes c = sym (length-take-le _ _ (array-share-prefix-demands (c
 sizes-requires : tie.Need-sizes-requires
 sizes-requires c κs = demands-small (yard (c .before)) (tree (c .before)) (front (c .before))
 
-mul-t10 : tie.Need-mul-t10
-mul-t10 c = let e = c .before .before in omega (arith, measured c, shortest-small (yard e) (tree e))
+mul-t11 : tie.Need-mul-t11
+mul-t11 c = let e = c .before .before in omega (arith, measured c, shortest-small (yard e) (tree e))
 
 returns-2 : tie.Need-returns-2
 returns-2 c = let e = c .before .before in rw (bound-answer (yard e), accepted e) (ap (λ (n : ℕ). answered (lengthOf n)) (measured c))
@@ -78,5 +78,5 @@ length-bound-spec =
     array-share-prefix-demands
     slice-aggregate-sizes
     sizes-requires
-    mul-t10
+    mul-t11
     returns-2)

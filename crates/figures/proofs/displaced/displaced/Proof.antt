@@ -12,14 +12,14 @@ use Rattle.model.specs.Calls.Demands.{demandsOf}
 use Rattle.model.proofs.Judged.{facts}
 use Rattle.model.proofs.Calls.{sees, matched-tree}
 use Rattle.demand.proofs.Answers.{demands-small}
-use Rattle.figures.proofs.Leaving.{staying-displaced}
+use Rattle.figures.proofs.Leaving.{moving-displaced}
 use Rattle.figures.proofs.displaced.displaced.Statement.{statement}
 use Rattle.figures.proofs.displaced.displaced.Tie as tie
 
 abbrev yard : tie.After-enum-told → Yard
 yard c =
-    let a = c .before .before .before .before .before .before .before .before .args in
-    yardOf (a .parents .now) (a .pebbles .now) (a .targets .now)
+    let a = c .before .before .before .before .before .before .before .before .before .args in
+    yardOf (a .parents .now) (a .pebbles .now) (a .targets .now) (a .depths .now)
 
 accepted : (c : tie.After-enum-told) → matchedFault (yard c) ≡ none
 accepted c = sees (c .before .before .before .matched-demands .ensures .0) (c .enum-told .given .1)
@@ -28,7 +28,7 @@ tree : (c : tie.After-enum-told) → Tree (yard c)
 tree c = matched-tree (yard c) (accepted c) .0
 
 -- the demands
-front : (c : tie.After-enum-told) → take (size (yard c)) (c .before .before .before .matched-demands .last .1 .1 .1 .0) ≡ demandsOf (yard c)
+front : (c : tie.After-enum-told) → take (size (yard c)) (c .before .before .before .matched-demands .last .1 .1 .1 .1 .0) ≡ demandsOf (yard c)
 front c = c .before .before .before .matched-demands .ensures .1 (tree c)
 
 slice-aggregate-matched-demands : tie.Need-slice-aggregate-matched-demands
@@ -49,24 +49,35 @@ enum-told c = search needs
 array-share-prefix-demands : tie.Need-array-share-prefix-demands
 array-share-prefix-demands c = omega (arith, facts (yard c) (tree c) .few, c .before .before .before .matched-demands .kept)
 
-slice-aggregate-staying : tie.Need-slice-aggregate-staying
-slice-aggregate-staying c = sym (length-take-le _ _ (array-share-prefix-demands (c .before)))
+slice-aggregate-leaving : tie.Need-slice-aggregate-leaving
+slice-aggregate-leaving c = sym (length-take-le _ _ (array-share-prefix-demands (c .before)))
 
-staying-requires : tie.Need-staying-requires
-staying-requires c κs =
+leaving-requires : tie.Need-leaving-requires
+leaving-requires c κs =
     let e = c .before in
     ((facts (yard e) (tree e) .few .1, length-take-le _ _ (array-share-prefix-demands e)), demands-small (yard e) (tree e) (front e) .1)
 
+array-share-prefix-demands-2 : tie.Need-array-share-prefix-demands-2
+array-share-prefix-demands-2 c = array-share-prefix-demands (c .before .before)
+
 slice-aggregate-moving : tie.Need-slice-aggregate-moving
-slice-aggregate-moving c = sym (c .before .staying .ensures .0)
+slice-aggregate-moving c = sym (length-take-le _ _ (array-share-prefix-demands (c .before .before .before)))
+
+slice-aggregate-moving-2 : tie.Need-slice-aggregate-moving-2
+slice-aggregate-moving-2 c = sym (c .before .before .leaving .ensures .0)
 
 moving-requires : tie.Need-moving-requires
-moving-requires c κs = let e = c .before .before .before in let f = facts (yard e) (tree e) in omega (arith, f .few, f .pebbles-size, c .before .staying .ensures .0)
+moving-requires c κs =
+    let l = c .before .before in
+    let e = l .before .before in
+    let f = facts (yard e) (tree e) in
+    ((omega (arith, f .few, f .pebbles-size), omega (arith, f .pebbles-size, f .depths-size), length-take-le _ _ (array-share-prefix-demands e) ∙ sym (f .pebbles-size), omega (arith, f .few, f .pebbles-size, l .leaving .ensures .0)), demands-small (yard e) (tree e) (front e) .1)
 
 returns-2 : tie.Need-returns-2
 returns-2 c =
-    let e = c .before .before .before .before in
-    rw (accepted e) (ap answered (c .moving .ensures ∙ staying-displaced (yard e) (tree e) (matched-tree (yard e) (accepted e) .1) (c .before .before .staying .result) (front e) (c .before .before .staying .ensures)))
+    let l = c .before .before .before in
+    let e = l .before .before in
+    rw (accepted e) (ap answered (c .moving .ensures ∙ moving-displaced (yard e) (tree e) (matched-tree (yard e) (accepted e) .1) (l .leaving .result) (front e) (l .leaving .ensures)))
 
 pub displaced-spec : {M : Type 1} → statement M
 displaced-spec =
@@ -78,8 +89,10 @@ displaced-spec =
     returns
     enum-told
     array-share-prefix-demands
-    slice-aggregate-staying
-    staying-requires
+    slice-aggregate-leaving
+    leaving-requires
+    array-share-prefix-demands-2
     slice-aggregate-moving
+    slice-aggregate-moving-2
     moving-requires
     returns-2)

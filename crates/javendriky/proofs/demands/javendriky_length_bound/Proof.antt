@@ -26,10 +26,10 @@ module _ {a : Answer Length} (y : Yard) (e : a ≡ boundAnswer y) where
   few-bytes = rw e (list-bytes-small y)
 
 abbrev yard : tie.Start → Yard
-yard s = yardOf (s .args .parents .now) (s .args .pebbles .now) (s .args .targets .now)
+yard s = yardOf (s .args .parents .now) (s .args .pebbles .now) (s .args .targets .now) (s .args .depths .now)
 
 abbrev start : tie.After-length-bound → tie.Start
-start c = c .before .before .before .before
+start c = (c .before .before .before .before .before)
 
 -- the answer, by its case
 length : (c : tie.After-known-told) → answered (record { moves = c .before .moves .given .0 .0; listBytes = c .before .moves .given .0 .1 .0 }) ≡ boundAnswer (yard (start (c .before .before .before)))

@@ -26,10 +26,10 @@ module _ {a : Answer Nearest} (y : Yard) (v : ℕ) (e : a ≡ nearestAnswer y v)
   small-far = rw e (nearest-small y v .1)
 
 abbrev yard : tie.Start → Yard
-yard s = yardOf (s .args .parents .now) (s .args .pebbles .now) (s .args .targets .now)
+yard s = yardOf (s .args .parents .now) (s .args .pebbles .now) (s .args .targets .now) (s .args .depths .now)
 
 abbrev start : tie.After-nearest → tie.Start
-start c = c .before .before .before .before
+start c = (c .before .before .before .before .before)
 
 -- the answer, by its case
 located : (c : tie.After-known-told) → let s = start (c .before .before .before) in answered (record { node = c .before .at .given .0 .0; distance = c .before .at .given .0 .1 .0 }) ≡ nearestAnswer (yard s) (s .args .node)

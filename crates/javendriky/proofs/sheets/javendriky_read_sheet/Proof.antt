@@ -10,7 +10,7 @@ read-sheet-requires : tie.Need-read-sheet-requires
 read-sheet-requires c κs = search needs
 
 counted-requires : tie.Need-counted-requires
-counted-requires c κs = rw (c .before .before .before .before .before .before .read-sheet .ensures .0) (read-small _ _ _ _)
+counted-requires c κs = rw (c .before .before .before .before .before .before .before .before .read-sheet .ensures .0) (read-small _ _ _ _ _)
 
 same-length : tie.Need-same-length
 same-length c = search needs
@@ -21,12 +21,15 @@ same-length-2 c = search needs
 same-length-3 : tie.Need-same-length-3
 same-length-3 c = search needs
 
+same-length-4 : tie.Need-same-length-4
+same-length-4 c = search needs
+
 returns : tie.Need-returns
 returns c =
-    let e = c .before .before .before .before .before .before .before .read-sheet .ensures in
+    let e = c .before .before .before .before .before .before .before .before .before .read-sheet .ensures in
     (c .counted .ensures ∙ ap inC (e .0), e .1)
 
 pub javendriky-read-sheet-spec : {M : Type 1} → statement M
 javendriky-read-sheet-spec =
     tie.close
-    (tie.spec read-sheet-requires counted-requires same-length same-length-2 same-length-3 returns)
+    (tie.spec read-sheet-requires counted-requires same-length same-length-2 same-length-3 same-length-4 returns)

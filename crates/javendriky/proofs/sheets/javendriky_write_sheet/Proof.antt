@@ -14,7 +14,7 @@ counted-requires c κs =
     let w = c .before .before in
     let k = w .before .before .before in
     rw (w .write-sheet .ensures .0)
-    (write-small _ (λ i. k .before .before .shared-slice-known .given i .fits) (λ i. k .before .shared-slice-known2 .given i .fits) (λ i. k .shared-slice-known3 .given i .fits) (k .before .before .before .args .sheet .now))
+    (write-small _ ((λ i. k .before .before .before .shared-slice-known .given i .fits), (λ i. k .before .before .shared-slice-known2 .given i .fits), (λ i. k .before .shared-slice-known3 .given i .fits), λ i. k .shared-slice-known4 .given i .fits) (k .before .before .before .before .args .sheet .now))
 
 same-length : tie.Need-same-length
 same-length c = search needs

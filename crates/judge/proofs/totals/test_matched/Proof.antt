@@ -12,8 +12,8 @@ use Rattle.judge.proofs.totals.test_matched.Tie as tie
 
 abbrev yard : tie.After-enum-told → Yard
 yard c =
-    let a = c .before .before .before .before .before .before .args in
-    yardOf (a .parents .now) (a .pebbles .now) (a .targets .now)
+    let a = c .before .before .before .before .before .before .before .args in
+    yardOf (a .parents .now) (a .pebbles .now) (a .targets .now) (a .depths .now)
 
 tree : (c : tie.After-enum-told) → Tree (yard c)
 tree c = sees (c .before .before .test-yard .ensures) (c .enum-told .given .1)

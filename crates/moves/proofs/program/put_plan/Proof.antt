@@ -1,4 +1,4 @@
--- `put_plan` prints the sheet of the plan that the planner wrote, or its refusal: the list has room for every plan.
+-- `put_plan` prints the sheet of the plan that the planner wrote, or its refusal.
 use mathlib.Core.Path.{_≡_, sym}
 use Prim.Native.Nat.{_*_, _≤_}
 use native.Mathlib.Omega.{arith}
@@ -14,18 +14,18 @@ use Rattle.moves.proofs.program.put_plan.Statement.{statement}
 use Rattle.moves.proofs.program.put_plan.Tie as tie
 
 abbrev yard : tie.Start → Yard
-yard s = yardOf (s .args .parents .now) (s .args .pebbles .now) (s .args .targets .now)
+yard s = yardOf (s .args .parents .now) (s .args .pebbles .now) (s .args .targets .now) (s .args .depths .now)
 
 -- the answer, by its case
-number : (c : tie.After-count) → answered (c .count .given .0 .0) ≡ planAnswer (yard (c .before .before .before .before .before .before .before .before .before)) zeros
+number : (c : tie.After-count) → answered (c .count .given .0 .0) ≡ planAnswer (yard (c .before .before .before .before .before .before .before .before .before .before)) zeros
 number c = rw (c .count .given .1) at (c .before .before .before .plan .ensures .0)
 
-refusal : (c : tie.After-r) → refused (paper (c .r .given .0 .0)) ≡ planAnswer (yard (c .before .before .before .before .before .before .before .before .before)) zeros
+refusal : (c : tie.After-r) → refused (paper (c .r .given .0 .0)) ≡ planAnswer (yard (c .before .before .before .before .before .before .before .before .before .before)) zeros
 refusal c = rw (c .r .given .1) at (c .before .before .before .plan .ensures .0)
 
 -- the moves lie within the list
-fits : (c : tie.After-count) → 2 * c .count .given .0 .0 ≤ length (c .before .before .before .plan .last .1 .1 .1 .0)
-fits c = omega (arith, plan-number _ (number c) .0, room, c .before .before .before .plan .kept .1 .1 .1 .0)
+fits : (c : tie.After-count) → 2 * c .count .given .0 .0 ≤ length (c .before .before .before .plan .last .1 .1 .1 .1 .0)
+fits c = omega (arith, plan-number _ (number c) .0, room, c .before .before .before .plan .kept .1 .1 .1 .1 .0)
 
 slice-aggregate-plan : tie.Need-slice-aggregate-plan
 slice-aggregate-plan c = search needs
@@ -49,7 +49,7 @@ put-planned-requires : tie.Need-put-planned-requires
 put-planned-requires c κs =
     let n = c .before .before .before in
     let p = n .before .before .before in
-    (plan-number _ (number n) .1 _ (p .plan .ensures .1 .0), simp length-take (omega (arith, plan-number _ (number n) .0, p .before .before .before .before .before .before .pre)))
+    (plan-number _ (number n) .1 _ (p .plan .ensures .1 .0), simp length-take (omega (arith, plan-number _ (number n) .0, p .before .before .before .before .before .before .before .pre)))
 
 enum-known-r : tie.Need-enum-known-r
 enum-known-r c = search needs
@@ -57,7 +57,7 @@ enum-known-r c = search needs
 put-refused-requires : tie.Need-put-refused-requires
 put-refused-requires c κs =
     let r = c .before .before in
-    (plan-refused _ (refusal r) .0, omega (arith, r .before .before .before .before .before .before .before .before .before .pre))
+    (plan-refused _ (refusal r) .0, omega (arith, r .before .before .before .before .before .before .before .before .before .before .pre))
 
 same-length : tie.Need-same-length
 same-length c = search needs

@@ -18,16 +18,16 @@ use Rattle.moves.proofs.program.put_planned.Statement.{statement}
 use Rattle.moves.proofs.program.put_planned.Tie as tie
 
 abbrev yard : tie.Start → Yard
-yard s = yardOf (s .args .parents .now) (s .args .pebbles .now) (s .args .targets .now)
+yard s = yardOf (s .args .parents .now) (s .args .pebbles .now) (s .args .targets .now) (s .args .depths .now)
 
 array-borrow-prefix-demands : tie.Need-array-borrow-prefix-demands
-array-borrow-prefix-demands c = let s = c .before .before .before .before .before in demands-room (yard s) (s .pre .0 .tree)
+array-borrow-prefix-demands c = let s = c .before .before .before .before .before in demands-room (yard (s .before)) (s .before .pre .0 .tree)
 
 slice-aggregate-fill : tie.Need-slice-aggregate-fill
 slice-aggregate-fill c = sym (length-take-le _ _ (array-borrow-prefix-demands (c .before)))
 
 fill-requires : tie.Need-fill-requires
-fill-requires c κs = (c .before .before .before .before .before .before .pre .0 .tree, length-take-le _ _ (array-borrow-prefix-demands (c .before)))
+fill-requires c κs = (c .before .before .before .before .before .before .before .pre .0 .tree, length-take-le _ _ (array-borrow-prefix-demands (c .before)))
 
 first-own-requires : tie.Need-first-own-requires
 first-own-requires c κs = search needs
@@ -36,11 +36,11 @@ put-moves-requires : tie.Need-put-moves-requires
 put-moves-requires c κs = search needs
 
 abbrev start : tie.After-fill → tie.Start
-start f = f .before .before .before .before .before .before .before
+start f = (f .before .before .before .before .before .before .before .before)
 
 -- the first n entries of the array
 abbrev front : tie.After-fill → List ℤ
-front f = let n = size (yard (start f)) in take n (f .fill .last .1 .1 .1 .0 ++ drop n (replicate 256 (pos 0)))
+front f = let n = size (yard (start f)) in take n (f .fill .last .1 .1 .1 .1 .0 ++ drop n (replicate 256 (pos 0)))
 
 demanded : (f : tie.After-fill) → Demands (front f)
 demanded f =
@@ -62,7 +62,7 @@ put-report-requires c κs =
     let d = demanded f in (
       d,
       omega (arith, planned-few (yard (start f)) (start f .pre .0)),
-      omega (arith, start f .pre .1, d .few, p .put-moves .ensures .end, written-length (p .put-moves .ensures), length-moveLines (start f .args .plan .now) (λ i. f .before .before .before .shared-slice-known4 .given i .fits)),
+      omega (arith, start f .pre .1, d .few, p .put-moves .ensures .end, written-length (p .put-moves .ensures), length-moveLines (start f .args .plan .now) (λ i. f .before .before .before .shared-slice-known5 .given i .fits)),
     )
 
 same-length : tie.Need-same-length
@@ -84,7 +84,7 @@ returns c =
       demanded f .few,
       p .put-moves .ensures .end,
       r .put-report .ensures .end,
-      length-moveLines (start f .args .plan .now) (λ i. f .before .before .before .shared-slice-known4 .given i .fits),
+      length-moveLines (start f .args .plan .now) (λ i. f .before .before .before .shared-slice-known5 .given i .fits),
       report-short (front f) (o .first-own .result) _ (demanded f) (planned-few y (start f .pre .0)),
     ))
 

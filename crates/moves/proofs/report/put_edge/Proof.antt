@@ -31,7 +31,7 @@ down c =
     let s = c .before .before .before .before in
     edge-down (s .args .root) (s .args .v) _ (s .args .demand) (c .before .before .if1 .left) (c .before .size .ensures ∙ ap natAbs (held s)) (rw (held s) at (c .if2 .left))
 
-short : (s : tie.Start) → length (lineUnlessRoot (s .args .root) (s .args .v) (s .args .demand)) ≤ 12
+short : (s : tie.Start) → length (lineUnlessRoot (s .args .root) (s .args .v) (s .args .demand)) ≤ 18
 short s = edge-short (s .args .root) (s .args .v) (s .args .demand) (s .pre .0) (s .pre .1)
 
 returns : tie.Need-returns

@@ -1,4 +1,4 @@
--- `put_report` writes the head, the lines of all edges, the head of the total and the total, of at most 14, 12 a node, 6 and 7 bytes.
+-- `put_report` writes the head, the lines of all edges, the head of the total and the total, of at most 14, 18 a node, 6 and 7 bytes.
 use mathlib.Core.Path.{_≡_, _∙_}
 use Prim.Native.Nat.{_+_, _*_, _≤_}
 use native.Mathlib.Omega.{arith}
@@ -12,7 +12,7 @@ use Rattle.moves.proofs.Edges.{edges-short, total-short}
 use Rattle.moves.proofs.report.put_report.Statement.{statement}
 use Rattle.moves.proofs.report.put_report.Tie as tie
 
-short : (s : tie.Start) → let a = s .args in length (edgeLines (a .demands .now) (a .root) (length (a .demands .now))) ≤ 12 * length (a .demands .now)
+short : (s : tie.Start) → let a = s .args in length (edgeLines (a .demands .now) (a .root) (length (a .demands .now))) ≤ 18 * length (a .demands .now)
 short s = edges-short (s .args .demands .now) (s .args .root) (s .pre .0) _ (omega arith)
 
 abbrev start : tie.After-put-edges → tie.Start
@@ -20,7 +20,7 @@ start e = e .before .before .before .before .before .before .before .before
 
 -- where the lines of the edges end, and how long the list is
 ended : (e : tie.After-put-edges) → let a = start e .args in
-    (e .put-edges .result ≤ a .at + 14 + 12 * length (a .demands .now)) × (length (e .put-edges .last .1 .1 .0) ≡ length (a .out .now))
+    (e .put-edges .result ≤ a .at + 14 + 18 * length (a .demands .now)) × (length (e .put-edges .last .1 .1 .0) ≡ length (a .out .now))
 ended e =
     let t = e .before .before .before .before .put-text in
     (omega (arith, short (start e), e .put-edges .ensures .end, t .ensures .end), written-length (e .put-edges .ensures) ∙ written-length (t .ensures))

@@ -17,7 +17,7 @@ use Rattle.planner.proofs.plan.plan_sheet.Statement.{statement}
 use Rattle.planner.proofs.plan.plan_sheet.Tie as tie
 
 abbrev yard : tie.Start → Yard
-yard s = yardOf (s .args .parents .now) (s .args .pebbles .now) (s .args .targets .now)
+yard s = yardOf (s .args .parents .now) (s .args .pebbles .now) (s .args .targets .now) (s .args .depths .now)
 
 slice-aggregate-matched-demands : tie.Need-slice-aggregate-matched-demands
 slice-aggregate-matched-demands c = search needs
@@ -30,7 +30,7 @@ enum-known-tested c = search needs
 
 returns : tie.Need-returns
 returns c =
-    let f = plan-matched (yard (c .before .before .before .before .before .before .before .before .before .before)) _ (sees (c .before .before .before .before .matched-demands .ensures .0) (c .before .tested .given .1)) (length (c .before .before .before .before .before .before .before .before .before .before .args .plan .now)) in
+    let f = plan-matched (yard (c .before .before .before .before .before .before .before .before .before .before .before)) _ (sees (c .before .before .before .before .matched-demands .ensures .0) (c .before .tested .given .1)) (length (c .before .before .before .before .before .before .before .before .before .before .before .args .plan .now)) in
     (rw f, rw f)
 
 enum-told : tie.Need-enum-told
@@ -38,7 +38,7 @@ enum-told c = search needs
 
 -- a tree with as many pebbles as targets
 abbrev start : tie.After-enum-told → tie.Start
-start e = e .before .before .before .before .before .before .before .before .before
+start e = (e .before .before .before .before .before .before .before .before .before .before)
 
 accepted : (e : tie.After-enum-told) → matchedFault (yard (start e)) ≡ none
 accepted e = sees (e .before .before .before .matched-demands .ensures .0) (e .enum-told .given .1)
@@ -53,10 +53,12 @@ slice-aggregate-place : tie.Need-slice-aggregate-place
 slice-aggregate-place c = search needs
 
 place-requires : tie.Need-place-requires
-place-requires c κs = (omega (arith, facts _ (tree (c .before)) .few, facts _ (tree (c .before)) .pebbles-size), c .before .before .before .before .matched-demands .kept .1 .1 .1 .0)
+place-requires c κs =
+    let f = facts _ (tree (c .before)) in
+    (omega (arith, f .few, f .pebbles-size), f .depths-size ∙ sym (f .pebbles-size), c .before .before .before .before .matched-demands .kept .1 .1 .1 .1 .0)
 
 -- the state
-kept : (c : tie.After-place) → Kept (yard (start (c .before .before))) (c .place .last .1 .0)
+kept : (c : tie.After-place) → Kept (yard (start (c .before .before))) (c .place .last .1 .1 .0)
 kept c = let e = c .before .before in placed-kept _ (tree e) _ _ (e .before .before .before .matched-demands .ensures .1 (tree e)) (c .place .ensures)
 
 array-share-prefix-s : tie.Need-array-share-prefix-s

@@ -1,4 +1,4 @@
--- `planner::state::place` meets its contract: pebbles and nodes are placed one by one behind the demands (the laws are in Planning).
+-- `planner::state::place` meets its contract: pebbles, nodes and depths are placed one by one behind the demands (the laws are in Planning).
 use Prim.Native.Nat.{_-_, _≤_, _<_}
 use mathlib.Core.Path.{_≡_, sym, _∙_}
 use native.Mathlib.Omega.{arith}
@@ -14,13 +14,13 @@ use Rattle.planner.proofs.state.place.Statement.{statement}
 use Rattle.planner.proofs.state.place.Tie as tie
 
 abbrev Inv-loop : tie.InvT-loop
-Inv-loop pebbles s₀ v₀ s v = (v ≤ length pebbles) × Placed pebbles s₀ s v
+Inv-loop pebbles depths s₀ v₀ s v = (v ≤ length pebbles) × Placed pebbles depths s₀ s v
 
 abbrev μ-loop : tie.MeasureT-loop
-μ-loop pebbles s₀ v₀ s v = length pebbles - v
+μ-loop pebbles depths s₀ v₀ s v = length pebbles - v
 
 loop-holds : tie.Need-loop-holds Inv-loop μ-loop
-loop-holds c = (omega arith, place-none _ _ (c .pre .1))
+loop-holds c = (omega arith, place-none _ _ _ (c .pre .2))
 
 shared-slice-read-s : tie.Need-shared-slice-read-s Inv-loop μ-loop
 shared-slice-read-s c = omega arith
@@ -62,14 +62,29 @@ slice-set-from-s-2 c = simp length-set (omega (arith, node-small c, c .before .b
 cast-s-3 : tie.Need-cast-s-3 Inv-loop μ-loop
 cast-s-3 c = node-fits c
 
-add-t4 : tie.Need-add-t4 Inv-loop μ-loop
-add-t4 c = omega (arith, node-small c)
+add-s-3 : tie.Need-add-s-3 Inv-loop μ-loop
+add-s-3 c = omega (arith, node-small c)
 
-mul-t9 : tie.Need-mul-t9 Inv-loop μ-loop
-mul-t9 c = omega (arith, node-small c)
+mul-s-3 : tie.Need-mul-s-3 Inv-loop μ-loop
+mul-s-3 c = omega (arith, node-small c)
 
 slice-set-from-s-3 : tie.Need-slice-set-from-s-3 Inv-loop μ-loop
 slice-set-from-s-3 c = simp length-set (omega (arith, node-small c, c .before .before .loop .inv .1 .long))
+
+shared-slice-read-s-2 : tie.Need-shared-slice-read-s-2 Inv-loop μ-loop
+shared-slice-read-s-2 c = omega (arith, c .before .before .before .before .pre .1)
+
+cast-s-4 : tie.Need-cast-s-4 Inv-loop μ-loop
+cast-s-4 c = small-fits _ (omega (arith, c .shared-slice-known2 .given (c .before .before .before .loop .v)))
+
+add-t10 : tie.Need-add-t10 Inv-loop μ-loop
+add-t10 c = omega (arith, node-small (c .before))
+
+mul-t5 : tie.Need-mul-t5 Inv-loop μ-loop
+mul-t5 c = omega (arith, node-small (c .before))
+
+slice-set-from-s-4 : tie.Need-slice-set-from-s-4 Inv-loop μ-loop
+slice-set-from-s-4 c = simp length-set (omega (arith, node-small (c .before), c .before .before .before .loop .inv .1 .long))
 
 add-v : tie.Need-add-v Inv-loop μ-loop
 add-v c = omega arith
@@ -79,11 +94,14 @@ loop-less c = omega arith
 
 loop-again : tie.Need-loop-again Inv-loop μ-loop
 loop-again c =
-    let l = c .before .before .loop in
-    (omega arith, place-next _ _ _ _ _ _ _ (node-small c) (small-back _ (omega (arith, c .shared-slice-known .given (l .v)))) (node-back c) (node-back c) (l .inv .1))
+    let n = c .before in
+    let l = n .before .before .loop in (
+      omega arith,
+      place-next _ _ _ _ _ _ _ _ _ (node-small n) (small-back _ (omega (arith, n .shared-slice-known .given (l .v)))) (node-back n) (node-back n) (small-back _ (omega (arith, c .shared-slice-known2 .given (l .v)))) (l .inv .1),
+    )
 
 same-length : tie.Need-same-length Inv-loop μ-loop
-same-length c = c .before .loop .inv .1 .long ∙ sym (c .before .before .pre .1)
+same-length c = c .before .loop .inv .1 .long ∙ sym (c .before .before .pre .2)
 
 returns : tie.Need-returns Inv-loop μ-loop
 returns c =
@@ -108,9 +126,14 @@ place-spec =
     mul-s-2
     slice-set-from-s-2
     cast-s-3
-    add-t4
-    mul-t9
+    add-s-3
+    mul-s-3
     slice-set-from-s-3
+    shared-slice-read-s-2
+    cast-s-4
+    add-t10
+    mul-t5
+    slice-set-from-s-4
     add-v
     loop-less
     loop-again

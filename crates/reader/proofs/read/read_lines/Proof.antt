@@ -30,7 +30,7 @@ read-nodes-requires c κs = search needs
 returns-3 : tie.Need-returns-3
 unfolding header text
 returns-3 c =
-    let e = c .before .before .before .before in
+    let e = c .before .before .before .before .before in
     let r = c .read-nodes .ensures in
     (r .0 ∙ some-line _ (sym (e .before .before .begins .ensures) ∙ not-false _ (e .before .if1 .left)) (e .if2 .left), r .1)
 

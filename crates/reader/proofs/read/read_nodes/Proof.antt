@@ -10,13 +10,13 @@ use Rattle.reader.proofs.read.read_nodes.Statement.{statement}
 use Rattle.reader.proofs.read.read_nodes.Tie as tie
 
 abbrev Inv-loop : tie.InvT-loop
-Inv-loop sheet parents₀ pebbles₀ targets₀ at₀ v₀ parents pebbles targets at v = (v ≤ 256) × SoFar sheet parents pebbles targets at v
+Inv-loop sheet parents₀ pebbles₀ targets₀ depths₀ at₀ v₀ parents pebbles targets depths at v = (v ≤ 256) × SoFar sheet parents pebbles targets depths at v
 
 abbrev μ-loop : tie.MeasureT-loop
-μ-loop sheet parents₀ pebbles₀ targets₀ at₀ v₀ parents pebbles targets at v = 256 - v
+μ-loop sheet parents₀ pebbles₀ targets₀ depths₀ at₀ v₀ parents pebbles targets depths at v = 256 - v
 
 loop-holds : tie.Need-loop-holds Inv-loop μ-loop
-loop-holds c = let s = c .before in (omega arith, so-far-none (s .args .sheet .now) (s .args .parents .now) (s .args .pebbles .now) (s .args .targets .now) (s .pre))
+loop-holds c = let s = c .before in (omega arith, so-far-none (s .args .sheet .now) (s .args .parents .now) (s .args .pebbles .now) (s .args .targets .now) (s .args .depths .now) (s .pre))
 
 add-number : tie.Need-add-number Inv-loop μ-loop
 add-number c = omega arith
@@ -73,6 +73,12 @@ array-read-targets c = search needs
 element-write-targets : tie.Need-element-write-targets Inv-loop μ-loop
 element-write-targets c = omega arith
 
+array-read-depths : tie.Need-array-read-depths Inv-loop μ-loop
+array-read-depths c = search needs
+
+element-write-depths : tie.Need-element-write-depths Inv-loop μ-loop
+element-write-depths c = omega arith
+
 add-v : tie.Need-add-v Inv-loop μ-loop
 add-v c = omega arith
 
@@ -113,6 +119,8 @@ read-nodes-spec =
     element-write-pebbles
     array-read-targets
     element-write-targets
+    array-read-depths
+    element-write-depths
     add-v
     loop-less
     loop-again

@@ -1,19 +1,23 @@
 -- `serve::pebble::clear_start` and `inject_start` meet their contracts: filling a free v begins at v, filling a full one where its clearing does, at
 -- the child that is chosen or below (the laws are in Serving). Of the calls, clearing falls below filling at the same height, and filling a child is
 -- at a lower one.
-use mathlib.Core.Bool.{true}
+use mathlib.Core.Path.{_≡_, ap, _∙_}
+use mathlib.Core.Bool.{true, not}
 use Prim.Native.Nat.{ℕ, _+_, _*_, _<_}
 use native.Mathlib.Omega.{arith}
 use borrow.Fn.Kinds.{In}
 use borrow.Fn.PlainCycle.{Measures, is, falls, and}
+use Rattle.model.specs.Yard.{Yard, pebble, capacity, full}
+use Rattle.serve.specs.Serving.{AskedStart}
 use Rattle.serve.proofs.Looking.{node-small}
-use Rattle.serve.proofs.Serving.{mark-is, mark-one, free-node, blocked-node, high-enough, chosen-asked, start-here, start-below}
+use Rattle.serve.proofs.Serving.{room, free-full, high-enough, chosen-asked, start-here, start-below}
 use Rattle.serve.proofs.pebble.clear_start.Reads as clear-start
 use Rattle.serve.proofs.pebble.clear_start.Kinds as clear-start-kinds
 use Rattle.serve.proofs.pebble.+clear_start+inject_start.Lts-clear_start as clear-start-lts
 use Rattle.serve.proofs.pebble.inject_start.Reads as inject-start
 use Rattle.serve.proofs.pebble.inject_start.Kinds as inject-start-kinds
 use Rattle.serve.proofs.pebble.+clear_start+inject_start.Lts-inject_start as inject-start-lts
+use Rattle.serve.proofs.pebble.has_place.Reads as has-place
 use Rattle.serve.proofs.choose.choose.Reads as choose
 use Rattle.serve.proofs.pebble.+clear_start+inject_start.{statement}
 use Rattle.serve.proofs.pebble.+clear_start+inject_start.Tie.{close}
@@ -40,7 +44,7 @@ abbrev clear-claims : ℕ → clear-start-lts.Claims
 clear-claims n = (choose.Asked, choose.Learnt, inject-start-below n, inject-start.Post)
 
 abbrev inject-claims : ℕ → inject-start-lts.Claims
-inject-claims n = (clear-start-below n, clear-start.Post)
+inject-claims n = (has-place.Asked, has-place.Learnt, clear-start-below n, clear-start.Post)
 
 -- clearing
 module _ (n : ℕ) where
@@ -62,25 +66,25 @@ module _ (n : ℕ) where
 
 -- filling
 module _ (n : ℕ) where
-  add-if1 : inject-start-lts.Need-add-if1 (inject-claims n) (inject-start-at n) inject-start.Post
-  add-if1 c = let p = c .pre .1 in omega (arith, node-small (p .1 .described) (p .1 .due .lt))
+  has-place-requires : inject-start-lts.Need-has-place-requires (inject-claims n) (inject-start-at n) inject-start.Post
+  has-place-requires c κs = let p = c .pre .1 in (node-small (p .1 .described) (p .1 .due .lt), (pebble (p .0) _, capacity (p .0) _, room (p .1 .described) (p .1 .due .lt)))
 
-  mul-if1 : inject-start-lts.Need-mul-if1 (inject-claims n) (inject-start-at n) inject-start.Post
-  mul-if1 c = let p = c .pre .1 in omega (arith, node-small (p .1 .described) (p .1 .due .lt))
-
-  element-copy-out-if1 : inject-start-lts.Need-element-copy-out-if1 (inject-claims n) (inject-start-at n) inject-start.Post
-  element-copy-out-if1 c = let p = c .pre .1 in omega (arith, node-small (p .1 .described) (p .1 .due .lt))
+  -- what is told of the place
+  told : (c : inject-start-lts.After-has-place (inject-claims n) (inject-start-at n) inject-start.Post) (y : Yard)
+      → let s = c .before .args in
+      AskedStart true y (s .t .now) (s .s .now) (s .v) (s .height) → full y (s .v) ≡ not (c .has-place .result)
+  told c y a = free-full y _ _ (c .has-place .ensures (pebble y _) (capacity y _) (room (a .described) (a .due .lt)))
 
   inject-start-returns : inject-start-lts.Need-returns (inject-claims n) (inject-start-at n) inject-start.Post
-  inject-start-returns c y a = start-here (free-node true y _ (omega (arith, mark-is (a .described .kept) (a .due .lt), c .if1 .taken)))
+  inject-start-returns c y a = start-here (told (c .before) y a ∙ ap not (c .if1 .taken))
 
   clear-start-requires : inject-start-lts.Need-clear-start-requires (inject-claims n) (inject-start-at n) inject-start.Post
   clear-start-requires c κs =
       let p = c .before .before .pre in
-      (omega (arith, p .0), (p .1 .0, p .1 .1, blocked-node true (p .1 .0) _ (mark-one (p .1 .1 .described) (p .1 .1 .due .lt) (c .if1 .left))))
+      (omega (arith, p .0), (p .1 .0, p .1 .1, told (c .before) (p .1 .0) (p .1 .1) ∙ ap not (c .if1 .left)))
 
   inject-start-returns-2 : inject-start-lts.Need-returns-2 (inject-claims n) (inject-start-at n) inject-start.Post
-  inject-start-returns-2 c y a = c .clear-start .ensures y a (blocked-node true y _ (mark-one (a .described) (a .due .lt) (c .before .if1 .left)))
+  inject-start-returns-2 c y a = c .clear-start .ensures y a (told (c .before .before) y a ∙ ap not (c .before .if1 .left))
 
 pub +clear-start+inject-start-spec : {M : Type 1} → statement M
 +clear-start+inject-start-spec =
@@ -93,9 +97,7 @@ pub +clear-start+inject-start-spec : {M : Type 1} → statement M
     (inject-start-requires n)
     (clear-start-returns n))
     λ n. inject-start-lts.spec (inject-claims n) (inject-start-at n) inject-start.Post
-    (add-if1 n)
-    (mul-if1 n)
-    (element-copy-out-if1 n)
+    (has-place-requires n)
     (inject-start-returns n)
     (clear-start-requires n)
     (inject-start-returns-2 n)

@@ -10,7 +10,7 @@ use Rattle.model.specs.Yard.{Yard}
 use Rattle.model.proofs.Serve.{blocked}
 use Rattle.serve.specs.Serving.{AskedStart}
 use Rattle.serve.proofs.Looking.{node-small}
-use Rattle.serve.proofs.Serving.{mark-is, mark-one, free-node, blocked-node, high-enough, chosen-asked, start-here, start-below}
+use Rattle.serve.proofs.Serving.{count-is, held-free, empty-blocked, high-enough, chosen-asked, start-here, start-below}
 use Rattle.serve.proofs.pebble.extract_start.Reads as extract-start
 use Rattle.serve.proofs.pebble.extract_start.Kinds as extract-start-kinds
 use Rattle.serve.proofs.pebble.+extract_start.Lts-extract_start as lts
@@ -41,13 +41,13 @@ module _ (n : ℕ) where
   element-copy-out-if1 c = let p = c .pre .1 in omega (arith, node-small (p .1 .described) (p .1 .due .lt))
 
   returns : lts.Need-returns (claims n) (extract-start-at n) extract-start.Post
-  returns c y a = start-here (free-node false y _ (mark-one (a .described) (a .due .lt) (c .if1 .taken)))
+  returns c y a = start-here (held-free y _ (λ e. c .if1 .taken (count-is (a .described .kept) (a .due .lt) ∙ e)))
 
   -- else v is blocked
   empty : (c : lts.After-choose (claims n) (extract-start-at n) extract-start.Post) (y : Yard)
       → let s = c .before .before .before .args in
       AskedStart false y (s .t .now) (s .s .now) (s .v) (s .height) → blocked y false (s .v) ≡ true
-  empty c y a = blocked-node false y _ (sym (mark-is (a .described .kept) (a .due .lt)) ∙ c .before .if1 .left)
+  empty c y a = empty-blocked y _ (sym (count-is (a .described .kept) (a .due .lt)) ∙ c .before .if1 .left)
 
   choose-requires : lts.Need-choose-requires (claims n) (extract-start-at n) extract-start.Post
   choose-requires c κs = let p = c .before .before .pre .1 in (p .0, p .1 .described, p .1 .due .lt)

@@ -2,12 +2,15 @@
 -- has.
 use mathlib.Core.Path.{_≡_, _∙_}
 use native.Mathlib.Omega.{arith}
-use lib.ListN.{getD}
-use lib.IntN.{pos}
+use Prim.Native.Nat.{ℕ, _+_, _≤_, _<_}
+use lib.ListN.{getD, set}
+use lib.Seq.{getD-set-other}
+use lib.IntN.{ℤ, pos}
 use mir.Syntax.{w16}
 use mir.Val.{toZ, ofZ}
 use borrow.Author.Needs.{needs}
 use Rattle.model.proofs.Signed.{nextℤ}
+use Rattle.serve.specs.Serving.{Small}
 use Rattle.serve.proofs.Numbers.{small-back, next-back}
 use Rattle.serve.proofs.pebble.move_pebble.Statement.{statement}
 use Rattle.serve.proofs.pebble.move_pebble.Tie as tie
@@ -15,6 +18,12 @@ use Rattle.serve.proofs.pebble.move_pebble.Tie as tie
 -- a node's number, through 16 bits
 node-back : (c : tie.Start) → toZ w16 (ofZ w16 (pos (c .args .v))) ≡ pos (c .args .v)
 node-back c = small-back (pos (c .args .v)) (omega (arith, c .pre .0))
+
+-- the counts are not where a demand and the last child are stored
+counted : (c : tie.Start) (u i : ℕ) (a b : ℤ) → u < 256 → 512 ≤ i → i < 1024 → Small (c .args .s .now) (256 + u) → Small (set (set (c .args .s .now) (c .args .v) a) i b) (256 + u)
+counted c u i a b l h k e =
+    let s = c .args .s .now in
+    rw (getD-set-other (set s (c .args .v) a) i (256 + u) b (pos 0) (omega arith), getD-set-other s (c .args .v) (256 + u) a (pos 0) (omega (arith, c .pre .0))) e
 
 element-copy-out-wide : tie.Need-element-copy-out-wide
 element-copy-out-wide c = search needs
@@ -59,7 +68,11 @@ element-set-from-s-2 : tie.Need-element-set-from-s-2
 element-set-from-s-2 c = search needs
 
 record-move-requires : tie.Need-record-move-requires
-record-move-requires c κs = search needs
+record-move-requires c κs =
+    let n = c .before .before .before in
+    let w = n .before .before in
+    let s = w .before .before .before in
+    (omega (arith, w .wide .ensures), s .pre .0, s .pre .1, counted s _ _ _ _ (w .wide .ensures .1) (omega arith) (omega arith) (rw (← (w .wide .ensures .0)) at (s .pre .4)), counted s _ _ _ _ (s .pre .0) (omega arith) (omega arith) (s .pre .3))
 
 same-length : tie.Need-same-length
 same-length c = search needs
@@ -87,7 +100,11 @@ element-set-from-s-3 : tie.Need-element-set-from-s-3
 element-set-from-s-3 c = search needs
 
 record-move-requires-2 : tie.Need-record-move-requires-2
-record-move-requires-2 c κs = search needs
+record-move-requires-2 c κs =
+    let n = c .before .before .before in
+    let w = n .before .before in
+    let s = w .before .before .before in
+    (s .pre .0, omega (arith, w .wide .ensures), s .pre .1, counted s _ _ _ _ (s .pre .0) (omega arith) (omega arith) (s .pre .3), counted s _ _ _ _ (w .wide .ensures .1) (omega arith) (omega arith) (rw (← (w .wide .ensures .0)) at (s .pre .4)))
 
 same-length-2 : tie.Need-same-length-2
 same-length-2 c = search needs

@@ -25,7 +25,7 @@ move-pebble-requires c κs =
     let l = c .before .before in
     let p = l .before .before .pre in
     let m = l .loop .inv (p .0) (p .1) in
-    (node-small (p .1 .described) (climb-node (p .1) m), omega (arith, climb-room (p .1) m), climb-range (p .1) m)
+    (node-small (p .1 .described) (climb-node (p .1) m), omega (arith, climb-room (p .1) m), climb-range (p .1) m .0, climb-range (p .1) m .1, climb-range (p .1) m .2)
 
 add-k : tie.Need-add-k Inv-loop μ-loop
 add-k c =

@@ -20,29 +20,29 @@ use Rattle.sheet.proofs.writer.write_sheet.Statement.{statement}
 use Rattle.sheet.proofs.writer.write_sheet.Tie as tie
 
 abbrev yard : tie.Start → Yard
-yard s = yardOf (s .args .parents .now) (s .args .pebbles .now) (s .args .targets .now)
+yard s = yardOf (s .args .parents .now) (s .args .pebbles .now) (s .args .targets .now) (s .args .depths .now)
 
 -- where the lengths are not refused
-told : (c : tie.After-enum-told) → firstOf (lengthTests (yard (c .before .before .before .before .before .before .before))) ≡ none
+told : (c : tie.After-enum-told) → firstOf (lengthTests (yard (c .before .before .before .before .before .before .before .before))) ≡ none
 told c = sees (c .before .before .test-lengths .ensures) (c .enum-told .given .1)
 
-sizes : (c : tie.After-enum-told) → let y = yard (c .before .before .before .before .before .before .before) in SameLength y × (length (yardSheet y) ≤ maxSheetBytes)
+sizes : (c : tie.After-enum-told) → let y = yard (c .before .before .before .before .before .before .before .before) in SameLength y × (length (yardSheet y) ≤ maxSheetBytes)
 sizes c =
     let k = c .before .before .before .before in
-    let a = k .before .before .before .args in
-    let p = passed-lengths (a .parents .now) (a .pebbles .now) (a .targets .now) (sym (told c)) in
-    let short = yardSheet-short (yard (k .before .before .before)) (p .1) (λ i. k .before .before .shared-slice-known .given i .fits) (λ i. k .before .shared-slice-known2 .given i .fits) (λ i. k .shared-slice-known3 .given i .fits) in
-    ((p .2, p .3), short)
+    let a = k .before .before .before .before .args in
+    let p = passed-lengths (a .parents .now) (a .pebbles .now) (a .targets .now) (a .depths .now) (sym (told c)) in
+    let short = yardSheet-short (yard (k .before .before .before .before)) (p .1) ((λ i. k .before .before .before .shared-slice-known .given i .fits), (λ i. k .before .before .shared-slice-known2 .given i .fits), (λ i. k .before .shared-slice-known3 .given i .fits), λ i. k .shared-slice-known4 .given i .fits) in
+    ((p .2, p .3, p .4), short)
 
 -- the sheet, written aside
-aside : (c : tie.After-put-sheet) → let y = yard (c .before .before .before .before .before .before .before .before .before) in let p = c .put-sheet in
-    (p .result ≡ length (yardSheet y)) × (p .result ≤ length (p .last .1 .1 .1 .0)) × (take (p .result) (p .last .1 .1 .1 .0) ≡ yardSheet y)
+aside : (c : tie.After-put-sheet) → let y = yard (c .before .before .before .before .before .before .before .before .before .before) in let p = c .put-sheet in
+    (p .result ≡ length (yardSheet y)) × (p .result ≤ length (p .last .1 .1 .1 .1 .0)) × (take (p .result) (p .last .1 .1 .1 .1 .0) ≡ yardSheet y)
 aside c =
     let p = c .put-sheet in
     let e = p .ensures .end in
     let n = length-replicate {A = ℕ} maxSheetBytes 0 in
     let h = sizes (c .before .before) .1 in
-    (omega arith, omega (arith, p .kept .1 .1 .1 .0), written-taken (p .ensures) (omega arith))
+    (omega arith, omega (arith, p .kept .1 .1 .1 .1 .0), written-taken (p .ensures) (omega arith))
 
 test-lengths-requires : tie.Need-test-lengths-requires
 test-lengths-requires c κs = search needs
@@ -51,7 +51,7 @@ enum-known-lengths : tie.Need-enum-known-lengths
 enum-known-lengths c = search needs
 
 returns : tie.Need-returns
-returns c = write-lengths (yard (c .before .before .before .before .before .before .before .before)) _ (sees (c .before .before .before .test-lengths .ensures) (c .before .lengths .given .1))
+returns c = write-lengths (yard (c .before .before .before .before .before .before .before .before .before)) _ (sees (c .before .before .before .test-lengths .ensures) (c .before .lengths .given .1))
 
 enum-told : tie.Need-enum-told
 enum-told c = search needs
@@ -65,7 +65,7 @@ put-sheet-requires c κs = sizes (c .before)
 returns-2 : tie.Need-returns-2
 returns-2 c =
     let p = c .before .before in
-    write-short (yard (p .before .before .before .before .before .before .before .before .before)) _ (told (p .before .before)) (aside p .0) (omega arith)
+    write-short (yard (p .before .before .before .before .before .before .before .before .before .before)) _ (told (p .before .before)) (aside p .0) (omega arith)
 
 array-share-prefix-whole : tie.Need-array-share-prefix-whole
 array-share-prefix-whole c = aside (c .before .before .before) .1
@@ -83,7 +83,7 @@ returns-3 : tie.Need-returns-3
 returns-3 c =
     let p = c .before .before .before .before .before .before .before in
     let a = aside p in
-    write-whole (yard (p .before .before .before .before .before .before .before .before .before)) _ (told (p .before .before)) (a .0) (omega arith) (written-as (a .2) (c .before .before .put-text .ensures))
+    write-whole (yard (p .before .before .before .before .before .before .before .before .before .before)) _ (told (p .before .before)) (a .0) (omega arith) (written-as (a .2) (c .before .before .put-text .ensures))
 
 pub write-sheet-spec : {M : Type 1} → statement M
 write-sheet-spec =

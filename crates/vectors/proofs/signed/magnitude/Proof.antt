@@ -1,4 +1,4 @@
--- A number that is neither below −256 nor above 256 has a size of 256 at most, by cases on the sign.
+-- A number that is neither below −2,048 nor above 2,048 has a size of 2,048 at most, by cases on the sign.
 use mathlib.Core.Path.{_≡_}
 use mathlib.Core.Bool.{false}
 use Prim.Native.Nat.{_≤_}
@@ -12,9 +12,9 @@ use mir.Val.{toZ, ofZ}
 use Rattle.vectors.proofs.signed.magnitude.Statement.{statement}
 use Rattle.vectors.proofs.signed.magnitude.Tie as tie
 
-within : (z : ℤ) → ltZ z (negsuc 255) ≡ false → ltZ (pos 256) z ≡ false → natAbs z ≤ 256
-within (pos n) h k = ltb-false 256 n k
-within (negsuc n) h k = omega (arith, ltb-false 255 n h)
+within : (z : ℤ) → ltZ z (negsuc 2047) ≡ false → ltZ (pos 2048) z ≡ false → natAbs z ≤ 2048
+within (pos n) h k = ltb-false 2048 n k
+within (negsuc n) h k = omega (arith, ltb-false 2047 n h)
 
 returns : tie.Need-returns
 returns c = search needs

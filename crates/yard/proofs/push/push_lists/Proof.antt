@@ -26,7 +26,7 @@ enum-told : tie.Need-enum-told
 enum-told c = search needs
 
 step-requires : tie.Need-step-requires
-step-requires c κs = facts _ (sees (c .before .before .before .test-yard .ensures) (c .before .enum-told .given .1)) .pebbles-size
+step-requires c κs = let f = facts _ (sees (c .before .before .before .test-yard .ensures) (c .before .enum-told .given .1)) in (f .pebbles-size, f .depths-size)
 
 same-length-2 : tie.Need-same-length-2
 same-length-2 c = search needs
@@ -35,7 +35,7 @@ returns-2 : tie.Need-returns-2
 returns-2 c =
     let e = c .before .before .before .before in
     let s = c .before .before .step .ensures in
-    step-push _ _ _ _ (sees (e .before .before .test-yard .ensures) (e .enum-told .given .1)) (s .0) (s .1)
+    step-push _ _ _ _ _ (sees (e .before .before .test-yard .ensures) (e .enum-told .given .1)) (s .0) (s .1)
 
 pub push-lists-spec : {M : Type 1} → statement M
 push-lists-spec =

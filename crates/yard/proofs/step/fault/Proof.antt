@@ -14,7 +14,7 @@ use Rattle.yard.proofs.step.fault.Statement.{statement}
 use Rattle.yard.proofs.step.fault.Tie as tie
 
 -- between two adjacent nodes the tests of their counts, 12 and 13, are left
-near : (c : tie.Else3) → let a = c .before .before .before .before .before .before .args in let y = yardOf (a .parents .now) (a .pebbles .now) [] in
+near : (c : tie.Else3) → let a = c .before .before .before .before .before .before .before .args in let y = yardOf (a .parents .now) (a .pebbles .now) [] (a .depths .now) in
     moveFault y (push (a .from) (a .to)) (a .place) ≡ firstOf (drop 2 (moveTests y (push (a .from) (a .to)) (a .place)))
 unfolding moveFault
 near c =
@@ -46,10 +46,10 @@ returns-4 c = near (c .before .before) ∙ rw (c .if4 .taken)
 
 returns-5 : tie.Need-returns-5
 returns-5 c =
-    let s = c .before .before .before .before .before .before .before .before in
+    let s = c .before .before .before .before .before .before .before .before .before in
     let two = near (c .before .before) in
     let held = holds _ (c .if4 .left) in
-    two ∙ rw held (last-met (not (leb 1 (getD (s .args .pebbles .now) (s .args .to) 0))) 13 (s .args .place) (rw (two, held) at (s .pre .1)))
+    two ∙ rw held (last-met (not (leb (getD (s .args .depths .now) (s .args .to) 0) (getD (s .args .pebbles .now) (s .args .to) 0))) 13 (s .args .place) (rw (two, held) at (s .pre .1)))
 
 pub fault-spec : {M : Type 1} → statement M
 fault-spec =

@@ -2,15 +2,15 @@
 use mathlib.Core.Path.{_≡_, sym, _∙_}
 use mathlib.Core.Bool.{true, _&&_, _||_}
 use mathlib.Core.List.{[]}
-use Prim.Native.Nat.{ℕ, _<_}
+use Prim.Native.Nat.{ℕ}
 use native.Mathlib.Omega.{arith}
-use lib.ListN.{length, getD}
+use lib.ListN.{length}
 use lib.Dec.{ltb, eqb}
 use borrow.Author.Needs.{needs}
 use borrow.Author.Tests.{lt-ltb, le-ltb, lt-leb, le-leb, eq-eqb, ne-eqb}
 use Rattle.model.specs.Yard.{yardOf, parent}
 use Rattle.model.specs.Push.{push, moveFault, isNone}
-use Rattle.yard.proofs.Laws.{move-free, holds, apart}
+use Rattle.yard.proofs.Laws.{move-free, holds}
 use Rattle.yard.proofs.step.free.Statement.{statement}
 use Rattle.yard.proofs.step.free.Tie as tie
 
@@ -18,14 +18,13 @@ use Rattle.yard.proofs.step.free.Tie as tie
 known : (c : tie.Else2) → let a = c .before .before .args in ((ltb (a .from) (length (a .parents .now))) && (ltb (a .to) (length (a .parents .now)))) ≡ true
 known c = rw (lt-ltb _ _ (c .before .if1 .left), lt-ltb _ _ (c .if2 .left))
 
--- the first holds a pebble and the second none: so they differ, and whether one is the other's parent is left
-counted : (c : tie.Else4) (place : ℕ) → let a = c .before .before .before .before .before .before .args in let y = yardOf (a .parents .now) (a .pebbles .now) [] in
+-- the first holds a pebble, the second has a place, and they differ: whether one is the other's parent is left
+counted : (c : tie.Else5) (place : ℕ) → let a = c .before .before .before .before .before .before .before .before .args in let y = yardOf (a .parents .now) (a .pebbles .now) [] (a .depths .now) in
     isNone (moveFault y (push (a .from) (a .to)) place) ≡ ((eqb (parent y (a .from)) (a .to)) || (eqb (parent y (a .to)) (a .from)))
 counted c place =
-    let e = c .before .before in
-    let a = e .before .before .before .before .args in
-    let none : getD (a .pebbles .now) (a .to) 0 < 1 = omega (arith, c .if4 .left) in
-    rw (move-free _ _ place, known (e .before .before), holds _ (e .if3 .left), lt-leb _ _ none, apart (a .pebbles .now) (a .from) (a .to) (e .if3 .left) none)
+    let p = c .before in
+    let e = p .before .before .before in
+    rw (move-free _ _ place, known (e .before .before), holds _ (e .if3 .left), lt-leb _ _ (p .if4 .left), ne-eqb _ _ (c .if5 .left))
 
 returns : tie.Need-returns
 returns c place = rw (move-free _ _ place, le-ltb _ _ (c .if1 .taken))
@@ -42,26 +41,37 @@ returns-3 c place = rw (move-free _ _ place, known (c .before .before), c .if3 .
 shared-slice-read-if4 : tie.Need-shared-slice-read-if4
 shared-slice-read-if4 c = search needs
 
+shared-slice-read-if4-2 : tie.Need-shared-slice-read-if4-2
+shared-slice-read-if4-2 c = search needs
+
 returns-4 : tie.Need-returns-4
-returns-4 c place = rw (move-free _ _ place, known (c .before .before .before .before), holds _ (c .before .before .if3 .left), le-leb _ _ (c .if4 .taken))
-
-shared-slice-read-if5 : tie.Need-shared-slice-read-if5
-shared-slice-read-if5 c = search needs
-
-cast-if5 : tie.Need-cast-if5
-cast-if5 c = omega (arith, c .shared-slice-known3 .given (c .before .before .before .before .before .before .before .args .from))
+returns-4 c place =
+    let e = c .before .before .before in
+    rw (move-free _ _ place, known (e .before .before), holds _ (e .if3 .left), le-leb _ _ (c .if4 .taken))
 
 returns-5 : tie.Need-returns-5
-returns-5 c place = sym (counted (c .before .before) place ∙ rw (eq-eqb _ _ (c .if5 .taken)))
+returns-5 c place =
+    let p = c .before in
+    let e = p .before .before .before in
+    rw (move-free _ _ place, known (e .before .before), holds _ (e .if3 .left), lt-leb _ _ (p .if4 .left), eq-eqb _ _ (c .if5 .taken))
+
+shared-slice-read-if6 : tie.Need-shared-slice-read-if6
+shared-slice-read-if6 c = search needs
+
+cast-if6 : tie.Need-cast-if6
+cast-if6 c = omega (arith, c .shared-slice-known4 .given (c .before .before .before .before .before .before .before .before .before .args .from))
+
+returns-6 : tie.Need-returns-6
+returns-6 c place = sym (counted (c .before .before) place ∙ rw (eq-eqb _ _ (c .if6 .taken)))
 
 shared-slice-read-result : tie.Need-shared-slice-read-result
 shared-slice-read-result c = search needs
 
 cast-result : tie.Need-cast-result
-cast-result c = omega (arith, c .shared-slice-known4 .given (c .before .before .before .before .before .before .before .before .before .args .to))
+cast-result c = omega (arith, c .shared-slice-known5 .given (c .before .before .before .before .before .before .before .before .before .before .before .args .to))
 
-returns-6 : tie.Need-returns-6
-returns-6 c place = sym (counted (c .before .before .before) place ∙ rw (ne-eqb _ _ (c .before .if5 .left)))
+returns-7 : tie.Need-returns-7
+returns-7 c place = sym (counted (c .before .before .before) place ∙ rw (ne-eqb _ _ (c .before .if6 .left)))
 
 pub free-spec : {M : Type 1} → statement M
 free-spec =
@@ -72,10 +82,12 @@ free-spec =
     shared-slice-read-if3
     returns-3
     shared-slice-read-if4
+    shared-slice-read-if4-2
     returns-4
-    shared-slice-read-if5
-    cast-if5
     returns-5
+    shared-slice-read-if6
+    cast-if6
+    returns-6
     shared-slice-read-result
     cast-result
-    returns-6)
+    returns-7)

@@ -10,7 +10,7 @@ free-requires : tie.Need-free-requires
 free-requires c κs = search needs
 
 fault-requires : tie.Need-fault-requires
-fault-requires c κs = (c .before .before .before .before .pre, sym (c .before .free .ensures _) ∙ not-true _ (c .if1 .taken))
+fault-requires c κs = (c .before .before .before .before .before .pre, sym (c .before .free .ensures _) ∙ not-true _ (c .if1 .taken))
 
 returns : tie.Need-returns
 returns c = sym (c .fault .ensures)

@@ -11,7 +11,7 @@ use Rattle.yard.proofs.States.{made}
 use Rattle.yard.proofs.state.Yard.from_lists.Statement.{statement}
 use Rattle.yard.proofs.state.Yard.from_lists.Tie as tie
 
-told : (c : tie.After-enum-told) → let a = c .before .before .before .before .before .before .args in Tree (yardOf (a .parents .now) (a .pebbles .now) (a .targets .now))
+told : (c : tie.After-enum-told) → let a = c .before .before .before .before .before .before .before .args in Tree (yardOf (a .parents .now) (a .pebbles .now) (a .targets .now) (a .depths .now))
 told c = sees (c .before .before .test-yard .ensures) (c .enum-told .given .1)
 
 test-yard-requires : tie.Need-test-yard-requires
@@ -40,10 +40,13 @@ padded-requires-2 c κs = let f = facts _ (told (c .before)) in omega (arith, f 
 padded-requires-3 : tie.Need-padded-requires-3
 padded-requires-3 c κs = let f = facts _ (told (c .before .before)) in omega (arith, f .few, f .targets-size)
 
+padded-requires-4 : tie.Need-padded-requires-4
+padded-requires-4 c κs = let f = facts _ (told (c .before .before .before)) in omega (arith, f .few, f .depths-size)
+
 returns-2 : tie.Need-returns-2
 returns-2 c =
-    let e = told (c .before .before .before) in
-    (sym e, rw e (made _ e (c .before .before .padded .ensures) (c .before .padded2 .ensures) (c .padded3 .ensures)))
+    let e = told (c .before .before .before .before) in
+    (sym e, rw e (made _ e (c .before .before .before .padded .ensures) (c .before .before .padded2 .ensures) (c .before .padded3 .ensures) (c .padded4 .ensures)))
 
 pub from-lists-spec : {M : Type 1} → statement M
 from-lists-spec =
@@ -57,4 +60,5 @@ from-lists-spec =
     padded-requires
     padded-requires-2
     padded-requires-3
+    padded-requires-4
     returns-2)
