@@ -73,7 +73,7 @@ pub fn test_lists(parents: &[u8], pebbles: &[u8], targets: &[u8], depths: &[u8])
     test_entries(parents, pebbles, targets, depths)
 }
 
-// Refusals 5 and 6, of parents that are nodes.
+// Refusals 5 and 6, of parents that are nodes. A second root never climbs to the first, so it is looked for only where some node does not.
 pub fn test_shape(parents: &[u8]) -> Done
     requires { ⌜ Parents (now parents) ⌝ }
     ensures { λ r. ⌜ paperDone r ≡ firstOf (shapeTests (yardOf (was parents) [] [] [])) ⌝ }
@@ -83,15 +83,15 @@ pub fn test_shape(parents: &[u8]) -> Done
     if root >= n {
         return Done::Refused(Refusal::Roots(0));
     }
+    let circle = first_circle(parents, root);
+    if circle >= n {
+        return Done::Accepted;
+    }
     let second = first_own(parents, root + 1);
     if second < n {
         return Done::Refused(Refusal::Roots(second));
     }
-    let circle = first_circle(parents, root);
-    if circle < n {
-        return Done::Refused(Refusal::Circle(circle));
-    }
-    Done::Accepted
+    Done::Refused(Refusal::Circle(circle))
 }
 
 // Whether four lists are a yard's, and a tree: refusals 1 to 6, in the order above.

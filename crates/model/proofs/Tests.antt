@@ -1,7 +1,7 @@
 -- The tests of refusals 1 to 6 one by one, from what is found of four lists: each refuses, or is passed.
-use mathlib.Core.Path.{_≡_, sym, ap, _∙_}
+use mathlib.Core.Path.{_≡_, refl, sym, ap, _∙_}
 use mathlib.Core.Logic.{_≢_}
-use mathlib.Core.Bool.{Bool, not, _&&_, and-eq-true-iff}
+use mathlib.Core.Bool.{Bool, true, false, not, _&&_, and-eq-true-iff, false≢true}
 use mathlib.Core.List.{List, [], _∷_}
 use mathlib.Core.Option.{Option, none, some}
 use Prim.Native.Nat.{ℕ, _+_, _≤_, _<_}
@@ -11,7 +11,8 @@ use lib.Dec.{leb, ltb, eqb, leb·zero}
 use borrow.Author.Tests.{ltb-true, leb-true, eqb-true, lt-ltb, le-leb, lt-leb, eq-eqb, ne-eqb}
 use Rattle.model.specs.Yard.{Yard, yardOf, maxSize, maxDepth, up, below, climbs, roots, headOr}
 use Rattle.model.specs.Judge.{Fault, fault, firstOf, sizeFault, rootFault, lengthTests, entryTests, listTests, shapeTests, judge}
-use Rattle.model.proofs.Basics.{first-refused, first-passed, none-all, unless-none}
+use Rattle.model.proofs.Basics.{first-refused, first-passed, none-all, unless-none, below-none, none-below}
+use Rattle.model.proofs.Climb.{climbs-fixed}
 use Rattle.model.proofs.Found.{lowest-fault, lowest-none, lowest-is, below-rest, below-cong}
 
 -- 1 and 2
@@ -117,18 +118,26 @@ module _ (ps : List ℕ) where
         go [] f = absurd (omega arith)
         go (v ∷ vs) f = rw f
 
-    module _ (s : ℕ) (f : s ≡ headOr (length ps) (below (length ps) (own (r + 1)))) (m : length ps ≤ s) where
-      one-root : roots ps ≡ r ∷ []
-      one-root = roots-first ∙ ap (λ (vs : List ℕ). r ∷ vs) (lowest-none (length ps) (own (r + 1)) s f m)
+    abbrev lost : ℕ → Bool
+    lost v = not (climbs (length ps) ps v r)
 
-      abbrev lost : ℕ → Bool
-      lost v = not (climbs (length ps) ps v r)
+    module _ (c : ℕ) (g : c ≡ headOr (length ps) (below (length ps) lost)) where
+      pub on-circle : (s : ℕ) → s ≡ headOr (length ps) (below (length ps) (own (r + 1))) → length ps ≤ s → c < length ps → fault 6 c ≡ firstOf shape
+      on-circle s f m n = rw (roots-first, lowest-none (length ps) (own (r + 1)) s f m, lowest-fault (length ps) lost 6 c g n)
 
-      pub on-circle : (c : ℕ) → c ≡ headOr (length ps) (below (length ps) lost) → c < length ps → fault 6 c ≡ firstOf shape
-      on-circle c g n = rw (one-root, lowest-fault (length ps) lost 6 c g n)
+      -- where none is lost there is no second root, as that would be lost
+      pub shape-pass : length ps ≤ c → none ≡ firstOf shape
+      shape-pass n = rw (roots-first, none-below (length ps) (own (r + 1)) (λ v m. go v m (own (r + 1) v) refl), all)
+        where
+          all : below (length ps) lost ≡ []
+          all = lowest-none (length ps) lost c g n
 
-      pub shape-pass : (c : ℕ) → c ≡ headOr (length ps) (below (length ps) lost) → length ps ≤ c → none ≡ firstOf shape
-      shape-pass c g n = rw (one-root, lowest-none (length ps) lost c g n)
+          go : (v : ℕ) → v < length ps → (b : Bool) → own (r + 1) v ≡ b → own (r + 1) v ≡ false
+          go v m false q = q
+          go v m true q =
+              let o = and-eq-true-iff (leb (r + 1) v) (eqb (up ps v) v) .0 q in
+              let d = climbs-fixed (length ps) ps v r (eqb-true (up ps v) v (o .1)) ∙ ne-eqb v r (λ e. absurd (omega (arith, leb-true (r + 1) v (o .0)))) in
+              absurd (false≢true (sym (below-none (length ps) lost all v m) ∙ ap not d))
 
 -- 1 to 4, and all six, by the groups
 module _ (y : Yard) where

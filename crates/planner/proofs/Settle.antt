@@ -1,6 +1,6 @@
 -- The loop at u: on the side of the turn the child that is chosen is u itself exactly if all children have a demand of 0, because u has; else a pebble is due
 -- over the edge of the chosen one.
-use mathlib.Core.Path.{_≡_, refl, sym, subst, _∙_}
+use mathlib.Core.Path.{_≡_, refl, sym, ap, subst, _∙_}
 use mathlib.Core.Logic.{_≢_}
 use mathlib.Core.Bool.{Bool, true, false, and-false}
 use mathlib.Core.List.{List, [], _∷_, _++_, append-nil}
@@ -24,9 +24,9 @@ use Rattle.model.proofs.Shortest.{Good, keeps}
 use Rattle.model.proofs.Choice.{none-needy, Neediest, neediest-other, choice-sound, fills-choice}
 use Rattle.model.proofs.Serve.{Due, Shift, Serves, serves-shift}
 use Rattle.model.proofs.Balance.{Settles, settled, turned, fills-steers, turn-due, first-needy}
-use Rattle.serve.specs.Serving.{AskedStart, Start, AskedMoves, Made, Served}
+use Rattle.serve.specs.Serving.{AskedStart, Picks, Found, AskedMoves, Made, Served}
 use Rattle.planner.specs.Balancing.{AskedEven, AskedTurn, TurnTaken}
-use Rattle.serve.proofs.Serving.{count-is}
+use Rattle.serve.proofs.Serving.{half-first, half-next}
 use Rattle.serve.proofs.Moving.{made-nil}
 use Rattle.serve.proofs.Stretches.{rest, back, made-append, describes-after, room-left, Begun, begin, go-on, ended}
 
@@ -90,28 +90,31 @@ module _ {b : Bool} {y : Yard} {t : List ℕ} {s : List ℤ} {plan : List ℕ} {
           go [] p = absurd (omega (arith, some-need y b c (chosen-needs .1), none-needy (imbalance y) y u p c (chosen-needs .0)))
           go (w ∷ l) p = turned p (subst (λ (x : Bool). Serves choice y x (choice (need y x) y u) ms) (sym e) (rw q at v)) f
 
--- the same of a turn that is asked to fill, or to draw
-module _ {b : Bool} {y : Yard} {t : List ℕ} {s : List ℤ} {plan : List ℕ} {u h c : ℕ} (r : AskedTurn b y t s plan u h) (q : c ≡ choice (need y b) y u) where
-  pub taken-none : c ≡ u → TurnTaken b y u s s plan plan 0
-  taken-none f = record { none = λ _. (sym f ∙ q, refl, refl); some = λ d. absurd (d refl) }
+-- the same of a turn that is asked to fill, or to draw: no child is picked, or one is
+module _ {b : Bool} {y : Yard} {t : List ℕ} {s s₁ : List ℤ} {plan : List ℕ} {u h c : ℕ} (r : AskedTurn b y t s plan u h) (q : c ≡ choice (need y b) y u) (p : Picks b u c s s₁) where
+  pub taken-none : c ≡ u → TurnTaken b y u s s₁ plan plan 0
+  taken-none f = record { none = λ _. (sym f ∙ q, p .0 f, refl); some = λ d. absurd (d refl) }
 
   module _ (d : c ≢ u) where
     side : fills y u ≡ b
     side = r .side (λ e. d (q ∙ e))
 
-    pub turn-asked : AskedStart b y t s c h
-    turn-asked = record {
-      described = r .asked .described;
-      due = due (r .asked) side q d;
-      high = omega (arith, r .asked .high, weight-child (wood y (r .asked .described .tree)) u c (r .asked .node) (chosen-needs (r .asked) side q d .0));
-    }
+    kid : Child (y .parents) u c
+    kid = chosen-needs (r .asked) side q d .0
 
-    pub turn-moves : {low : ℕ} → Start b y c low → AskedMoves b y t s plan low c
+    pub turn-asked : AskedStart b y t s₁ c h
+    turn-asked = rw (p .1 d) (record {
+      halfway = half-next b (half-first u (r .asked .described)) (r .asked .node) kid;
+      due = due (r .asked) side q d;
+      high = omega (arith, r .asked .high, weight-child (wood y (r .asked .described .tree)) u c (r .asked .node) kid);
+    })
+
+    pub turn-moves : {low : ℕ} {s₂ : List ℤ} → Found b y c low s₁ s₂ → AskedMoves b y t s s₂ plan low c
     turn-moves f = record {
       described = r .asked .described;
       due = due (r .asked) side q d;
-      chosen = rw (chosen-needs (r .asked) side q d .0 .up) (chosen-neediest (r .asked) side q d);
-      start = f;
+      chosen = rw (kid .up) (chosen-neediest (r .asked) side q d);
+      found = rw (kid .up) (rw (p .1 d) at f);
       room = r .asked .room;
     }
 
@@ -128,11 +131,11 @@ module _ {y : Yard} {t : List ℕ} {s : List ℤ} {plan : List ℕ} {u h : ℕ} 
 
   pub side-empty : ofZ w16 (getD s (256 + u) (pos 0)) ≡ 0 → fills y u ≡ false
   unfolding fills
-  side-empty z = rw (le-ltb 0 (pebble y u) (omega (arith, z, count-is (a .described .kept) (a .node))))
+  side-empty z = rw (le-ltb 0 (pebble y u) (omega (arith, z, ap (ofZ w16) (a .described .kept .pebbles u (a .node)))))
 
   module _ (d : ofZ w16 (getD s (256 + u) (pos 0)) ≢ 0) where
     holds : held y u ≡ true
-    holds = go (pebble y u) (λ z. d (count-is (a .described .kept) (a .node) ∙ z))
+    holds = go (pebble y u) (λ z. d (ap (ofZ w16) (a .described .kept .pebbles u (a .node)) ∙ z))
       where
         go : (p : ℕ) → (p ≡ 0 → ⊥) → ltb 0 p ≡ true
         go p n = lt-ltb 0 p (omega arith)

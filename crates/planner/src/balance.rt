@@ -4,13 +4,13 @@ ghost use Rattle.model.specs.Yard.{Yard};
 ghost use Rattle.model.specs.Plan.{fills};
 ghost use Rattle.model.specs.Given.{was, became};
 ghost use Rattle.planner.specs.Balancing.{AskedEven, AskedTurn, TurnTaken, Settled, Balanced};
-use serve::choose::choose;
+use serve::choose::pick;
 use serve::choose::wide;
 use serve::pebble::extract_start;
 use serve::pebble::inject_start;
 use serve::pebble::move_pebbles;
 
-// A turn of the loop at u, which holds a pebble: fills the child that is chosen. Answers how many moves it took, which is none if no child lacks a pebble.
+// A turn of the loop at u, which holds a pebble: fills the child that is picked. Answers how many moves it took, which is none if no child lacks a pebble.
 fn inject_turn(
     t: &[u8; 768],
     s: &mut [i16; 1280],
@@ -21,7 +21,7 @@ fn inject_turn(
     requires { ⌜ ((y : Yard) × AskedTurn true y (now t) (now s) (now plan) u height) ⌝ }
     ensures { λ r. ⌜ ((y : Yard) → AskedTurn true y (was t) (was s) (was plan) u height → TurnTaken true y u (was s) (became s) (was plan) (became plan) r) ⌝ }
 {
-    let c = choose(t, s, u, true);
+    let c = pick(t, s, u, true);
     if c == u {
         return 0;
     }
@@ -29,7 +29,7 @@ fn inject_turn(
     move_pebbles(t, s, plan, low, c, true)
 }
 
-// A turn of the loop at u that does not fill: draws from the child that is chosen.
+// A turn of the loop at u that does not fill: draws from the child that is picked.
 fn extract_turn(
     t: &[u8; 768],
     s: &mut [i16; 1280],
@@ -40,7 +40,7 @@ fn extract_turn(
     requires { ⌜ ((y : Yard) × AskedTurn false y (now t) (now s) (now plan) u height) ⌝ }
     ensures { λ r. ⌜ ((y : Yard) → AskedTurn false y (was t) (was s) (was plan) u height → TurnTaken false y u (was s) (became s) (was plan) (became plan) r) ⌝ }
 {
-    let c = choose(t, s, u, false);
+    let c = pick(t, s, u, false);
     if c == u {
         return 0;
     }

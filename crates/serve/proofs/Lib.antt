@@ -3,6 +3,7 @@ pub mod Links
 pub mod Numbers
 pub mod Siblings
 pub mod Looking
+pub mod Picking
 pub mod Moving
 pub mod Stretches
 pub mod Serving

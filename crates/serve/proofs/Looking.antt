@@ -14,6 +14,7 @@ use mir.Syntax.{w16}
 use mir.Val.{toZ, ofZ}
 use borrow.Author.Tests.{lt-ltb, le-ltb, ltb-true, ltb-false, le-leb, eq-eqb, ne-eqb}
 use Rattle.model.specs.Yard.{Yard, size, one, parent, pebblesIn, demand}
+use Rattle.model.specs.Judge.{Tree}
 use Rattle.model.specs.Push.{Move, moved}
 use Rattle.model.specs.Plan.{neediestChild, choice}
 use Rattle.model.proofs.Basics.{below-none}
@@ -21,8 +22,8 @@ use Rattle.model.proofs.Trees.{Child, child-is}
 use Rattle.model.proofs.Judged.{facts}
 use Rattle.model.proofs.Signed.{nextℤ, above0, below0, demand-parts, demand-range}
 use Rattle.model.proofs.Step.{need, Step, pebblesIn-other, pebblesIn-node}
-use Rattle.model.proofs.Choice.{Neediest, neediest-is, neediest-none}
-use Rattle.serve.specs.Serving.{isChildFrom, Lowest, LastServed, lastAt, Describes, beyond, NextBeyond}
+use Rattle.model.proofs.Choice.{Neediest, neediest-is, neediest-none, neediest-other}
+use Rattle.serve.specs.Serving.{isChildFrom, Lowest, LastServed, lastAt, Describes, Sees, beyond, NextBeyond}
 use Rattle.serve.proofs.Numbers.{small-back}
 use Rattle.serve.proofs.Siblings.{none-from, none-between, child-from, next-is}
 
@@ -97,9 +98,9 @@ module _ {b : Bool} {y : Yard} {u low : ℕ} {most : ℤ} where
     pub scan-child : Child (y .parents) u c
     scan-child = child-from (h .lowest) e .0
 
-    module _ {t : List ℕ} {s : List ℤ} (w : Describes y t s) where
+    module _ {t : List ℕ} {s : List ℤ} (w : Sees y t s u) where
       reads : demand y c ≡ getD s c (pos 0)
-      reads = sym (w .kept .demands c (scan-child .lt))
+      reads = sym (w .demands c scan-child)
 
       pub scan-found : beyond b (getD s c (pos 0)) most ≡ true → NextBeyond b y u low most c
       scan-found f = record {
@@ -257,6 +258,11 @@ module _ {b : Bool} {y : Yard} {u l c : ℕ} (f : LastServed b y u l) (n : NextB
                 first = λ v j g. omega (arith, less v j (λ _. g), k, level);
               }
 
+-- what is chosen, if it is not u itself, is a child of u
+pub chosen-child : (y : Yard) (b : Bool) (u c : ℕ) → c ≡ choice (need y b) y u → c ≢ u → Child (y .parents) u c
+unfolding choice
+chosen-child y b u c q d = rw q (neediest-other (need y b) y u (λ e. d (q ∙ e)) .needy .0)
+
 -- a move over the edge of the child that is chosen: that is the one served last then; for other nodes, and for the other sign, the one served last stays
 module _ {y : Yard} {m : Move} (g : Step y m) (n : Neediest (need y (g .away)) y (parent y (g .node)) (g .node)) where
   need-other : (b : Bool) (v : ℕ) → v ≢ g .node → need (moved y m) b v ≡ need y b v
@@ -307,31 +313,37 @@ module _ {y : Yard} {m : Move} (g : Step y m) (n : Neediest (need y (g .away)) y
     }
 
 -- a node is below 256
-module _ {y : Yard} {t : List ℕ} {s : List ℤ} {v : ℕ} (r : Describes y t s) (l : v < size y) where
-  pub node-small : v < 256
-  node-small = omega (arith, facts y (r .tree) .few)
+pub tree-small : (y : Yard) (v : ℕ) → Tree y → v < size y → v < 256
+tree-small y v t l = omega (arith, facts y t .few)
 
-  -- a demand is within −256 to 256, and so unchanged by a passage through 16 bits
+pub node-small : {y : Yard} {t : List ℕ} {s : List ℤ} {v : ℕ} → Describes y t s → v < size y → v < 256
+node-small {y} {v = v} r l = tree-small y v (r .tree) l
+
+pub seen-small : {y : Yard} {t : List ℕ} {s : List ℤ} {u v : ℕ} → Sees y t s u → v < size y → v < 256
+seen-small {y} {v = v} r l = tree-small y v (r .tree) l
+
+-- a demand is within −2,048 to 2,048, and so unchanged by a passage through 16 bits
+module _ {y : Yard} {t : List ℕ} {s : List ℤ} {u v : ℕ} (r : Sees y t s u) (k : Child (y .parents) u v) where
   pub in-range : natAbs (getD s v (pos 0)) ≤ 2_048
-  in-range = rw (r .kept .demands v l) (demand-range y (r .tree) v)
+  in-range = rw (r .demands v k) (demand-range y (r .tree) v)
 
   pub demand-back : toZ w16 (ofZ w16 (getD s v (pos 0))) ≡ getD s v (pos 0)
   demand-back = small-back (getD s v (pos 0)) in-range
 
   pub zero-demand : (ofZ w16 (getD s v (pos 0)) ≡ 0 → demand y v ≡ pos 0) × (demand y v ≡ pos 0 → ofZ w16 (getD s v (pos 0)) ≡ 0)
-  zero-demand = ((λ e. sym (r .kept .demands v l) ∙ sym demand-back ∙ ap (toZ w16) e), (λ e. ap (ofZ w16) (r .kept .demands v l ∙ e)))
+  zero-demand = ((λ e. sym (r .demands v k) ∙ sym demand-back ∙ ap (toZ w16) e), (λ e. ap (ofZ w16) (r .demands v k ∙ e)))
 
 -- the entry for the child that was served last
-module _ {y : Yard} {t : List ℕ} {s : List ℤ} {u : ℕ} (b : Bool) (r : Describes y t s) (l : u < size y) where
+module _ {y : Yard} {t : List ℕ} {s : List ℤ} {u : ℕ} (b : Bool) (r : Sees y t s u) where
   pub last-entry : (c : ℕ) × (c < 256) × (getD s (lastAt b u) (pos 0) ≡ pos c)
-  last-entry = let k = r .kept .lasts b u l in (k .node, small (ℕ-discrete (k .node) u), k .is)
+  last-entry = let k = r .lasts b in (k .node, small (ℕ-discrete (k .node) u), k .is)
     where
-      small : Dec (r .kept .lasts b u l .node ≡ u) → r .kept .lasts b u l .node < 256
-      small (yes e) = omega (arith, node-small r l)
-      small (no d) = node-small r (r .kept .lasts b u l .served d .child .lt)
+      small : Dec (r .lasts b .node ≡ u) → r .lasts b .node < 256
+      small (yes e) = omega (arith, seen-small r (r .node))
+      small (no d) = seen-small r (r .lasts b .served d .child .lt)
 
   pub last-read : {c : ℕ} → getD s (lastAt b u) (pos 0) ≡ pos c → c ≢ u → LastServed b y u c
   last-read {c} e d =
-      let k = r .kept .lasts b u l in
+      let k = r .lasts b in
       let q : k .node ≡ c = ap natAbs (sym (k .is) ∙ e) in
       subst (LastServed b y u) q (k .served (λ h. d (sym q ∙ h)))

@@ -24,6 +24,7 @@ use Rattle.model.proofs.Choice.{Neediest}
 use Rattle.model.proofs.Calls.{length-bytes}
 use Rattle.serve.specs.Serving.{Last, lastAt, Kept, shiftedState, Made}
 use Rattle.serve.proofs.Looking.{last-here, last-there}
+use Rattle.serve.proofs.Picking.{last-place, last-other}
 
 -- bytes of two lists of moves
 pub bytes-append : (ms ns : List Move) → bytes (ms ++ ns) ≡ bytes ms ++ bytes ns
@@ -43,17 +44,6 @@ write-move : (ms : List Move) (plan : List ℕ) (a b : ℕ) → 2 * length ms + 
     → set (set (overwrite (bytes ms) plan) (2 * length ms) a) (2 * length ms + 1) b ≡ overwrite (bytes (ms ++ (push a b ∷ []))) plan
 unfolding bytes
 write-move ms plan a b h = rw (← (length-bytes ms), two-behind (bytes ms) plan a b (omega (arith, length-bytes ms)), bytes-append ms (push a b ∷ []), append-assoc, length-append (bytes ms) (a ∷ b ∷ []))
-
--- the places of the last children
-last-place : (b : Bool) (u : ℕ) → u < 256 → (512 ≤ lastAt b u) × (lastAt b u < 1024)
-last-place true u l = omega arith
-last-place false u l = omega arith
-
-last-other : (b a : Bool) (u p : ℕ) → u < 256 → p < 256 → u ≢ p → lastAt b u ≢ lastAt a p
-last-other true true u p l h d e = d (omega arith)
-last-other true false u p l h d e = absurd (omega arith)
-last-other false true u p l h d e = absurd (omega arith)
-last-other false false u p l h d e = d (omega arith)
 
 -- the state after a legal push over the edge of the child that is chosen: the demand of its node, the child served last, and the two counts
 module _ (y : Yard) (m : Move) (g : Step y m) (n : Neediest (need y (g .away)) y (parent y (g .node)) (g .node)) (s : List ℤ) (k : Kept y s) (d : ℤ) (e : d ≡ nextℤ (g .away) (demand y (g .node))) where
@@ -78,11 +68,11 @@ module _ (y : Yard) (m : Move) (g : Step y m) (n : Neediest (need y (g .away)) y
   abbrev less : ℤ
   less = nextℤ true (getD after-last (256 + m .from) (pos 0))
 
-  abbrev more : ℤ
-  more = nextℤ false (getD after-last (256 + m .to) (pos 0))
-
   abbrev after-from : List ℤ
   after-from = set after-last (256 + m .from) less
+
+  abbrev more : ℤ
+  more = nextℤ false (getD after-from (256 + m .to) (pos 0))
 
   abbrev after-move : List ℤ
   after-move = set after-from (256 + m .to) more
@@ -111,7 +101,7 @@ module _ (y : Yard) (m : Move) (g : Step y m) (n : Neediest (need y (g .away)) y
   count-at v l (yes q) _ =
       let c : pebble (moved y m) v ≡ suc (pebble y v) = omega (arith, moved-pebble y m g v, ap one (eq-eqb v (m .to) q), ap one (ne-eqb v (m .from) (λ p. ends y m g .2 (sym p ∙ q)))) in
       rw c (ap (λ (w : ℕ). getD after-move (256 + w) (pos 0)) q ∙ getD-set-same after-from (256 + m .to) more (pos 0) (simp length-set (omega (arith, long, small (m .to) (ends y m g .1))))
-      ∙ ap (nextℤ false) (count-was (m .to) (ends y m g .1)) ∙ ap (λ (w : ℕ). pos (suc (pebble y w))) (sym q))
+      ∙ ap (nextℤ false) (getD-set-other after-last (256 + m .from) (256 + m .to) less (pos 0) (λ p. ends y m g .2 (sym (omega arith))) ∙ count-was (m .to) (ends y m g .1)) ∙ ap (λ (w : ℕ). pos (suc (pebble y w))) (sym q))
   count-at v l (no q) (yes p) =
       let c : pebble y v ≡ pebble (moved y m) v + 1 = omega (arith, moved-pebble y m g v, g .holds, ap (pebble y) p, ap one (ne-eqb v (m .to) q), ap one (eq-eqb v (m .from) p)) in
       getD-set-other after-from (256 + m .to) (256 + v) more (pos 0) (omega arith)

@@ -76,20 +76,32 @@ pub record Kept (y : Yard) (s : List ℤ) : Type 0 where
 abbrev pub Small : List ℤ → ℕ → Type 0
 Small s i = natAbs (getD s i (pos 0)) ≤ maxDemand
 
+-- an entry of the state, one nearer to 0 from one side; of a count, one less (true) or one more
+abbrev pub stepped : Bool → ℕ → List ℤ → List ℤ
+stepped b i s = set s i (nextℤ b (getD s i (pos 0)))
+
 -- the pebbles at v, and its depth, in the state
 abbrev pub Room : List ℤ → ℕ → ℕ → ℕ → Type 0
 Room s v p d = (getD s (256 + v) (pos 0) ≡ pos p) × (getD s (1024 + v) (pos 0) ≡ pos d) × (p < 256) × (d < 256)
 
 -- one pebble less at the first node, and one more at the second
 abbrev pub shiftedState : ℕ → ℕ → List ℤ → List ℤ
-shiftedState from to s = set (set s (256 + from) (nextℤ true (getD s (256 + from) (pos 0)))) (256 + to) (nextℤ false (getD s (256 + to) (pos 0)))
+shiftedState from to s = stepped false (256 + to) (stepped true (256 + from) s)
+
+-- the state with the child c of u picked: its demand is one nearer to 0, and it is the one served last
+abbrev pub pickedState : Bool → ℕ → ℕ → List ℤ → List ℤ
+pickedState b u c s = set (stepped b c s) (lastAt b u) (pos c)
 
 -- the state after a move over the edge of v, away from the root (true) or towards it, and the list with it at place k
 abbrev pub movedState : List ℕ → Bool → ℕ → List ℤ → List ℤ
-movedState t b v s = shiftedState (crossing t b v .from) (crossing t b v .to) (set (set s v (nextℤ b (getD s v (pos 0)))) (lastAt b (up t v)) (pos v))
+movedState t b v s = shiftedState (crossing t b v .from) (crossing t b v .to) (pickedState b (up t v) v s)
 
 abbrev pub movedPlan : List ℕ → Bool → ℕ → ℕ → List ℕ → List ℕ
 movedPlan t b v k plan = set (set plan (2 * k) (crossing t b v .from)) (2 * k + 1) (crossing t b v .to)
+
+-- the same, with v's parent p
+abbrev pub recorded : Bool → ℕ → ℕ → ℕ → List ℕ → List ℕ
+recorded b p v k plan = set (set plan (2 * k) (cond b p v)) (2 * k + 1) (cond b v p)
 
 -- tables and state of a tree
 pub record Describes (y : Yard) (t : List ℕ) (s : List ℤ) : Type 0 where
@@ -107,15 +119,37 @@ pub record NextBeyond (b : Bool) (y : Yard) (u low : ℕ) (most : ℤ) (r : ℕ)
   pub passed : (v : ℕ) → Child (y .parents) u v → low ≤ v → (r ≢ u → v < r) → beyond b (demand y v) most ≡ false
   pub found : r ≢ u → Child (y .parents) u r × (low ≤ r) × (beyond b (demand y r) most ≡ true)
 
--- what the choice of a child of u asks, after c was served
-pub record AskedAfter (b : Bool) (y : Yard) (t : List ℕ) (s : List ℤ) (u c : ℕ) : Type 0 where
-  pub described : Describes y t s
+-- what the choice of a child of u looks at: the demands of u's children, and for each sign the one that was served last
+pub record Sees (y : Yard) (t : List ℕ) (s : List ℤ) (u : ℕ) : Type 0 where
+  pub tree : Tree y
+  pub tables : Tables (y .parents) t
   pub node : u < size y
+  pub demands : (v : ℕ) → Child (y .parents) u v → getD s v (pos 0) ≡ demand y v
+  pub lasts : (b : Bool) → Last b y u (getD s (lastAt b u) (pos 0))
+
+-- what it asks after c was served
+pub record AskedAfter (b : Bool) (y : Yard) (t : List ℕ) (s : List ℤ) (u c : ℕ) : Type 0 where
+  pub sees : Sees y t s u
   pub last : LastServed b y u c
+
+-- the child r of u was picked, or none
+abbrev pub Picks : Bool → ℕ → ℕ → List ℤ → List ℤ → Type 0
+Picks b u r before after = (r ≡ u → after ≡ before) × (r ≢ u → after ≡ pickedState b u r before)
+
+-- on the way down at v. Nodes above have picked already, and no pebble has moved yet: the counts are the yard's, and so are the demands and the children served last from v
+-- down, where nodes have no more nodes inside than v
+pub record Halfway (y : Yard) (t : List ℕ) (s : List ℤ) (v : ℕ) : Type 0 where
+  pub tree : Tree y
+  pub tables : Tables (y .parents) t
+  pub long : length s ≡ 1280
+  pub demands : (c : ℕ) → c < size y → weight (y .parents) c < weight (y .parents) v → getD s c (pos 0) ≡ demand y c
+  pub pebbles : (u : ℕ) → u < size y → getD s (256 + u) (pos 0) ≡ pos (pebble y u)
+  pub lasts : (b : Bool) (u : ℕ) → u < size y → weight (y .parents) u ≤ weight (y .parents) v → Last b y u (getD s (lastAt b u) (pos 0))
+  pub depths : (u : ℕ) → u < size y → getD s (1024 + u) (pos 0) ≡ pos (capacity y u)
 
 -- what filling v (true) or drawing from it (false) asks: that a pebble is due over its edge, and a height that bounds the nodes inside v
 pub record AskedStart (b : Bool) (y : Yard) (t : List ℕ) (s : List ℤ) (v height : ℕ) : Type 0 where
-  pub described : Describes y t s
+  pub halfway : Halfway y t s v
   pub due : Due y b v
   pub high : weight (y .parents) v ≤ height
 
@@ -124,17 +158,27 @@ pub data Chain (b : Bool) (y : Yard) (top : ℕ) : ℕ → Type 0 where
   at-top : Chain b y top top
   down : {u : ℕ} → Chain b y top u → blocked y b u ≡ true → Chain b y top (choice (need y b) y u)
 
+-- the state with all of them picked, but for top
+unfoldable pub picked : {b : Bool} {y : Yard} {top v : ℕ} → Chain b y top v → List ℤ → List ℤ
+picked at-top s = s
+picked {b} {y} (down {u = u} c e) s = picked c (pickedState b u (choice (need y b) y u) s)
+
 -- where the moves start: at the end of that chain
 pub record Start (b : Bool) (y : Yard) (top low : ℕ) : Type 0 where
   pub chain : Chain b y top low
   pub unblocked : blocked y b low ≡ false
 
--- what the moves ask, from there up to top: that no sibling of top needs more, and room in the list too
-pub record AskedMoves (b : Bool) (y : Yard) (t : List ℕ) (s : List ℤ) (plan : List ℕ) (low top : ℕ) : Type 0 where
-  pub described : Describes y t s
+-- what the way down gives
+pub record Found (b : Bool) (y : Yard) (top low : ℕ) (before after : List ℤ) : Type 0 where
+  pub start : Start b y top low
+  pub picks : after ≡ picked (start .chain) before
+
+-- what the moves ask, from there up to top: that no sibling of top needs more, the state as it was before the way down, and room in the list too
+pub record AskedMoves (b : Bool) (y : Yard) (t : List ℕ) (s₀ s : List ℤ) (plan : List ℕ) (low top : ℕ) : Type 0 where
+  pub described : Describes y t s₀
   pub due : Due y b top
   pub chosen : Neediest (need y b) y (up (y .parents) top) top
-  pub start : Start b y top low
+  pub found : Found b y top low (pickedState b (up (y .parents) top) top s₀) s
   pub room : 2 * shortest y ≤ length plan
 
 -- moves that were made, written at the front of the list, and counted
@@ -151,4 +195,4 @@ pub record Served (b : Bool) (y : Yard) (v : ℕ) (s : List ℤ) (before after :
 
 -- the same, for every yard that was asked about
 abbrev pub ServedAll : Bool → List ℕ → List ℤ → List ℕ → ℕ → ℕ → List ℤ → List ℕ → ℕ → Type 0
-ServedAll b t s plan low top s′ plan′ count = (y : Yard) → AskedMoves b y t s plan low top → Served b y top s′ plan plan′ count
+ServedAll b t s plan low top s′ plan′ count = (y : Yard) (s₀ : List ℤ) → AskedMoves b y t s₀ s plan low top → Served b y top s′ plan plan′ count

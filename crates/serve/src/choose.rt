@@ -3,12 +3,12 @@ ghost use mathlib.Core.Path.{_≡_};
 ghost use Prim.Native.Nat.{ℕ, _≤_, _<_};
 ghost use lib.ListN.{getD};
 ghost use lib.IntN.{pos, natAbs};
-ghost use Rattle.model.specs.Yard.{Yard, size, maxDemand};
-ghost use Rattle.model.specs.Given.{was};
+ghost use Rattle.model.specs.Yard.{Yard, maxDemand};
+ghost use Rattle.model.specs.Given.{was, became};
 ghost use Rattle.model.specs.Plan.{choice};
 ghost use Rattle.model.proofs.Step.{need};
 ghost use Rattle.model.proofs.Signed.{nextℤ};
-ghost use Rattle.serve.specs.Serving.{beyond, lastAt, Describes, Lowest, NextBeyond, AskedAfter};
+ghost use Rattle.serve.specs.Serving.{beyond, lastAt, Small, pickedState, Sees, Lowest, NextBeyond, AskedAfter, Picks};
 
 // A byte as a number.
 pub fn wide(x: u8) -> usize
@@ -37,8 +37,8 @@ fn next_beyond(
     most: i16,
     away: bool,
 ) -> usize
-    requires { ⌜ ((y : Yard) × Describes y (now t) (now s) × ((low : ℕ) × Lowest (y .parents) u low from)) ⌝ }
-    ensures { λ r. ⌜ ((y : Yard) → Describes y (was t) (was s) → (low : ℕ) → Lowest (y .parents) u low from → NextBeyond away y u low most r) ⌝ }
+    requires { ⌜ ((y : Yard) × Sees y (now t) (now s) u × ((low : ℕ) × Lowest (y .parents) u low from)) ⌝ }
+    ensures { λ r. ⌜ ((y : Yard) → Sees y (was t) (was s) u → (low : ℕ) → Lowest (y .parents) u low from → NextBeyond away y u low most r) ⌝ }
 {
     let mut c = from;
     while c != u {
@@ -52,8 +52,8 @@ fn next_beyond(
 
 // The child that is served before any other was: from each that is farther from 0 than those before it on to the next, through all children of u.
 fn choose_of_all(t: &[u8; 768], s: &[i16; 1280], u: usize, away: bool) -> usize
-    requires { ⌜ ((y : Yard) × Describes y (now t) (now s) × (u < size y)) ⌝ }
-    ensures { λ r. ⌜ ((y : Yard) → Describes y (was t) (was s) → u < size y → r ≡ choice (need y away) y u) ⌝ }
+    requires { ⌜ ((y : Yard) × Sees y (now t) (now s) u) ⌝ }
+    ensures { λ r. ⌜ ((y : Yard) → Sees y (was t) (was s) u → r ≡ choice (need y away) y u) ⌝ }
 {
     let mut best = u;
     let mut from = wide(t[256 + u]);
@@ -108,13 +108,40 @@ fn choose_after(t: &[u8; 768], s: &[i16; 1280], u: usize, last: usize, away: boo
 }
 
 // The child of u that is served wherever one is chosen, or u itself if no child has a demand of the sign wanted.
-pub fn choose(t: &[u8; 768], s: &[i16; 1280], u: usize, away: bool) -> usize
-    requires { ⌜ ((y : Yard) × Describes y (now t) (now s) × (u < size y)) ⌝ }
-    ensures { λ r. ⌜ ((y : Yard) → Describes y (was t) (was s) → u < size y → r ≡ choice (need y away) y u) ⌝ }
+fn choose(t: &[u8; 768], s: &[i16; 1280], u: usize, away: bool) -> usize
+    requires { ⌜ ((y : Yard) × Sees y (now t) (now s) u) ⌝ }
+    ensures { λ r. ⌜ ((y : Yard) → Sees y (was t) (was s) u → r ≡ choice (need y away) y u) ⌝ }
 {
     let last = last_served(s, u, away);
     if last == u {
         return choose_of_all(t, s, u, away);
     }
     choose_after(t, s, u, last, away)
+}
+
+// Writes that the child c of u is served: its demand is one nearer to 0, and it is the one that was served last.
+fn note_served(s: &mut [i16; 1280], u: usize, c: usize, away: bool)
+    requires { ⌜ (u < 256) × (c < 256) × Small (now s) c ⌝ }
+    ensures { λ _. ⌜ became s ≡ pickedState away u c (was s) ⌝ }
+{
+    s[c] = nearer(s[c], away);
+    if away {
+        s[512 + u] = c as i16;
+        return;
+    }
+    s[768 + u] = c as i16;
+}
+
+// Picks that child: the state is then as if a pebble had gone over its edge, but for the pebbles.
+pub fn pick(t: &[u8; 768], s: &mut [i16; 1280], u: usize, away: bool) -> usize
+    requires { ⌜ ((y : Yard) × Sees y (now t) (now s) u) ⌝ }
+    ensures { λ r. ⌜ ((y : Yard) → Sees y (was t) (was s) u → r ≡ choice (need y away) y u) ⌝ }
+    ensures { λ r. ⌜ Picks away u r (was s) (became s) ⌝ }
+{
+    let c = choose(t, s, u, away);
+    if c == u {
+        return u;
+    }
+    note_served(s, u, c, away);
+    c
 }

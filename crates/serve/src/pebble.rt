@@ -2,14 +2,16 @@
 ghost use mathlib.Core.Path.{_≡_};
 ghost use mathlib.Core.Bool.{true, false};
 ghost use Prim.Native.Nat.{ℕ, _+_, _*_, _<_, _≤_};
-ghost use lib.ListN.{length, set};
+ghost use mathlib.Core.List.{List};
+ghost use lib.ListN.{length};
+ghost use lib.IntN.{ℤ};
 ghost use lib.Dec.{ltb};
-ghost use Rattle.model.specs.Yard.{Yard, up};
+ghost use Rattle.model.specs.Yard.{Yard};
 ghost use Rattle.model.specs.Given.{was, became};
 ghost use Rattle.model.proofs.Serve.{blocked};
-ghost use Rattle.serve.specs.Serving.{Small, Room, shiftedState, movedState, movedPlan, AskedStart, Start, AskedMoves, ServedAll};
-use crate::choose::choose;
+ghost use Rattle.serve.specs.Serving.{Small, Room, stepped, recorded, AskedStart, Found, AskedMoves, ServedAll};
 use crate::choose::nearer;
+use crate::choose::pick;
 use crate::choose::wide;
 
 // Whether a node has a place for one more pebble.
@@ -20,41 +22,32 @@ fn has_place(s: &[i16; 1280], v: usize) -> bool
     s[256 + v] < s[1024 + v]
 }
 
-// Writes a move at place k of the list, and one pebble less at the first node and one more at the second.
-fn record_move(s: &mut [i16; 1280], plan: &mut [u8], k: usize, from: usize, to: usize)
-    requires { ⌜ (from < 256) × (to < 256) × (2 * k + 2 ≤ length (now plan)) × Small (now s) (256 + from) × Small (now s) (256 + to) ⌝ }
-    ensures { λ _. ⌜ became s ≡ shiftedState from to (was s) ⌝ }
-    ensures { λ _. ⌜ became plan ≡ set (set (was plan) (2 * k) from) (2 * k + 1) to ⌝ }
+// One pebble less at a node (true), or one more.
+fn count_pebble(s: &mut [i16; 1280], v: usize, less: bool)
+    requires { ⌜ (v < 256) × Small (now s) (256 + v) ⌝ }
+    ensures { λ _. ⌜ became s ≡ stepped less (256 + v) (was s) ⌝ }
 {
-    let less = nearer(s[256 + from], true);
-    let more = nearer(s[256 + to], false);
-    s[256 + from] = less;
-    s[256 + to] = more;
-    plan[2 * k] = from as u8;
-    plan[2 * k + 1] = to as u8;
+    s[256 + v] = nearer(s[256 + v], less);
 }
 
-// Algorithm 4: the pebble goes over the edge of v, away from the root or towards it, the demand of v changes by one, and v is the child that was served last.
-fn move_pebble(t: &[u8; 768], s: &mut [i16; 1280], plan: &mut [u8], k: usize, v: usize, away: bool)
-    requires { ⌜ (v < 256) × (2 * k + 2 ≤ length (now plan)) × Small (now s) v × Small (now s) (256 + v) × Small (now s) (256 + up (now t) v) ⌝ }
-    ensures { λ _. ⌜ became s ≡ movedState (was t) away v (was s) ⌝ }
-    ensures { λ _. ⌜ became plan ≡ movedPlan (was t) away v k (was plan) ⌝ }
+// Algorithm 4: writes the move of a pebble over the edge of v, whose parent is p, away from the root or towards it, at place k of the list.
+fn record_move(plan: &mut [u8], k: usize, p: usize, v: usize, away: bool)
+    requires { ⌜ (p < 256) × (v < 256) × (2 * k + 2 ≤ length (now plan)) ⌝ }
+    ensures { λ _. ⌜ became plan ≡ recorded away p v k (was plan) ⌝ }
 {
-    let p = wide(t[v]);
-    s[v] = nearer(s[v], away);
     if away {
-        s[512 + p] = v as i16;
-        record_move(s, plan, k, p, v);
+        plan[2 * k] = p as u8;
+        plan[2 * k + 1] = v as u8;
         return;
     }
-    s[768 + p] = v as i16;
-    record_move(s, plan, k, v, p);
+    plan[2 * k] = v as u8;
+    plan[2 * k + 1] = p as u8;
 }
 
-// Algorithm 2: where filling v from its parent begins. A full v is cleared first.
-pub fn inject_start(t: &[u8; 768], s: &[i16; 1280], v: usize, height: usize) -> usize
+// Algorithm 2: where filling v from its parent begins. A full v is cleared first. Each node on the way down has picked its child then.
+pub fn inject_start(t: &[u8; 768], s: &mut [i16; 1280], v: usize, height: usize) -> usize
     requires { ⌜ ((y : Yard) × AskedStart true y (now t) (now s) v height) ⌝ }
-    ensures { λ r. ⌜ ((y : Yard) → AskedStart true y (was t) (was s) v height → Start true y v r) ⌝ }
+    ensures { λ r. ⌜ ((y : Yard) → AskedStart true y (was t) (was s) v height → Found true y v r (was s) (became s)) ⌝ }
 {
     if has_place(s, v) {
         return v;
@@ -62,29 +55,30 @@ pub fn inject_start(t: &[u8; 768], s: &[i16; 1280], v: usize, height: usize) -> 
     clear_start(t, s, v, height)
 }
 
-// Where clearing v begins, which is full: to clear it, fill the child that is chosen.
-fn clear_start(t: &[u8; 768], s: &[i16; 1280], v: usize, height: usize) -> usize
+// Where clearing v begins, which is full: to clear it, fill the child that is picked.
+fn clear_start(t: &[u8; 768], s: &mut [i16; 1280], v: usize, height: usize) -> usize
     requires { ⌜ ((y : Yard) × AskedStart true y (now t) (now s) v height × (blocked y true v ≡ true)) ⌝ }
-    ensures { λ r. ⌜ ((y : Yard) → AskedStart true y (was t) (was s) v height → blocked y true v ≡ true → Start true y v r) ⌝ }
+    ensures { λ r. ⌜ ((y : Yard) → AskedStart true y (was t) (was s) v height → blocked y true v ≡ true → Found true y v r (was s) (became s)) ⌝ }
 {
-    let c = choose(t, s, v, true);
+    let c = pick(t, s, v, true);
     inject_start(t, s, c, height - 1)
 }
 
 // Algorithm 3: where drawing from v into its parent begins. Into an empty v a pebble is drawn first.
-pub fn extract_start(t: &[u8; 768], s: &[i16; 1280], v: usize, height: usize) -> usize
+pub fn extract_start(t: &[u8; 768], s: &mut [i16; 1280], v: usize, height: usize) -> usize
     requires { ⌜ ((y : Yard) × AskedStart false y (now t) (now s) v height) ⌝ }
-    ensures { λ r. ⌜ ((y : Yard) → AskedStart false y (was t) (was s) v height → Start false y v r) ⌝ }
+    ensures { λ r. ⌜ ((y : Yard) → AskedStart false y (was t) (was s) v height → Found false y v r (was s) (became s)) ⌝ }
 {
     if s[256 + v] != 0 {
         return v;
     }
-    let c = choose(t, s, v, false);
+    let c = pick(t, s, v, false);
     extract_start(t, s, c, height - 1)
 }
 
 // The moves of filling `top`, or of drawing from it, which begin at `low`: from there up to `top` a pebble goes over the edge of each node and
-// makes way for the next. They go to the front of the list; answers how many.
+// makes way for the next. In between each node that loses one gets one, so only the counts at the two ends change. The moves go to the front of the list; answers
+// how many.
 pub fn move_pebbles(
     t: &[u8; 768],
     s: &mut [i16; 1280],
@@ -93,17 +87,20 @@ pub fn move_pebbles(
     top: usize,
     away: bool,
 ) -> usize
-    requires { ⌜ ((y : Yard) × AskedMoves away y (now t) (now s) (now plan) low top) ⌝ }
+    requires { ⌜ ((y : Yard) × (s₀ : List ℤ) × AskedMoves away y (now t) s₀ (now s) (now plan) low top) ⌝ }
     ensures { λ r. ⌜ ServedAll away (was t) (was s) (was plan) low top (became s) (became plan) r ⌝ }
 {
+    count_pebble(s, low, !away);
     let mut k = 0;
     let mut v = low;
     loop {
-        move_pebble(t, s, plan, k, v, away);
+        let p = wide(t[v]);
+        record_move(plan, k, p, v, away);
         k += 1;
         if v == top {
+            count_pebble(s, p, away);
             return k;
         }
-        v = wide(t[v]);
+        v = p;
     }
 }

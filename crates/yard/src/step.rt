@@ -47,11 +47,8 @@ fn free(parents: &[u8], pebbles: &[u8], depths: &[u8], from: usize, to: usize) -
     if pebbles[to] >= depths[to] {
         return false;
     }
-    if from == to {
-        return false;
-    }
     if parents[from] as usize == to {
-        return true;
+        return from != to;
     }
     parents[to] as usize == from
 }

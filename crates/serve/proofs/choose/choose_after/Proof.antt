@@ -9,13 +9,13 @@ use Rattle.model.specs.Yard.{Yard, demand}
 use Rattle.serve.specs.Serving.{Lowest, NextBeyond, AskedAfter}
 use Rattle.serve.proofs.Numbers.{next-back}
 use Rattle.serve.proofs.Siblings.{next-is}
-use Rattle.serve.proofs.Looking.{node-small, in-range, demand-back, zero-demand, last-next, last-none, last-round}
+use Rattle.serve.proofs.Looking.{seen-small, in-range, demand-back, zero-demand, last-next, last-none, last-round}
 use Rattle.serve.proofs.choose.choose_after.Statement.{statement}
 use Rattle.serve.proofs.choose.choose_after.Tie as tie
 
 -- the child served last is a node, and u
 node : (c : tie.Start) → (c .args .last < 256) × (c .args .u < 256)
-node c = let p = c .pre .1 in (node-small (p .described) (p .last .child .lt), node-small (p .described) (p .node))
+node c = let p = c .pre .1 in (seen-small (p .sees) (p .last .child .lt), seen-small (p .sees) (p .sees .node))
 
 add-wide : tie.Need-add-wide
 add-wide c = omega (arith, node c)
@@ -36,17 +36,17 @@ element-copy-out-next-beyond c = omega (arith, node (c .before .before))
 behind : (c : tie.After-wide) (y : Yard)
     → let s = c .before .before .args in
     AskedAfter (s .away) y (s .t .now) (s .s .now) (s .u) (s .last) → Lowest (y .parents) (s .u) (s .last + 1) (c .wide .result)
-behind c y a = rw (c .wide .ensures .0) (next-is (a .described .tables) (a .last .child))
+behind c y a = rw (c .wide .ensures .0) (next-is (a .sees .tables) (a .last .child))
 
 next-beyond-requires : tie.Need-next-beyond-requires
-next-beyond-requires c κs = let p = c .before .before .before .pre in (p .0, p .1 .described, (_, behind (c .before) (p .0) (p .1)))
+next-beyond-requires c κs = let p = c .before .before .before .pre in (p .0, p .1 .sees, (_, behind (c .before) (p .0) (p .1)))
 
 next : (c : tie.After-next-beyond) (y : Yard)
     → let s = c .before .before .before .before .args in
     AskedAfter (s .away) y (s .t .now) (s .s .now) (s .u) (s .last) → NextBeyond (s .away) y (s .u) (s .last + 1) (demand y (s .last)) (c .next-beyond .result)
 next c y a =
-    let m = a .last .child .lt in
-    rw (demand-back (a .described) m, a .described .kept .demands _ m) at (c .next-beyond .ensures y (a .described) _ (behind (c .before .before) y a))
+    let m = a .last .child in
+    rw (demand-back (a .sees) m, a .sees .demands _ m) at (c .next-beyond .ensures y (a .sees) _ (behind (c .before .before) y a))
 
 returns : tie.Need-returns
 returns c y a = last-next (a .last) (next (c .before) y a) (c .if1 .taken)
@@ -60,7 +60,7 @@ element-copy-out-if2 c = omega (arith, node (c .before .before .before .before .
 returns-2 : tie.Need-returns-2
 returns-2 c y a =
     let e = c .before .before in
-    last-none (a .last) (next (e .before) y a) (e .if1 .left) (zero-demand (a .described) (a .last .child .lt) .0 (c .if2 .taken))
+    last-none (a .last) (next (e .before) y a) (e .if1 .left) (zero-demand (a .sees) (a .last .child) .0 (c .if2 .taken))
 
 -- the call that the second scan belongs to
 abbrev call : tie.Else2 → tie.Start
@@ -82,16 +82,16 @@ element-copy-out-nearer : tie.Need-element-copy-out-nearer
 element-copy-out-nearer c = omega (arith, node (call (c .before .before)))
 
 nearer-requires : tie.Need-nearer-requires
-nearer-requires c κs = let p = call (c .before .before .before) .pre .1 in rw (demand-back (p .described) (p .last .child .lt)) (in-range (p .described) (p .last .child .lt))
+nearer-requires c κs = let p = call (c .before .before .before) .pre .1 in rw (demand-back (p .sees) (p .last .child)) (in-range (p .sees) (p .last .child))
 
 -- it begins at the lowest child
 lowest : (c : tie.After-wide2) (y : Yard)
     → let s = call (c .before .before) .args in
     AskedAfter (s .away) y (s .t .now) (s .s .now) (s .u) (s .last) → Lowest (y .parents) (s .u) 0 (c .wide2 .result)
-lowest c y a = rw (c .wide2 .ensures .0) (a .described .tables .first _ (a .node))
+lowest c y a = rw (c .wide2 .ensures .0) (a .sees .tables .first _ (a .sees .node))
 
 next-beyond-requires-2 : tie.Need-next-beyond-requires-2
-next-beyond-requires-2 c κs = let p = call (c .before .before .before .before) .pre in (p .0, p .1 .described, (0, lowest (c .before .before) (p .0) (p .1)))
+next-beyond-requires-2 c κs = let p = call (c .before .before .before .before) .pre in (p .0, p .1 .sees, (0, lowest (c .before .before) (p .0) (p .1)))
 
 returns-3 : tie.Need-returns-3
 returns-3 c y a =
@@ -99,10 +99,10 @@ returns-3 c y a =
     let w = n .before .before in
     let e = w .before .before in
     let o = e .before .before in
-    let m = a .last .child .lt in
+    let m = a .last .child in
     let s = call e .args in
-    last-round (a .last) (next (o .before) y a) (o .if1 .left) (λ q. e .if2 .left (zero-demand (a .described) m .1 q))
-    (rw (n .nearer .ensures, demand-back (a .described) m, next-back (s .away) (getD (s .s .now) (s .last) (pos 0)) (in-range (a .described) m), a .described .kept .demands _ m) at (c .next-beyond2 .ensures y (a .described) 0 (lowest w y a)))
+    last-round (a .last) (next (o .before) y a) (o .if1 .left) (λ q. e .if2 .left (zero-demand (a .sees) m .1 q))
+    (rw (n .nearer .ensures, demand-back (a .sees) m, next-back (s .away) (getD (s .s .now) (s .last) (pos 0)) (in-range (a .sees) m), a .sees .demands _ m) at (c .next-beyond2 .ensures y (a .sees) 0 (lowest w y a)))
 
 pub choose-after-spec : {M : Type 1} → statement M
 choose-after-spec =

@@ -9,16 +9,16 @@ use lib.IntN.{pos}
 use mir.Syntax.{w16}
 use mir.Val.{toZ, ofZ}
 use mir.ValLaws.{toZ-ofZ}
-use Rattle.model.specs.Yard.{Yard, size}
+use Rattle.model.specs.Yard.{Yard}
 use Rattle.model.proofs.Trees.{Child}
-use Rattle.serve.specs.Serving.{beyond, Describes, Lowest}
+use Rattle.serve.specs.Serving.{beyond, Sees, Lowest}
 use Rattle.serve.proofs.Siblings.{next-is, ahead, ahead-falls}
-use Rattle.serve.proofs.Looking.{node-small, demand-back, Scan, scan-first, scan-child, scan-found, scan-next, scan-end}
+use Rattle.serve.proofs.Looking.{seen-small, demand-back, Scan, scan-first, scan-child, scan-found, scan-next, scan-end}
 use Rattle.serve.proofs.choose.next_beyond.Statement.{statement}
 use Rattle.serve.proofs.choose.next_beyond.Tie as tie
 
 abbrev Inv-loop : tie.InvT-loop
-Inv-loop t s u from most away c₀ c = (y : Yard) → Describes y t s → (low : ℕ) → Lowest (y .parents) u low from → Scan away y u low (toZ w16 most) c
+Inv-loop t s u from most away c₀ c = (y : Yard) → Sees y t s u → (low : ℕ) → Lowest (y .parents) u low from → Scan away y u low (toZ w16 most) c
 
 abbrev μ-loop : tie.MeasureT-loop
 μ-loop t s u from most away c₀ c = ahead u c
@@ -32,7 +32,7 @@ back c = toZ-ofZ w16 (c .args .most) (c .fits .most)
 
 here : (c : tie.At-loop Inv-loop μ-loop) (y : Yard)
     → let s = c .before .args in
-    Describes y (s .t .now) (s .s .now) → (low : ℕ) → Lowest (y .parents) (s .u) low (s .from) → Scan (s .away) y (s .u) low (s .most) (c .loop .c)
+    Sees y (s .t .now) (s .s .now) (s .u) → (low : ℕ) → Lowest (y .parents) (s .u) low (s .from) → Scan (s .away) y (s .u) low (s .most) (c .loop .c)
 here c y w low a = rw (back (c .before)) at (c .loop .inv y w low a)
 
 -- the child at hand, which is a node
@@ -40,7 +40,7 @@ child : (c : tie.In-loop Inv-loop μ-loop) → let p = c .before .before in Chil
 child c = let p = c .before .before .pre in scan-child (here (c .before) (p .0) (p .1) (p .2 .0) (p .2 .1)) (c .loop-test .taken)
 
 node : (c : tie.In-loop Inv-loop μ-loop) → c .before .loop .c < 256
-node c = node-small (c .before .before .pre .1) (child c .lt)
+node c = seen-small (c .before .before .pre .1) (child c .lt)
 
 mul-passes : tie.Need-mul-passes Inv-loop μ-loop
 mul-passes c = omega (arith, node c)
@@ -55,7 +55,7 @@ passes-requires c κs = search needs
 answer : (c : tie.After-passes Inv-loop μ-loop) {y : Yard}
     → let l = c .before .before .before in
     let s = l .before .args in
-    Describes y (s .t .now) (s .s .now) → l .loop .c < size y → beyond (s .away) (getD (s .s .now) (l .loop .c) (pos 0)) (s .most) ≡ c .passes .result
+    Sees y (s .t .now) (s .s .now) (s .u) → Child (y .parents) (s .u) (l .loop .c) → beyond (s .away) (getD (s .s .now) (l .loop .c) (pos 0)) (s .most) ≡ c .passes .result
 answer c r l = sym (rw (demand-back r l, back (c .before .before .before .before)) at (c .passes .ensures))
 
 returns : tie.Need-returns Inv-loop μ-loop
@@ -63,7 +63,7 @@ returns c y w low a =
     let i = c .before .before .before in
     let d = i .loop-test .taken in
     let h = here (i .before) y w low a in
-    scan-found h d w (answer (c .before) w (scan-child h d .lt) ∙ c .if1 .taken)
+    scan-found h d w (answer (c .before) w (scan-child h d) ∙ c .if1 .taken)
 
 add-wide : tie.Need-add-wide Inv-loop μ-loop
 add-wide c = omega (arith, node (c .before .before .before))
@@ -85,7 +85,7 @@ loop-again c y w low a =
     let i = e .before .before .before in
     let d = i .loop-test .taken in
     let h = here (i .before) y w low a in
-    rw (c .wide .ensures .0, back (i .before .before)) (scan-next h d w (answer (e .before) w (scan-child h d .lt) ∙ e .if1 .left))
+    rw (c .wide .ensures .0, back (i .before .before)) (scan-next h d w (answer (e .before) w (scan-child h d) ∙ e .if1 .left))
 
 returns-2 : tie.Need-returns-2 Inv-loop μ-loop
 returns-2 c y w low a = scan-end (rw (c .loop-test .left) at (here (c .before) y w low a))
