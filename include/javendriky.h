@@ -57,7 +57,7 @@ extern "C" {
 #define JAVENDRIKY_MAX_PLAN_BYTES 262144
 
 /* The bytes of the longest plan that javendriky_plan writes: no yard of n nodes needs more moves than eight times the whole part of n * n / 4, which is
- * 131,072 for 256 nodes, at two bytes each (proved, as longest-most in crates/model/proofs). A plan list of so many bytes is never refused with 8. For
+ * 131,072 for 256 nodes, at two bytes each (proved, as longest-most in crates/laws/proofs). A plan list of so many bytes is never refused with 8. For
  * one yard javendriky_length_bound tells the bytes that are needed, mostly far fewer; for a number of nodes javendriky_longest_plan tells the moves. */
 #define JAVENDRIKY_LONGEST_PLAN_BYTES (JAVENDRIKY_MAX_DEPTH * (JAVENDRIKY_MAX_NODES * JAVENDRIKY_MAX_NODES / 4) * 2)
 

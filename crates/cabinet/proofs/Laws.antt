@@ -16,11 +16,11 @@ use Rattle.model.specs.Calls.Plans.{movesOf}
 use Rattle.model.specs.Calls.Checks.{bytesFault}
 use Rattle.model.specs.Calls.Answers.{Answer, answered, refused}
 use Rattle.model.specs.Calls.Registers.{idle, blockOf, registersOf, wholeMoves, nextNumber, nextMove, nextTests, stepFault, pebblesThen, stepped}
-use Rattle.model.proofs.Basics.{single}
-use Rattle.model.proofs.Calls.{movesOf-half, moves-half, move-at}
-use Rattle.model.proofs.Sheets.{Bytes}
-use Rattle.model.proofs.Blocks.{stepped-refused, stepped-line, stepped-block, stepped-pebbles}
-use Rattle.model.proofs.Cabinet.{then-held}
+use Rattle.laws.proofs.Basics.{single}
+use Rattle.laws.proofs.Calls.{movesOf-half, moves-half, move-at}
+use Rattle.laws.proofs.Sheets.{Bytes}
+use Rattle.laws.proofs.Blocks.{stepped-refused, stepped-line, stepped-block, stepped-pebbles}
+use Rattle.laws.proofs.Cabinet.{then-held}
 use Rattle.cabinet.specs.declared.registers.Told.{Told}
 use Rattle.cabinet.specs.declared.registers.After.{After}
 use Rattle.cabinet.specs.Step.{toldOf, afterOf}

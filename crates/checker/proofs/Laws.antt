@@ -16,13 +16,13 @@ use Rattle.model.specs.Push.{Move, push, adjacent, moveFault, shifted, after, r
 use Rattle.model.specs.Calls.Answers.{answered, refused, lent}
 use Rattle.model.specs.Calls.Plans.{movesOf}
 use Rattle.model.specs.Calls.Checks.{bytesFault, movesFault, endFault, Verdict, checkTests, checkFault, checkAnswer, within, trialFault, trialAnswer, trialPebbles}
-use Rattle.model.proofs.Basics.{none-all}
-use Rattle.model.proofs.Calls.{movesOf-half, moves-half, move-at, totals-none}
-use Rattle.model.proofs.Step.{step, moved-tree}
-use Rattle.model.proofs.Runs.{after-append, run-one}
-use Rattle.model.proofs.Moves.{moveFault-legal, movesFault-legal}
-use Rattle.model.proofs.Demand2.{check-excess}
-use Rattle.model.proofs.Trial.{take-again}
+use Rattle.laws.proofs.Basics.{none-all}
+use Rattle.laws.proofs.Calls.{movesOf-half, moves-half, move-at, totals-none}
+use Rattle.laws.proofs.Step.{step, moved-tree}
+use Rattle.laws.proofs.Runs.{after-append, run-one}
+use Rattle.laws.proofs.Moves.{moveFault-legal, movesFault-legal}
+use Rattle.laws.proofs.Demand2.{check-excess}
+use Rattle.laws.proofs.Trial.{take-again}
 
 -- the front of a plan
 module _ (bs : List ℕ) (count : ℕ) (h : 2 * count ≤ length bs) where

@@ -13,11 +13,11 @@ use Rattle.model.specs.Yard.{Yard, size, maxSize, maxDemand, sum, demand, imbal
 use Rattle.model.specs.Judge.{Fault, fault, judge, Tree}
 use Rattle.model.specs.Calls.Answers.{lent}
 use Rattle.model.specs.Calls.Demands.{demandsFault, demandsOf}
-use Rattle.model.proofs.Sums.{sum-cong}
-use Rattle.model.proofs.Ranges.{length-range}
-use Rattle.model.proofs.Equation2.{demands-entry}
-use Rattle.model.proofs.Judged.{facts}
-use Rattle.model.proofs.Signed.{demand-size, demand-range}
+use Rattle.laws.proofs.Sums.{sum-cong}
+use Rattle.laws.proofs.Ranges.{length-range}
+use Rattle.laws.proofs.Equation2.{demands-entry}
+use Rattle.laws.proofs.Judged.{facts}
+use Rattle.laws.proofs.Signed.{demand-size, demand-range}
 use Rattle.demand.proofs.Lists.{all-listed}
 
 pub array-room : (n : ℕ) → n ≤ maxSize → n ≤ length (replicate 256 (pos 0))

@@ -5,9 +5,9 @@ use native.Mathlib.Omega.{arith}
 use lib.IntN.{ℤ, pos, negsuc, natAbs}
 use Rattle.model.specs.Yard.{Yard, pebble, target, root, demand, Matched}
 use Rattle.model.specs.Judge.{Tree}
-use Rattle.model.proofs.Judged.{wood}
-use Rattle.model.proofs.Demands.{root-subtotal, root-even}
-use Rattle.model.proofs.Signed.{demand-size}
+use Rattle.laws.proofs.Judged.{wood}
+use Rattle.laws.proofs.Demands.{root-subtotal, root-even}
+use Rattle.laws.proofs.Signed.{demand-size}
 
 -- the root's demand tells whether the totals differ
 zero-size : (z : ℤ) → natAbs z ≡ 0 → z ≡ pos 0

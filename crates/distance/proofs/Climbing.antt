@@ -13,8 +13,8 @@ use lib.Dec.{eqb}
 use borrow.Author.Tests.{eq-eqb}
 use Rattle.model.specs.Yard.{up, inside}
 use Rattle.model.specs.Judge.{Parents}
-use Rattle.model.proofs.Climb.{inside-step}
-use Rattle.model.proofs.Trees.{Wood}
+use Rattle.laws.proofs.Climb.{inside-step}
+use Rattle.laws.proofs.Trees.{Wood}
 use Rattle.distance.specs.Far.{unknown, Unknown, Entries, Up, here, on, Rooted, Climbs, Written}
 
 -- a step more at the upper end, and one climb behind another

@@ -17,13 +17,13 @@ use Rattle.model.specs.Judge.{Fault, fault, firstOf, Tree}
 use Rattle.model.specs.Calls.Answers.{answered, answer, range}
 use Rattle.model.specs.Distance.{distance}
 use Rattle.model.specs.Calls.Distances.{nearestOf, nearestFault, nearestAnswer, emptyFault, inReach, reachCount}
-use Rattle.model.proofs.Basics.{below-none}
-use Rattle.model.proofs.Found.{lowest-is, lowest-none}
-use Rattle.model.proofs.Sums.{sum-zero}
-use Rattle.model.proofs.Ranges.{listed}
-use Rattle.model.proofs.Judged.{facts}
-use Rattle.model.proofs.Distance.{distance-lt}
-use Rattle.model.proofs.Nearest.{is-nearest}
+use Rattle.laws.proofs.Basics.{below-none}
+use Rattle.laws.proofs.Found.{lowest-is, lowest-none}
+use Rattle.laws.proofs.Sums.{sum-zero}
+use Rattle.laws.proofs.Ranges.{listed}
+use Rattle.laws.proofs.Judged.{facts}
+use Rattle.laws.proofs.Distance.{distance-lt}
+use Rattle.laws.proofs.Nearest.{is-nearest}
 use Rattle.distance.specs.Far.{unknown, Unknown, Asked, Least, isWithin, nearestOrNone}
 
 -- nothing is known at first

@@ -11,9 +11,9 @@ use Rattle.model.specs.Yard.{Yard, yardOf, size, headOr, lowest, entry}
 use Rattle.model.specs.Judge.{Fault, fault, firstOf, atLowest}
 use Rattle.model.specs.Calls.Demands.{demandsOf}
 use Rattle.model.specs.Calls.Events.{pebblesAfter, targetsAfter, demandsAfter, differ, stale, readyTests, eventFault, eventPebbles, eventTargets, eventDemands}
-use Rattle.model.proofs.Found.{below-cong, lowest-fault, lowest-none}
-use Rattle.model.proofs.Equation2.{demands-entry}
-use Rattle.model.proofs.EventRuns.{passed, event-ready}
+use Rattle.laws.proofs.Found.{below-cong, lowest-fault, lowest-none}
+use Rattle.laws.proofs.Equation2.{demands-entry}
+use Rattle.laws.proofs.EventRuns.{passed, event-ready}
 use Rattle.event.specs.Change.{differAt}
 
 -- the counts alone tell what an event alters

@@ -16,10 +16,10 @@ use Rattle.model.specs.declared.Event.{Event}
 use Rattle.model.specs.declared.Event.the-variants.{PebbleArrives, PebbleLeaves, TargetSet, TargetCleared}
 use Rattle.model.specs.Yard.{Yard, size, one, pebble, target, capacity, root, inside, entry}
 use Rattle.model.specs.Calls.Events.{differ, changed, possible, entryAfter, demandsAfter}
-use Rattle.model.proofs.Trees.{Wood}
-use Rattle.model.proofs.Judged.{facts, wood}
-use Rattle.model.proofs.EventRuns.{same, not-differ}
-use Rattle.model.proofs.Ranges.{length-range, getD-listed, listed}
+use Rattle.laws.proofs.Trees.{Wood}
+use Rattle.laws.proofs.Judged.{facts, wood}
+use Rattle.laws.proofs.EventRuns.{same, not-differ}
+use Rattle.laws.proofs.Ranges.{length-range, getD-listed, listed}
 use Rattle.event.specs.Change.{Rails, can, stepOf, steppedAfter}
 
 pub rails : {ps : List ℕ} → Rails ps → (r : ℕ) × Wood ps r

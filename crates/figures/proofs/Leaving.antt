@@ -16,13 +16,13 @@ use Rattle.model.specs.Yard.{Yard, size, parent, pebble, capacity, isChild, one
 use Rattle.model.specs.Judge.{Tree}
 use Rattle.model.specs.Follow.{displaced}
 use Rattle.model.specs.Calls.Demands.{demandsOf}
-use Rattle.model.proofs.Sums.{sum-cong, sum-add, sum-pick}
-use Rattle.model.proofs.Judged.{facts, wood}
-use Rattle.model.proofs.Demands.{root-even}
-use Rattle.model.proofs.Signed.{above0, below0, demand-parts}
-use Rattle.model.proofs.Equation2.{demands-entry}
-use Rattle.model.proofs.Outgoing.{outgoing}
-use Rattle.model.proofs.Tidy.{floor, displaced-floor}
+use Rattle.laws.proofs.Sums.{sum-cong, sum-add, sum-pick}
+use Rattle.laws.proofs.Judged.{facts, wood}
+use Rattle.laws.proofs.Demands.{root-even}
+use Rattle.laws.proofs.Signed.{above0, below0, demand-parts}
+use Rattle.laws.proofs.Equation2.{demands-entry}
+use Rattle.laws.proofs.Outgoing.{outgoing}
+use Rattle.laws.proofs.Tidy.{floor, displaced-floor}
 use Rattle.figures.specs.Leaving.{sourceOr, leaving, Leaves, stayingOf, movingAt}
 
 -- counting at the node that an edge is crossed from

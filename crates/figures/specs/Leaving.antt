@@ -6,7 +6,7 @@ use lib.ListN.{length, getD}
 use lib.Dec.{eqb}
 use lib.IntN.{ℤ, pos, negsuc, natAbs}
 use Rattle.model.specs.Yard.{up, one, sum, entry}
-use Rattle.model.proofs.Signed.{above0}
+use Rattle.laws.proofs.Signed.{above0}
 
 -- the node from which pebbles cross the edge of v, whose parent is p, by the demand z: v if it is below 0, p if it is above; or else `other`
 unfoldable pub sourceOr : ℕ → ℤ → ℕ → ℕ → ℕ

@@ -3,7 +3,7 @@ ghost use mathlib.Core.Path.{_≡_};
 ghost use Rattle.model.specs.Given.{given, was, became};
 ghost use Rattle.model.specs.Calls.Answers.{inC, told};
 ghost use Rattle.model.specs.Calls.Plans.{planAnswer, planList};
-ghost use Rattle.model.specs.Demand3.{Demand3};
+ghost use Rattle.laws.specs.Demand3.{Demand3};
 use crate::answers::counted;
 
 // The planner: writes the plan at the front of its list, and answers the number of moves. Refusals 1 to 8.

@@ -1,12 +1,13 @@
 -- The starred yards of document 01 ('Yards worked by hand'), the examples of its table of refusals, and yards that pin each choice of a child,
 -- as one list of inputs and outcomes: the definitions, computed, give what is written here.
 use mathlib.Core.Path.{_≡_, refl}
-use mathlib.Core.Bool.{Bool, true, false}
+use mathlib.Core.Bool.{Bool, true, false, cond}
 use mathlib.Core.List.{List, [], _∷_, map}
 use mathlib.Core.Option.{Option, none}
-use Prim.Native.Nat.{ℕ, zero, suc}
+use Prim.Native.Nat.{ℕ, zero, suc, _≤_, _<_}
 use Prim.Native.String.{String}
 use native.Mathlib.Omega.{arith}
+use lib.Dec.{eqb}
 use lib.ListN.{length, take, replicate}
 use lib.IntN.{ℤ, pos, negsuc}
 use Rattle.model.specs.declared.Event.{Event}
@@ -15,7 +16,7 @@ use Rattle.model.specs.Yard.{Yard, yardOf, holding, sum, below, roots, c
 use Rattle.model.specs.Judge.{Fault, row, fault, judge, matchedFault}
 use Rattle.model.specs.Push.{Move, push, moveFault, pushFault, legal, shifted, after, accepted, count}
 use Rattle.model.specs.Plan.{needy, lowestChild, greatest, neediestChild, choice, fills, inject, extract, turn, settle, each, balance, planWithin, planBy, plan}
-use Rattle.model.specs.Follow.{placed, starts, occurs, At, Follows, route, firstAt, lastIn, lifo, displaced}
+use Rattle.model.specs.Follow.{placed, starts, occurs, At, Follows, route, crossings, came, LastFirst, firstAt, lastIn, lifo, displaced}
 use Rattle.model.specs.Calls.Answers.{Answer, answered, refused, range}
 use Rattle.model.specs.Calls.Demands.{demandsFault, demandsList, Length, boundAnswer, displacedAnswer, longestAnswer}
 use Rattle.model.specs.Calls.Events.{demandsAfter, eventFault, eventPebbles, eventTargets, eventDemands, console, Happening, happens, leaves, runLeaves}
@@ -25,7 +26,7 @@ use Rattle.model.specs.Calls.Plans.{bytes, movesOf, planFault, planAnswe
 use Rattle.model.specs.Calls.Checks.{movesFault, Verdict, checkFault, checkAnswer, Trial, trialFault, trialAnswer, trialPebbles}
 use Rattle.model.specs.Calls.Registers.{blockOf, registersOf, bit, setBit, raised, registerFault, taskFault, stepFault, registersThen, pebblesThen, stepped}
 use Rattle.model.specs.Cabinet.{steps}
-use Rattle.model.specs.Sheets.{text, digits, decimal, stopBefore, line, lines, header, cut, same, value, field, readLine, readNodes, readYard, moveLines, edges, report, moveSheet, refusalSheet, program}
+use Rattle.model.specs.Sheets.{text, digits, decimal, stopBefore, line, lines, header, yardSheet, maxSheetBytes, judgedBytes, cut, same, value, field, readLine, readNodes, readYard, moveLines, edges, report, moveSheet, refusalSheet, program}
 use Rattle.model.proofs.Yards.{marks, yard, yardA, demandsA, yardB, planB}
 
 data Input : Type 0 where
@@ -424,6 +425,35 @@ either = Follows.next first (Follows.next second (Follows.next third Follows.don
 routes : map (λ (i : ℕ). route i (push 1 0 ∷ push 0 1 ∷ push 1 0 ∷ []) (0 ∷ 0 ∷ 1 ∷ [])) (0 ∷ 1 ∷ 2 ∷ []) ≡ (push 1 0 ∷ push 0 1 ∷ []) ∷ (push 1 0 ∷ []) ∷ [] ∷ []
 unfolding route
 routes = refl
+
+-- an edge crossed towards the root, and there and back
+crossed : (crossings siding (push 1 0 ∷ []) 1 ≡ 1) × (crossings siding (push 1 0 ∷ push 0 1 ∷ []) 1 ≡ 2)
+unfolding siding count
+crossed = (refl, refl)
+
+-- request 2.10: of two pebbles at node 1 the one that came back leaves before the one that stayed
+came-back : LastFirst [] (1 ∷ 1 ∷ 2 ∷ []) (push 1 0 ∷ push 0 1 ∷ push 1 0 ∷ []) (0 ∷ 0 ∷ 0 ∷ [])
+unfolding came
+came-back = LastFirst.next {taken = []} {i = 0} (λ j _. omega arith) (LastFirst.next (λ j _. once (eqb j 0)) (LastFirst.next (λ j _. twice (eqb j 0)) LastFirst.done))
+  where
+    once : (b : Bool) → cond b 1 0 ≤ 1
+    once true = omega arith
+    once false = omega arith
+
+    twice : (b : Bool) → cond b 2 (cond b 1 0) ≤ 2
+    twice true = omega arith
+    twice false = omega arith
+
+-- the longest sheet, of 256 nodes with values of three digits; the program judges more bytes than it has
+unfoldable pub longest : Yard
+longest = yardOf (replicate 256 255) (replicate 256 255) (replicate 256 255) (replicate 256 255)
+
+pub longest-length : length (yardSheet longest) ≡ maxSheetBytes
+unfolding longest yardSheet header text lines line decimal digits range
+longest-length = refl
+
+longest-judged : maxSheetBytes < judgedBytes
+longest-judged = omega arith
 
 -- request 2.3: the demands of yards A and B meet equation 2, entry by entry; in B a node's child is counted once
 equation2 : Equation2 yardA demandsA 0 × Equation2 yardA demandsA 1 × Equation2 yardA demandsA 2 × Equation2 yardA demandsA 3 × Equation2 yardA demandsA 4

@@ -8,7 +8,5 @@ pub mod Distance
 pub mod Calls
 pub mod Sheets
 pub mod Paper
-pub mod Demand2
-pub mod Demand3
 pub mod Cabinet
 pub mod Given

@@ -17,12 +17,12 @@ use Rattle.model.specs.Plan.{plan}
 use Rattle.model.specs.Calls.Answers.{range, rowUnit}
 use Rattle.model.specs.Calls.Plans.{movesOf}
 use Rattle.model.specs.Sheets.{text, line, lines, edges, report, moveLines, moveSheet, programPlanBytes}
-use Rattle.model.proofs.Basics.{all-below}
-use Rattle.model.proofs.Ranges.{length-range, getD-range, map-all}
-use Rattle.model.proofs.Signed.{above0, below0, parts-size}
-use Rattle.model.proofs.Calls.{movesOf-bytes, length-bytes, plan-none}
-use Rattle.model.proofs.Demand3.{plan-fits}
-use Rattle.model.proofs.Report.{plan-rows-demand}
+use Rattle.laws.proofs.Basics.{all-below}
+use Rattle.laws.proofs.Ranges.{length-range, getD-range, map-all}
+use Rattle.laws.proofs.Signed.{above0, below0, parts-size}
+use Rattle.laws.proofs.Calls.{movesOf-bytes, length-bytes, plan-none}
+use Rattle.laws.proofs.Demand3.{plan-fits}
+use Rattle.laws.proofs.Report.{plan-rows-demand}
 use Rattle.sheet.proofs.Decimals.{decimal-short, decimal-six}
 use Rattle.moves.specs.Report.{edgeValues, edgeLine, lineUnlessRoot, edgeLines, reportBy, Demands, Planned, planSheet, edgeRoom, reportRoom}
 

@@ -10,10 +10,10 @@ use Rattle.model.specs.Calls.Answers.{Answer, answered, refused, mapAnswer, Row
 use Rattle.model.specs.Calls.Plans.{planFault, planAnswer, planList}
 use Rattle.model.specs.Plan.{plan}
 use Rattle.model.specs.Sheets.{refusalSheet, programPlanBytes, printedOf, readYard, reader, readAnswer, filled, program}
-use Rattle.model.proofs.Calls.{answer-answered, answer-refused, take-overwrite, plan-none}
-use Rattle.model.proofs.Demand3.{written}
-use Rattle.model.proofs.Sheets.{refused-ne-answered, read-sizes, reader-room, program-cut}
-use Rattle.model.proofs.Places.{plan-small, read-row}
+use Rattle.laws.proofs.Calls.{answer-answered, answer-refused, take-overwrite, plan-none}
+use Rattle.laws.proofs.Demand3.{written}
+use Rattle.laws.proofs.Sheets.{refused-ne-answered, read-sizes, reader-room, program-cut}
+use Rattle.laws.proofs.Places.{plan-small, read-row}
 use Rattle.moves.specs.Report.{Planned, planSheet}
 
 -- the planner's answer, with the program's list

@@ -11,7 +11,7 @@ use Rattle.model.specs.Judge.{Tree}
 use Rattle.model.specs.Plan.{plan}
 use Rattle.model.specs.Calls.Plans.{bytes}
 use Rattle.model.specs.Sheets.{text, line, lines, moveSheet}
-use Rattle.model.proofs.Signed.{above0, below0}
+use Rattle.laws.proofs.Signed.{above0, below0}
 use Rattle.sheet.specs.Written.{moveLinesRoom}
 
 -- the values, and the line, of the edge of v, which has a demand d

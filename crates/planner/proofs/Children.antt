@@ -12,14 +12,14 @@ use lib.IntN.{ℤ}
 use Rattle.model.specs.Yard.{Yard, size, isChild, children, imbalance}
 use Rattle.model.specs.Push.{Move, after, run}
 use Rattle.model.specs.Plan.{needy, choice, fills}
-use Rattle.model.proofs.Basics.{none-below, below-none}
-use Rattle.model.proofs.Trees.{Child}
-use Rattle.model.proofs.Judged.{wood}
-use Rattle.model.proofs.Demands.{weight, weight-child}
-use Rattle.model.proofs.Runs.{after-append}
-use Rattle.model.proofs.Shortest.{keeps}
-use Rattle.model.proofs.Choice.{choice-sound}
-use Rattle.model.proofs.Balance.{Even, Settles, settled, Balances, none, next, fills-steers, settles-good, balances-good}
+use Rattle.laws.proofs.Basics.{none-below, below-none}
+use Rattle.laws.proofs.Trees.{Child}
+use Rattle.laws.proofs.Judged.{wood}
+use Rattle.laws.proofs.Demands.{weight, weight-child}
+use Rattle.laws.proofs.Runs.{after-append}
+use Rattle.laws.proofs.Shortest.{keeps}
+use Rattle.laws.proofs.Choice.{choice-sound}
+use Rattle.laws.proofs.Balance.{Even, Settles, settled, Balances, none, next, fills-steers, settles-good, balances-good}
 use Rattle.planner.specs.Balancing.{AskedEven, Settled, Balanced}
 use Rattle.serve.specs.Serving.{childrenFrom, Lowest}
 use Rattle.serve.proofs.Siblings.{from-0, none-from, child-from, some-from, next-is}

@@ -18,13 +18,13 @@ use Rattle.model.specs.Plan.{plan}
 use Rattle.model.specs.Calls.Answers.{refused, overwrite}
 use Rattle.model.specs.Calls.Demands.{demandsOf}
 use Rattle.model.specs.Calls.Plans.{bytes, planFault, planAnswer, planList}
-use Rattle.model.proofs.Sums.{sum-cong}
-use Rattle.model.proofs.Judged.{facts, wood}
-use Rattle.model.proofs.Demands.{root-even, weight-le}
-use Rattle.model.proofs.Signed.{demand-size, demand-range}
-use Rattle.model.proofs.Balance.{plan-only}
-use Rattle.model.proofs.Calls.{totals-none, plan-none}
-use Rattle.model.proofs.Demand3.{plan-length}
+use Rattle.laws.proofs.Sums.{sum-cong}
+use Rattle.laws.proofs.Judged.{facts, wood}
+use Rattle.laws.proofs.Demands.{root-even, weight-le}
+use Rattle.laws.proofs.Signed.{demand-size, demand-range}
+use Rattle.laws.proofs.Balance.{plan-only}
+use Rattle.laws.proofs.Calls.{totals-none, plan-none}
+use Rattle.laws.proofs.Demand3.{plan-length}
 use Rattle.demand.proofs.Answers.{demands-at}
 use Rattle.serve.specs.Serving.{Tables, lastAt, Kept}
 use Rattle.planner.specs.Balancing.{AskedEven, Balanced, Placed}

@@ -5,8 +5,8 @@ use Prim.Native.Nat.{ℕ}
 use Rattle.model.specs.Yard.{Yard}
 use Rattle.model.specs.Calls.Answers.{Answer}
 use Rattle.model.specs.Calls.Plans.{planAnswer, planList}
-use Rattle.model.proofs.Demand3.{demand-3}
-use Rattle.model.specs.Demand3.{Demand3}
+use Rattle.laws.proofs.Demand3.{demand-3}
+use Rattle.laws.specs.Demand3.{Demand3}
 
 -- what the call's contract says of its answer and of the list that it leaves
 abbrev Promises : (y : Yard) (before after : List ℕ) → Answer ℕ → Type 0

@@ -16,14 +16,14 @@ use mir.Val.{ofZ}
 use Rattle.model.specs.Yard.{Yard, size, pebble, held, lacking, imbalance}
 use Rattle.model.specs.Push.{Move, run}
 use Rattle.model.specs.Plan.{needy, choice, fills}
-use Rattle.model.proofs.Trees.{Child}
-use Rattle.model.proofs.Judged.{wood}
-use Rattle.model.proofs.Demands.{weight-child}
-use Rattle.model.proofs.Step.{need}
-use Rattle.model.proofs.Shortest.{Good, keeps}
-use Rattle.model.proofs.Choice.{none-needy, Neediest, neediest-other, choice-sound, fills-choice}
-use Rattle.model.proofs.Serve.{Due, Shift, Serves, serves-shift}
-use Rattle.model.proofs.Balance.{Settles, settled, turned, fills-steers, turn-due, first-needy}
+use Rattle.laws.proofs.Trees.{Child}
+use Rattle.laws.proofs.Judged.{wood}
+use Rattle.laws.proofs.Demands.{weight-child}
+use Rattle.laws.proofs.Step.{need}
+use Rattle.laws.proofs.Shortest.{Good, keeps}
+use Rattle.laws.proofs.Choice.{none-needy, Neediest, neediest-other, choice-sound, fills-choice}
+use Rattle.laws.proofs.Serve.{Due, Shift, Serves, serves-shift}
+use Rattle.laws.proofs.Balance.{Settles, settled, turned, fills-steers, turn-due, first-needy}
 use Rattle.serve.specs.Serving.{AskedStart, Picks, Found, AskedMoves, Made, Served}
 use Rattle.planner.specs.Balancing.{AskedEven, AskedTurn, TurnTaken}
 use Rattle.serve.proofs.Serving.{half-first, half-next}

@@ -9,9 +9,9 @@ use lib.IntN.{ℤ, pos}
 use Rattle.model.specs.Yard.{Yard, size, shortest}
 use Rattle.model.specs.Push.{Move}
 use Rattle.model.specs.Plan.{choice, fills}
-use Rattle.model.proofs.Demands.{weight}
-use Rattle.model.proofs.Step.{need}
-use Rattle.model.proofs.Balance.{Even, Settles, Balances}
+use Rattle.laws.proofs.Demands.{weight}
+use Rattle.laws.proofs.Step.{need}
+use Rattle.laws.proofs.Balance.{Even, Settles, Balances}
 use Rattle.serve.specs.Serving.{lastAt, Describes, Made, Served}
 
 -- what balancing u asks, and its loop

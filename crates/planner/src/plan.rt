@@ -3,7 +3,7 @@ ghost use mathlib.Core.Path.{_≡_};
 ghost use Rattle.model.specs.Given.{given, was, became};
 ghost use Rattle.model.specs.Calls.Plans.{planAnswer, planList};
 ghost use Rattle.model.specs.Paper.{paperCounted};
-ghost use Rattle.model.specs.Demand3.{Demand3};
+ghost use Rattle.laws.specs.Demand3.{Demand3};
 use crate::balance::balance_subtrees;
 use crate::state::place;
 use demand::matched::matched_demands;

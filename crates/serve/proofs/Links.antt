@@ -13,8 +13,8 @@ use lib.Dec.{leb, eqb}
 use borrow.Author.Count.{below-more}
 use borrow.Author.Tests.{le-leb, lt-leb, leb-true, leb-false, eq-eqb, ne-eqb}
 use Rattle.model.specs.Yard.{up, headOr, isChild}
-use Rattle.model.proofs.Found.{found, missed, below-cong}
-use Rattle.model.proofs.Trees.{child-is}
+use Rattle.laws.proofs.Found.{found, missed, below-cong}
+use Rattle.laws.proofs.Trees.{child-is}
 use Rattle.serve.specs.Serving.{isChildFrom, Lowest, Linked, linkedTo}
 
 -- the nodes below i are entered

@@ -17,12 +17,12 @@ use Rattle.model.specs.Yard.{Yard, size, one, parent, pebblesIn, demand}
 use Rattle.model.specs.Judge.{Tree}
 use Rattle.model.specs.Push.{Move, moved}
 use Rattle.model.specs.Plan.{neediestChild, choice}
-use Rattle.model.proofs.Basics.{below-none}
-use Rattle.model.proofs.Trees.{Child, child-is}
-use Rattle.model.proofs.Judged.{facts}
-use Rattle.model.proofs.Signed.{nextℤ, above0, below0, demand-parts, demand-range}
-use Rattle.model.proofs.Step.{need, Step, pebblesIn-other, pebblesIn-node}
-use Rattle.model.proofs.Choice.{Neediest, neediest-is, neediest-none, neediest-other}
+use Rattle.laws.proofs.Basics.{below-none}
+use Rattle.laws.proofs.Trees.{Child, child-is}
+use Rattle.laws.proofs.Judged.{facts}
+use Rattle.laws.proofs.Signed.{nextℤ, above0, below0, demand-parts, demand-range}
+use Rattle.laws.proofs.Step.{need, Step, pebblesIn-other, pebblesIn-node}
+use Rattle.laws.proofs.Choice.{Neediest, neediest-is, neediest-none, neediest-other}
 use Rattle.serve.specs.Serving.{isChildFrom, Lowest, LastServed, lastAt, Describes, Sees, beyond, NextBeyond}
 use Rattle.serve.proofs.Numbers.{small-back}
 use Rattle.serve.proofs.Siblings.{none-from, none-between, child-from, next-is}

@@ -16,12 +16,12 @@ use Rattle.model.specs.Yard.{Yard, size, one, parent, pebble, demand}
 use Rattle.model.specs.Push.{Move, push, moved, after, run}
 use Rattle.model.specs.Calls.Answers.{overwrite}
 use Rattle.model.specs.Calls.Plans.{bytes}
-use Rattle.model.proofs.Judged.{facts, wood}
-use Rattle.model.proofs.Step.{need, Step, legal-step, ends, moved-pebble}
-use Rattle.model.proofs.Runs.{after-append, run-one}
-use Rattle.model.proofs.Signed.{nextℤ, demand-node, demand-other}
-use Rattle.model.proofs.Choice.{Neediest}
-use Rattle.model.proofs.Calls.{length-bytes}
+use Rattle.laws.proofs.Judged.{facts, wood}
+use Rattle.laws.proofs.Step.{need, Step, legal-step, ends, moved-pebble}
+use Rattle.laws.proofs.Runs.{after-append, run-one}
+use Rattle.laws.proofs.Signed.{nextℤ, demand-node, demand-other}
+use Rattle.laws.proofs.Choice.{Neediest}
+use Rattle.laws.proofs.Calls.{length-bytes}
 use Rattle.serve.specs.Serving.{Last, lastAt, Kept, shiftedState, Made}
 use Rattle.serve.proofs.Looking.{last-here, last-there}
 use Rattle.serve.proofs.Picking.{last-place, last-other}

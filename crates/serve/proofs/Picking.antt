@@ -10,8 +10,8 @@ use lib.ListN.{length, getD, set, length-set}
 use lib.Seq.{getD-set-same, getD-set-other, set-getD, set-out}
 use lib.IntN.{ℤ, pos, negsuc, natAbs}
 use Rattle.model.specs.Yard.{up}
-use Rattle.model.proofs.Step.{crossing}
-use Rattle.model.proofs.Signed.{nextℤ}
+use Rattle.laws.proofs.Step.{crossing}
+use Rattle.laws.proofs.Signed.{nextℤ}
 use Rattle.serve.specs.Serving.{lastAt, stepped, shiftedState, pickedState}
 
 -- two entries set, and one set twice

@@ -15,14 +15,14 @@ use Rattle.model.specs.Yard.{Yard, size, up, pebble, capacity, full}
 use Rattle.model.specs.Judge.{Tree}
 use Rattle.model.specs.Push.{Move, push, after, run}
 use Rattle.model.specs.Plan.{choice}
-use Rattle.model.proofs.Trees.{Child}
-use Rattle.model.proofs.Judged.{facts, wood}
-use Rattle.model.proofs.Demands.{weight, weight-child}
-use Rattle.model.proofs.Step.{crossing, need}
-use Rattle.model.proofs.Shortest.{Good, good-nil, good-tree}
-use Rattle.model.proofs.Signed.{nextℤ}
-use Rattle.model.proofs.Choice.{Neediest, neediest-some, choice-sound}
-use Rattle.model.proofs.Serve.{Due, Shift, Serves, direct, behind, blocked, due-step, due-behind, able-behind, need-behind, free-able, blocked-child, serves-shift}
+use Rattle.laws.proofs.Trees.{Child}
+use Rattle.laws.proofs.Judged.{facts, wood}
+use Rattle.laws.proofs.Demands.{weight, weight-child}
+use Rattle.laws.proofs.Step.{crossing, need}
+use Rattle.laws.proofs.Shortest.{Good, good-nil, good-tree}
+use Rattle.laws.proofs.Signed.{nextℤ}
+use Rattle.laws.proofs.Choice.{Neediest, neediest-some, choice-sound}
+use Rattle.laws.proofs.Serve.{Due, Shift, Serves, direct, behind, blocked, due-step, due-behind, able-behind, need-behind, free-able, blocked-child, serves-shift}
 use Rattle.serve.specs.Serving.{Tables, Describes, lastAt, Sees, Halfway, Small, Room, stepped, pickedState, movedState, movedPlan, recorded, AskedStart, Picks, Chain, at-top, down, picked, Found, AskedMoves, Made, Served}
 use Rattle.serve.proofs.Looking.{tree-small}
 use Rattle.serve.proofs.Picking.{last-place, last-other, step-undo, step-redo, step-step, step-near, count-pick, pick-reads, pick-pick, shift-steps}

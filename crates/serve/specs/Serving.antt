@@ -15,12 +15,12 @@ use Rattle.model.specs.Push.{Move, run}
 use Rattle.model.specs.Plan.{choice}
 use Rattle.model.specs.Calls.Answers.{overwrite}
 use Rattle.model.specs.Calls.Plans.{bytes}
-use Rattle.model.proofs.Trees.{Child}
-use Rattle.model.proofs.Demands.{weight}
-use Rattle.model.proofs.Step.{crossing, need}
-use Rattle.model.proofs.Signed.{nextℤ}
-use Rattle.model.proofs.Choice.{Neediest}
-use Rattle.model.proofs.Serve.{Due, Serves, blocked}
+use Rattle.laws.proofs.Trees.{Child}
+use Rattle.laws.proofs.Demands.{weight}
+use Rattle.laws.proofs.Step.{crossing, need}
+use Rattle.laws.proofs.Signed.{nextℤ}
+use Rattle.laws.proofs.Choice.{Neediest}
+use Rattle.laws.proofs.Serve.{Due, Serves, blocked}
 
 -- the children of u from number i on, rising; and the lowest of them, or u itself if there is none
 abbrev pub isChildFrom : List ℕ → ℕ → ℕ → ℕ → Bool

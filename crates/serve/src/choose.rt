@@ -6,8 +6,8 @@ ghost use lib.IntN.{pos, natAbs};
 ghost use Rattle.model.specs.Yard.{Yard, maxDemand};
 ghost use Rattle.model.specs.Given.{was, became};
 ghost use Rattle.model.specs.Plan.{choice};
-ghost use Rattle.model.proofs.Step.{need};
-ghost use Rattle.model.proofs.Signed.{nextℤ};
+ghost use Rattle.laws.proofs.Step.{need};
+ghost use Rattle.laws.proofs.Signed.{nextℤ};
 ghost use Rattle.serve.specs.Serving.{beyond, lastAt, Small, pickedState, Sees, Lowest, NextBeyond, AskedAfter, Picks};
 
 // A byte as a number.

@@ -8,7 +8,7 @@ ghost use lib.IntN.{ℤ};
 ghost use lib.Dec.{ltb};
 ghost use Rattle.model.specs.Yard.{Yard};
 ghost use Rattle.model.specs.Given.{was, became};
-ghost use Rattle.model.proofs.Serve.{blocked};
+ghost use Rattle.laws.proofs.Serve.{blocked};
 ghost use Rattle.serve.specs.Serving.{Small, Room, stepped, recorded, AskedStart, Found, AskedMoves, ServedAll};
 use crate::choose::nearer;
 use crate::choose::pick;

@@ -13,7 +13,7 @@ use Rattle.model.specs.Push.{Move}
 use Rattle.model.specs.Calls.Answers.{range}
 use Rattle.model.specs.Calls.Plans.{movesOf}
 use Rattle.model.specs.Sheets.{text, space, lineFeed, decimal, stopBefore, line, lines, header, nodeValues, yardSheet, moveLines, refusalSheet}
-use Rattle.model.proofs.Lines.{length-line}
+use Rattle.laws.proofs.Lines.{length-line}
 use Rattle.sheet.proofs.Decimals.{decimal-six}
 use Rattle.sheet.proofs.Writing.{drop-next}
 

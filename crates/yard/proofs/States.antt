@@ -15,8 +15,8 @@ use Rattle.model.specs.Yard as Y
 use Rattle.model.specs.Judge.{Fault, fault, lengthFault, rootFault, tests, judge, Tree}
 use Rattle.model.specs.Push.{Move, moveFault, pushFault, isNone, legal, shifted, pushedPebbles, pushed, after, run, accepted}
 use Rattle.model.specs.Calls.Checks.{movesFault}
-use Rattle.model.proofs.Judged.{facts}
-use Rattle.model.proofs.Calls.{Other, other-none, other-fault, other-unless, other-lowest, other-first, other-moves}
+use Rattle.laws.proofs.Judged.{facts}
+use Rattle.laws.proofs.Calls.{Other, other-none, other-fault, other-unless, other-lowest, other-first, other-moves}
 use Rattle.yard.specs.State.{padded, yardIn, stateOf, holding, stateAfter, stateAfterAll, answers, unrefused}
 use Rattle.yard.specs.declared.state.Yard.{Yard as State}
 

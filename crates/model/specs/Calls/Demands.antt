@@ -1,15 +1,13 @@
 -- The account call ('Accounts'), the figures bound and disturbed ('Checker, trial and three figures', requests 2.2 and 2.4), and the figure for n alone (request 2.2).
-use mathlib.Core.Path.{_≡_}
-use mathlib.Core.Logic.{_↔_}
 use mathlib.Core.Bool.{_&&_}
 use mathlib.Core.List.{List, [], _∷_, map}
 use mathlib.Core.Option.{Option}
-use Prim.Native.Nat.{ℕ, _*_, _/_, _<_}
+use Prim.Native.Nat.{ℕ, _*_, _/_}
 use lib.ListN.{length}
 use lib.Dec.{leb, ltb, eqb}
 use lib.IntN.{ℤ}
-use Rattle.model.specs.Yard.{Yard, size, maxSize, maxDepth, demand, Equation2}
-use Rattle.model.specs.Judge.{Fault, fault, firstOf, unless, judge, Tree, matchedFault}
+use Rattle.model.specs.Yard.{Yard, size, maxSize, maxDepth, demand}
+use Rattle.model.specs.Judge.{Fault, fault, firstOf, unless, judge, matchedFault}
 use Rattle.model.specs.Plan.{plan}
 use Rattle.model.specs.Follow.{displaced}
 use Rattle.model.specs.Calls.Answers.{Answer, answer, lent, range}
@@ -27,10 +25,6 @@ demandsOf y = map (demand y) (range 0 (size y))
 
 abbrev pub demandsList : Yard → List ℤ → List ℤ
 demandsList y list = lent (demandsFault y list) (demandsOf y) list
-
--- request 2.3: on a tree that is the only list of n numbers that meets equation 2 at every node, whatever the totals
-abbrev pub OnlyDemands : Yard → Type 0
-OnlyDemands y = Tree y → (ks : List ℤ) → length ks ≡ size y → ((v : ℕ) → v < size y → Equation2 y ks v) ↔ (ks ≡ demandsOf y)
 
 -- The figures: refusals 1 to 7. The bound (request 2.2) is how long the plan is: its moves, and the bytes that a list needs to hold it, two a move
 pub record Length : Type 0 where

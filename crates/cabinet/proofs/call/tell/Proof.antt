@@ -2,7 +2,7 @@
 use borrow.Author.Needs.{needs}
 use native.Mathlib.Omega.{arith}
 use Prim.Native.Nat.{_<_}
-use Rattle.model.proofs.Calls.{moves-half}
+use Rattle.laws.proofs.Calls.{moves-half}
 use Rattle.cabinet.proofs.Laws.{next-lt, told-none, told-next}
 use Rattle.cabinet.proofs.call.tell.Statement.{statement}
 use Rattle.cabinet.proofs.call.tell.Tie as tie

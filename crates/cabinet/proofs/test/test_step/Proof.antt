@@ -8,8 +8,8 @@ use borrow.Author.Tests.{ne-eqb, eq-eqb}
 use Rattle.model.specs.Yard.{Yard, yardOf}
 use Rattle.model.specs.Judge.{Fault, Tree}
 use Rattle.model.specs.Calls.Registers.{wholeMoves, registersOf, registerFault, taskFault, stepFault}
-use Rattle.model.proofs.Calls.{sees, moves-half}
-use Rattle.model.proofs.Basics.{single}
+use Rattle.laws.proofs.Calls.{sees, moves-half}
+use Rattle.laws.proofs.Basics.{single}
 use Rattle.cabinet.proofs.test.test_step.Statement.{statement}
 use Rattle.cabinet.proofs.test.test_step.Tie as tie
 

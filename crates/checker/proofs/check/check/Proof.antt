@@ -2,7 +2,7 @@
 -- go below 0.
 use native.Mathlib.Omega.{arith}
 use borrow.Author.Needs.{needs}
-use Rattle.model.proofs.Calls.{sees}
+use Rattle.laws.proofs.Calls.{sees}
 use Rattle.checker.proofs.Laws.{check-fit, check-long, check-answered}
 use Rattle.checker.proofs.check.check.Statement.{statement}
 use Rattle.checker.proofs.check.check.Tie as tie

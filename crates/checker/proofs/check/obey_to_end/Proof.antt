@@ -12,10 +12,10 @@ use Rattle.model.specs.Judge.{atLowest}
 use Rattle.model.specs.Push.{after, run}
 use Rattle.model.specs.Calls.Plans.{movesOf}
 use Rattle.model.specs.Calls.Checks.{movesFault}
-use Rattle.model.proofs.Found.{lowest-fault, lowest-none}
-use Rattle.model.proofs.Judged.{facts}
-use Rattle.model.proofs.Runs.{obeys, run-tree}
-use Rattle.model.proofs.Calls.{sees}
+use Rattle.laws.proofs.Found.{lowest-fault, lowest-none}
+use Rattle.laws.proofs.Judged.{facts}
+use Rattle.laws.proofs.Runs.{obeys, run-tree}
+use Rattle.laws.proofs.Calls.{sees}
 use Rattle.checker.proofs.Laws.{front-all, front-zeros, Back, came-back}
 use Rattle.checker.proofs.check.obey_to_end.Statement.{statement}
 use Rattle.checker.proofs.check.obey_to_end.Tie as tie

@@ -10,8 +10,8 @@ use lib.ListN.{length, getD, length-set, getD-replicate}
 use lib.Dec.{eqb}
 use borrow.Author.Tests.{eq-eqb, ne-eqb}
 use Rattle.model.specs.Yard.{up, one, sum}
-use Rattle.model.proofs.Basics.{one-le, eqb-sym}
-use Rattle.model.proofs.Sums.{sum-le, sum-add, sum-cong}
+use Rattle.laws.proofs.Basics.{one-le, eqb-sym}
+use Rattle.laws.proofs.Sums.{sum-le, sum-add, sum-cong}
 use Rattle.demand.proofs.Lists.{stored}
 use Rattle.demand.proofs.fill.count_children.Statement.{statement}
 use Rattle.demand.proofs.fill.count_children.Tie as tie

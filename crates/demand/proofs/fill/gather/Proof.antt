@@ -10,7 +10,7 @@ use mir.Syntax.{w16}
 use mir.Val.{toZ, ofZ}
 use mir.ValLaws.{toZ-ofZ}
 use Rattle.model.specs.Yard.{Yard, yardOf, size, parent}
-use Rattle.model.proofs.Judged.{flat, shape-wood}
+use Rattle.laws.proofs.Judged.{flat, shape-wood}
 use Rattle.demand.proofs.Numbers.{small-fits}
 use Rattle.demand.proofs.Partial.{waiting, overWaiting, Partial, Ready, small, starts, all-wait, parent-lt, parent-waits, waits, above-waits, fewer, joined-small, adds, only, left-wood, left-meets, root-left}
 use Rattle.demand.proofs.fill.gather.Statement.{statement}

@@ -10,10 +10,10 @@ use lib.Seq.{length-take-le}
 use Rattle.model.specs.Yard.{Yard, yardOf}
 use Rattle.model.specs.Judge.{Fault, firstOf, listTests, judge, Tree}
 use Rattle.model.specs.Calls.Demands.{demandsOf}
-use Rattle.model.proofs.Tests.{judge-lists, judge-shape}
-use Rattle.model.proofs.Judged.{Flat, flat}
-use Rattle.model.proofs.Calls.{sees}
-use Rattle.model.proofs.Equation2.{only-demands}
+use Rattle.laws.proofs.Tests.{judge-lists, judge-shape}
+use Rattle.laws.proofs.Judged.{Flat, flat}
+use Rattle.laws.proofs.Calls.{sees}
+use Rattle.laws.proofs.Equation2.{only-demands}
 use Rattle.demand.proofs.Answers.{demands-front}
 use Rattle.demand.specs.Filling.{Told}
 use Rattle.demand.proofs.matched.tree_demands.Statement.{statement}

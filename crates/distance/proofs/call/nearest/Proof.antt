@@ -4,8 +4,8 @@ use native.Mathlib.Omega.{arith}
 use mathlib.Core.Path.{refl, sym, _∙_}
 use Rattle.model.specs.Yard.{Yard, yardOf}
 use Rattle.model.specs.Judge.{Tree}
-use Rattle.model.proofs.Calls.{sees}
-use Rattle.model.proofs.Nearest.{nearest-judge, nearest-node}
+use Rattle.laws.proofs.Calls.{sees}
+use Rattle.laws.proofs.Nearest.{nearest-judge, nearest-node}
 use Rattle.distance.specs.Far.{Asked}
 use Rattle.distance.proofs.Pebbles.{blank, nearest-rest}
 use Rattle.distance.proofs.call.nearest.Statement.{statement}

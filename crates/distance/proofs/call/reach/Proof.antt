@@ -5,8 +5,8 @@ use mathlib.Core.Path.{refl, ap}
 use Rattle.model.specs.Yard.{Yard, yardOf}
 use Rattle.model.specs.Judge.{Tree}
 use Rattle.model.specs.Calls.Answers.{answered}
-use Rattle.model.proofs.Calls.{sees}
-use Rattle.model.proofs.Nearest.{reach-judge, reach-length, reach-node, reach-accepted}
+use Rattle.laws.proofs.Calls.{sees}
+use Rattle.laws.proofs.Nearest.{reach-judge, reach-length, reach-node, reach-accepted}
 use Rattle.distance.specs.Far.{Asked}
 use Rattle.distance.proofs.Pebbles.{blank}
 use Rattle.distance.proofs.call.reach.Statement.{statement}

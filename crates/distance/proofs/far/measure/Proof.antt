@@ -7,7 +7,7 @@ use mathlib.Core.List.{List, []}
 use Prim.Native.Nat.{ℕ}
 use lib.ListN.{length, take, drop, List·getD-append}
 use lib.Seq.{getD-take, length-take-le}
-use Rattle.model.proofs.Judged.{shape-wood}
+use Rattle.laws.proofs.Judged.{shape-wood}
 use Rattle.distance.specs.Far.{Unknown}
 use Rattle.distance.proofs.Marking.{as-long}
 use Rattle.distance.proofs.far.measure.Statement.{statement}

@@ -7,7 +7,7 @@ use native.Mathlib.Omega.{arith}
 use lib.ListN.{length}
 use borrow.Author.Needs.{needs}
 use Rattle.model.specs.Yard.{one}
-use Rattle.model.proofs.Found.{found, missed, none-next}
+use Rattle.laws.proofs.Found.{found, missed, none-next}
 use Rattle.distance.specs.Far.{isWithin}
 use Rattle.distance.proofs.look.first_within.Statement.{statement}
 use Rattle.distance.proofs.look.first_within.Tie as tie

@@ -10,7 +10,7 @@ use borrow.Author.Needs.{needs}
 use Rattle.model.specs.Yard.{Yard, size, one}
 use Rattle.model.specs.Calls.Answers.{range}
 use Rattle.model.specs.Calls.Distances.{inReach, reachCount}
-use Rattle.model.proofs.Basics.{one-le}
+use Rattle.laws.proofs.Basics.{one-le}
 use Rattle.distance.specs.Far.{Asked}
 use Rattle.distance.proofs.Pebbles.{as-many, Reached, reach-none, reach-next, reach-all}
 use Rattle.distance.proofs.look.reach_into.Statement.{statement}

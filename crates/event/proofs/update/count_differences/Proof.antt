@@ -6,8 +6,8 @@ use native.Mathlib.Omega.{arith}
 use native.Mathlib.Numerals.{add-one}
 use lib.ListN.{length}
 use Rattle.model.specs.Yard.{one, sum, entry}
-use Rattle.model.proofs.Basics.{one-le}
-use Rattle.model.proofs.Sums.{sum-le}
+use Rattle.laws.proofs.Basics.{one-le}
+use Rattle.laws.proofs.Sums.{sum-le}
 use Rattle.event.specs.Change.{differAt}
 use Rattle.event.proofs.Steps.{same-bits, other-bits}
 use Rattle.event.proofs.update.count_differences.Statement.{statement}

@@ -5,8 +5,8 @@ use Prim.Native.Nat.{ℕ, _≤_, _<_, _-_}
 use native.Mathlib.Omega.{arith}
 use lib.ListN.{length}
 use Rattle.model.specs.Yard.{one, sum, entry}
-use Rattle.model.proofs.Sums.{sum-term}
-use Rattle.model.proofs.Found.{found, missed, none-next}
+use Rattle.laws.proofs.Sums.{sum-term}
+use Rattle.laws.proofs.Found.{found, missed, none-next}
 use Rattle.event.specs.Change.{differAt}
 use Rattle.event.proofs.Steps.{one-false, same-bits, other-bits}
 use Rattle.event.proofs.update.first_difference.Statement.{statement}

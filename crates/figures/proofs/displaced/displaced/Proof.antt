@@ -9,8 +9,8 @@ use Rattle.model.specs.Yard.{Yard, yardOf, size}
 use Rattle.model.specs.Judge.{Tree, matchedFault}
 use Rattle.model.specs.Calls.Answers.{answered}
 use Rattle.model.specs.Calls.Demands.{demandsOf}
-use Rattle.model.proofs.Judged.{facts}
-use Rattle.model.proofs.Calls.{sees, matched-tree}
+use Rattle.laws.proofs.Judged.{facts}
+use Rattle.laws.proofs.Calls.{sees, matched-tree}
 use Rattle.demand.proofs.Answers.{demands-small}
 use Rattle.figures.proofs.Leaving.{moving-displaced}
 use Rattle.figures.proofs.displaced.displaced.Statement.{statement}

@@ -2,7 +2,7 @@
 use borrow.Author.Needs.{needs}
 use mathlib.Core.Path.{ap, _∙_}
 use Rattle.model.specs.Calls.Answers.{zeroInC}
-use Rattle.model.proofs.Places.{check-small}
+use Rattle.laws.proofs.Places.{check-small}
 use Rattle.javendriky.proofs.checks.javendriky_check.Statement.{statement}
 use Rattle.javendriky.proofs.checks.javendriky_check.Tie as tie
 

@@ -2,7 +2,7 @@
 use borrow.Author.Needs.{needs}
 use mathlib.Core.Path.{ap, _∙_}
 use Rattle.model.specs.Calls.Registers.{lineInC}
-use Rattle.model.proofs.Blocks.{step-small}
+use Rattle.laws.proofs.Blocks.{step-small}
 use Rattle.javendriky.proofs.steps.javendriky_step.Statement.{statement}
 use Rattle.javendriky.proofs.steps.javendriky_step.Tie as tie
 

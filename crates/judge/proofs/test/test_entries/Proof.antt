@@ -1,7 +1,7 @@
 -- `judge::test::test_entries` meets its contract: each search answers the lowest node that the next test refuses, or the number of nodes.
 use mathlib.Core.Path.{sym, _∙_}
 use borrow.Author.Needs.{needs}
-use Rattle.model.proofs.Tests.{depth-unfit, pebbles-over, targets-over, parent-outside, entries-pass}
+use Rattle.laws.proofs.Tests.{depth-unfit, pebbles-over, targets-over, parent-outside, entries-pass}
 use Rattle.judge.proofs.test.test_entries.Statement.{statement}
 use Rattle.judge.proofs.test.test_entries.Tie as tie
 

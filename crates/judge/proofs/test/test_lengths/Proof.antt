@@ -1,6 +1,6 @@
 -- `judge::test::test_lengths` meets its contract: at each return the tests so far are passed, and the next refuses or all are.
 use native.Mathlib.Omega.{arith}
-use Rattle.model.proofs.Tests.{size-zero, size-large, pebbles-length, targets-length, depths-length, lengths-pass}
+use Rattle.laws.proofs.Tests.{size-zero, size-large, pebbles-length, targets-length, depths-length, lengths-pass}
 use Rattle.judge.proofs.test.test_lengths.Statement.{statement}
 use Rattle.judge.proofs.test.test_lengths.Tie as tie
 

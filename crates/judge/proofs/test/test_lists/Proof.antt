@@ -3,7 +3,7 @@ use mathlib.Core.Path.{sym, ap, _∙_}
 use borrow.Author.Needs.{needs}
 use Rattle.model.specs.Yard.{Yard, yardOf}
 use Rattle.model.specs.Paper.{paperDone}
-use Rattle.model.proofs.Tests.{passed-lengths, lists-lengths, lists-entries}
+use Rattle.laws.proofs.Tests.{passed-lengths, lists-lengths, lists-entries}
 use Rattle.judge.proofs.test.test_lists.Statement.{statement}
 use Rattle.judge.proofs.test.test_lists.Tie as tie
 

@@ -2,7 +2,7 @@
 -- number of nodes.
 use native.Mathlib.Omega.{arith}
 use borrow.Author.Needs.{needs}
-use Rattle.model.proofs.Tests.{no-root, second-root, on-circle, shape-pass}
+use Rattle.laws.proofs.Tests.{no-root, second-root, on-circle, shape-pass}
 use Rattle.judge.proofs.test.test_shape.Statement.{statement}
 use Rattle.judge.proofs.test.test_shape.Tie as tie
 

@@ -3,8 +3,8 @@ use mathlib.Core.Path.{sym, ap, _∙_}
 use borrow.Author.Needs.{needs}
 use Rattle.model.specs.Yard.{Yard, yardOf}
 use Rattle.model.specs.Paper.{paperDone}
-use Rattle.model.proofs.Judged.{flat}
-use Rattle.model.proofs.Tests.{judge-lists, judge-shape}
+use Rattle.laws.proofs.Judged.{flat}
+use Rattle.laws.proofs.Tests.{judge-lists, judge-shape}
 use Rattle.judge.proofs.test.test_yard.Statement.{statement}
 use Rattle.judge.proofs.test.test_yard.Tie as tie
 

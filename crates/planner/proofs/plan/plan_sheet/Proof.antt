@@ -7,8 +7,8 @@ use native.Mathlib.Omega.{arith}
 use lib.ListN.{length}
 use Rattle.model.specs.Yard.{Yard, yardOf, root, shortest, Matched}
 use Rattle.model.specs.Judge.{Tree, matchedFault}
-use Rattle.model.proofs.Judged.{facts, wood}
-use Rattle.model.proofs.Calls.{sees, matched-tree, plan-matched}
+use Rattle.laws.proofs.Judged.{facts, wood}
+use Rattle.laws.proofs.Calls.{sees, matched-tree, plan-matched}
 use Rattle.lists.proofs.Root.{root-found}
 use Rattle.serve.specs.Serving.{Kept}
 use Rattle.planner.proofs.Planning.{placed-kept, front-length, front-long, sizes-range, sizes-shortest, plan-refused, root-asked, plan-accepted, plan-written}

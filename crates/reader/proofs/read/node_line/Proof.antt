@@ -6,7 +6,7 @@ use lib.ListN.{drop}
 use borrow.Author.Needs.{needs}
 use Rattle.model.specs.Sheets as Sheets
 use Rattle.model.specs.Sheets.{stopBefore, lineValues}
-use Rattle.model.proofs.Lines.{stop-low}
+use Rattle.laws.proofs.Lines.{stop-low}
 use Rattle.reader.specs.Reading.{wordIn}
 use Rattle.reader.proofs.ReadLines.{LineSoFar, line-none, line-wrong, line-more, line-whole}
 use Rattle.reader.proofs.read.node_line.Statement.{statement}

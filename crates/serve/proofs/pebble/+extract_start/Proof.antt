@@ -9,7 +9,7 @@ use mir.Val.{ofZ}
 use borrow.Fn.Kinds.{In}
 use borrow.Fn.PlainCycle.{Measures, is, falls, and}
 use Rattle.model.specs.Yard.{Yard}
-use Rattle.model.proofs.Serve.{blocked}
+use Rattle.laws.proofs.Serve.{blocked}
 use Rattle.serve.specs.Serving.{AskedStart}
 use Rattle.serve.proofs.Serving.{half-small, half-sees, held-free, empty-blocked, high-enough, chosen-picked, chosen-asked, start-here, start-below}
 use Rattle.serve.proofs.pebble.extract_start.Reads as extract-start
