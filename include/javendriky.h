@@ -22,7 +22,7 @@
  * call writes overlaps no other list of that call. A list passed as const is only read. No call keeps a pointer, asks for memory, or has a state of
  * its own, so calls on different lists may run at the same time.
  *
- * Stack. No call needs more than 28 KiB of stack, which javendriky_plan takes on a line of 256 nodes; every other call needs at most 6 KiB (measured with the
+ * Stack. No call needs more than 28 KiB of stack, which javendriky_plan and javendriky_plan_parts take on a line of 256 nodes; every other call needs at most 6 KiB (measured with the
  * library that `rt staticlib` builds for x86-64).
  *
  * Numbers. A call with a further value writes it through a pointer to one uint32_t, which is never NULL and overlaps no list of the call. A refused call
@@ -45,7 +45,7 @@ extern "C" {
 
 /* The version of these calls, which the library answers too. It is raised whenever a call is added, or gets further arguments or another
  * meaning under the same name, which requests to come will do: a program built with another header would still link. So compare the two once, before any other call. */
-#define JAVENDRIKY_VERSION 9
+#define JAVENDRIKY_VERSION 10
 
 /* The most nodes that a yard can have. */
 #define JAVENDRIKY_MAX_NODES 256
@@ -176,6 +176,20 @@ uint32_t javendriky_plan(const uint8_t *parents, size_t parents_len,
                          const uint8_t *targets, size_t targets_len,
                          const uint8_t *depths, size_t depths_len,
                          uint8_t *plan, size_t plan_len);
+
+/* Plan in parts: the edges whose demand is 0 are cut, and each part that the tree falls into is planned as a yard of its own, under the same node numbers. No part
+ * disturbs another: two pushers can work at different parts at the same time. A part is named by its topmost node.
+ * Answers the number of moves m of all parts, as many as javendriky_plan answers. Writes their plans, in rising number of the topmost nodes and each directly behind
+ * the one before, into the first 2 * m bytes of `plan`, and leaves the bytes behind them; into `parts`, which has exactly n entries, for each node the topmost node of
+ * its part. A move's two nodes are in one part. In whichever way the parts' plans are mingled, if only each is kept in its order, the moves are a shortest plan
+ * (proved, as two-pushers in crates/laws/proofs).
+ * Refused with a yard's refusals, then 7, then 2 if `parts` has not exactly n entries, then 8 with m as place if `plan` has fewer than 2 * m bytes. */
+uint32_t javendriky_plan_parts(const uint8_t *parents, size_t parents_len,
+                               const uint8_t *pebbles, size_t pebbles_len,
+                               const uint8_t *targets, size_t targets_len,
+                               const uint8_t *depths, size_t depths_len,
+                               uint8_t *plan, size_t plan_len,
+                               uint8_t *parts, size_t parts_len);
 
 /* Test: whether the four lists are a yard. Writes nothing.
  * Answers 0, or is refused with a yard's refusals. The totals of pebbles and targets are not compared. */

@@ -1,5 +1,5 @@
-//! Test, bound, displaced, events, nearest, reach, planner, checker, trial and the cabinet's step once more, written for speed: no list is asked for from the
-//! heap, each child names its next sibling, and each node keeps whose turn it is among its children. The benchmark sets the library beside these.
+//! Test, bound, displaced, events, nearest, reach, planner, plans of parts, checker, trial and the cabinet's step once more, written for speed: no list is asked
+//! for from the heap, each child names its next sibling, and each node keeps whose turn it is among its children. The benchmark sets the library beside these.
 
 use crate::cabinet::{command, flag, status, BLOCK_BYTES};
 use crate::checker::{Tried, MAX_PLAN_BYTES};
@@ -129,6 +129,35 @@ pub fn plan_with_scans(parents: &[u8], pebbles: &[u8], targets: &[u8], depths: &
 /// The same, but Algorithms 2 and 3 do not call themselves: the way down is kept in a list, and its moves are written from the end.
 pub fn plan_by_ways(parents: &[u8], pebbles: &[u8], targets: &[u8], depths: &[u8], list: &mut [u8]) -> Answer<u32> {
     plan_by::<Siblings, true, true>(parents, pebbles, targets, depths, list)
+}
+
+/// The refusals of a yard, 7, 2 for the list of parts, and 8; the plans of the parts go to the front of the list one behind another, the topmost nodes into the
+/// list of parts, and all moves are answered.
+///
+/// A node is the topmost of its part exactly if its demand is 0. Balanced without the children whose demand is 0, it is planned for with its part alone.
+pub fn plan_parts(parents: &[u8], pebbles: &[u8], targets: &[u8], depths: &[u8], list: &mut [u8], parts: &mut [u8]) -> Answer<u32> {
+    let (mut upwards, mut below_root) = ([0; MAX_NODES], 0u8);
+    let (demand, root) = demands_with(parents, pebbles, targets, depths, |node, _, _| {
+        upwards[usize::from(below_root)] = node as u8;
+        below_root += 1;
+    })?;
+    let n = parents.len();
+    if parts.len() != n {
+        return refuse(2, 0);
+    }
+    let moves = room_for(&demand, list)?;
+    // Backwards, so that each node comes after its parent.
+    let (parent_of, mut topmost) = (copy(parents), [root as u8; MAX_NODES]);
+    for &node in upwards[..usize::from(below_root)].iter().rev() {
+        let at = usize::from(node);
+        topmost[at] = if demand[at] == 0 { node } else { topmost[usize::from(parent_of[at])] };
+    }
+    parts.copy_from_slice(&topmost[..n]);
+    let mut state = State::<Siblings, true, false>::of(parents, pebbles, depths, &demand, root, list);
+    for top in (0..n).filter(|&node| demand[node] == 0) {
+        state.balance::<true>(top as u8);
+    }
+    Ok(moves)
 }
 
 /// The refusals of a yard, 7, 9, 10 to 13 for each move, 14.
@@ -464,30 +493,18 @@ fn plan_by<C: Children, const TURNS: bool, const WAYS: bool>(
     depths: &[u8],
     list: &mut [u8],
 ) -> Answer<u32> {
-    let (of_node, root) = demands(parents, pebbles, targets, depths)?;
-    let moves = sizes(&of_node);
+    let (demand, root) = demands(parents, pebbles, targets, depths)?;
+    let moves = room_for(&demand, list)?;
+    State::<C, TURNS, WAYS>::of(parents, pebbles, depths, &demand, root, list).balance::<false>(root as u8);
+    Ok(moves)
+}
+
+/// The moves of the plan, or refusal 8 where a list does not hold them.
+fn room_for(demand: &[i16], list: &[u8]) -> Answer<u32> {
+    let moves = sizes(demand);
     if list.len() < 2 * moves as usize {
         return refuse(8, moves as usize);
     }
-    let mut demand = [0; MAX_NODES];
-    let mut positive = [Turn::default(); MAX_NODES];
-    let mut negative = [Turn::default(); MAX_NODES];
-    let children = C::of(parents, root, |node, place| {
-        demand[usize::from(place)] = of_node[node];
-        let parent = usize::from(parents[node]);
-        positive[parent].size = positive[parent].size.max(of_node[node]);
-        negative[parent].size = negative[parent].size.max(-of_node[node]);
-    });
-    if TURNS {
-        for node in 0..parents.len() {
-            let place = children.begin(node as u8);
-            positive[node].place = place;
-            negative[node].place = place;
-        }
-    }
-    let (pebbles, depths) = (copy(pebbles), copy(depths));
-    let mut state = State::<C, TURNS, WAYS> { children, demand, positive, negative, pebbles, depths, way: [0; MAX_NODES], list, written: 0 };
-    state.balance(root as u8);
     Ok(moves)
 }
 
@@ -628,9 +645,32 @@ struct State<'a, C, const TURNS: bool, const WAYS: bool> {
 const POSITIVE: i16 = 1;
 const NEGATIVE: i16 = -1;
 
-impl<C: Children, const TURNS: bool, const WAYS: bool> State<'_, C, TURNS, WAYS> {
-    /// Algorithm 1. The demand of u is 0, so if it holds none, no child lacks pebbles unless another has too many.
-    fn balance(&mut self, u: u8) {
+impl<'a, C: Children, const TURNS: bool, const WAYS: bool> State<'a, C, TURNS, WAYS> {
+    /// A tree with the demands of its nodes, and a list that has room, before the first move.
+    #[inline(always)]
+    fn of(parents: &[u8], pebbles: &[u8], depths: &[u8], of_node: &[i16; MAX_NODES], root: usize, list: &'a mut [u8]) -> Self {
+        let mut demand = [0; MAX_NODES];
+        let mut positive = [Turn::default(); MAX_NODES];
+        let mut negative = [Turn::default(); MAX_NODES];
+        let children = C::of(parents, root, |node, place| {
+            demand[usize::from(place)] = of_node[node];
+            let parent = usize::from(parents[node]);
+            positive[parent].size = positive[parent].size.max(of_node[node]);
+            negative[parent].size = negative[parent].size.max(-of_node[node]);
+        });
+        if TURNS {
+            for node in 0..parents.len() {
+                let place = children.begin(node as u8);
+                positive[node].place = place;
+                negative[node].place = place;
+            }
+        }
+        State { children, demand, positive, negative, pebbles: copy(pebbles), depths: copy(depths), way: [0; MAX_NODES], list, written: 0 }
+    }
+
+    /// Algorithm 1. The demand of u is 0, so if it holds none, no child lacks pebbles unless another has too many. Of a part, the children whose demand was 0 at
+    /// the start are left to theirs; this asks for turns.
+    fn balance<const PART: bool>(&mut self, u: u8) {
         loop {
             if self.pebbles[usize::from(u)] > 0 {
                 if let Some(v) = self.pick::<POSITIVE>(u) {
@@ -642,8 +682,8 @@ impl<C: Children, const TURNS: bool, const WAYS: bool> State<'_, C, TURNS, WAYS>
             self.extract(v, u);
         }
         let mut from = self.children.begin(u);
-        while let Some(place) = self.children.find(u, from, |_| true) {
-            self.balance(self.children.child(place));
+        while let Some(place) = self.children.find(u, from, |place| !PART || self.demand[usize::from(place)] != 0) {
+            self.balance::<PART>(self.children.child(place));
             from = self.children.after(place);
         }
     }

@@ -17,6 +17,7 @@ pub mod follow;
 #[cfg(feature = "library")]
 #[rustfmt::skip]
 pub mod library;
+pub mod parts;
 pub mod planner;
 pub mod random;
 pub mod report;

@@ -1,5 +1,6 @@
 //! Trees of many shapes, their roots and numbers anywhere, with pebbles and targets.
 
+use crate::parts::grouped;
 use crate::random::Random;
 use crate::yard::{judge, total, Yard, MAX_DEPTH};
 
@@ -72,6 +73,13 @@ fn renamed(parents: &[usize], counts: [&[u8]; 3], names: &[usize]) -> Yard {
     Yard { parents: moved(&named), pebbles, targets, depths }
 }
 
+/// The same yard with its numbers anywhere.
+fn numbered_anyhow(parents: &[usize], counts: [&[u8]; 3], random: &mut Random) -> Yard {
+    let mut names: Vec<usize> = (0..parents.len()).collect();
+    random.shuffle(&mut names);
+    renamed(parents, counts, &names)
+}
+
 /// Counts from places that are taken or not, all those of a node side by side.
 fn counted(depths: &[u8], mut places: &[u8]) -> Vec<u8> {
     let count = |&depth: &u8| {
@@ -121,6 +129,32 @@ fn pebbles_and_targets(depths: &[u8], random: &mut Random) -> (Vec<u8>, Vec<u8>)
     }
 }
 
+/// Pebbles and targets for a tree whose edges above some nodes are cut: each part gets as many of the one as of the other, so that the demand of these nodes is 0.
+/// `own` places those of a part, by the depths of its nodes in rising number.
+fn part_by_part(
+    parents: &[usize],
+    depths: &[u8],
+    cut: impl Fn(usize) -> bool,
+    mut own: impl FnMut(&[u8]) -> (Vec<u8>, Vec<u8>),
+) -> (Vec<u8>, Vec<u8>) {
+    let climb = |node: usize| {
+        let mut at = node;
+        while !cut(at) && parents[at] != at {
+            at = parents[at];
+        }
+        at
+    };
+    let n = parents.len();
+    let (mut pebbles, mut targets) = (vec![0; n], vec![0; n]);
+    for (_, nodes) in grouped(&Vec::from_iter((0..n).map(climb))) {
+        let (held, wanted) = own(&Vec::from_iter(nodes.iter().map(|&node| depths[node])));
+        for (&node, (held, wanted)) in nodes.iter().zip(held.into_iter().zip(wanted)) {
+            (pebbles[node], targets[node]) = (held, wanted);
+        }
+    }
+    (pebbles, targets)
+}
+
 /// A tree of the shape with n nodes of depth 1, as many pebbles as targets, root and numbers anywhere.
 pub fn yard(shape: Shape, n: usize, random: &mut Random) -> Yard {
     with_depths(shape, &vec![1; n], random)
@@ -146,9 +180,16 @@ pub fn with_depths(shape: Shape, depths: &[u8], random: &mut Random) -> Yard {
     let parents = shape.parents(n, random);
     let (pebbles, targets) = pebbles_and_targets(depths, random);
     let parents = rooted(parents, random.below(n));
-    let mut names: Vec<usize> = (0..n).collect();
-    random.shuffle(&mut names);
-    renamed(&parents, [&pebbles, &targets, depths], &names)
+    numbered_anyhow(&parents, [&pebbles, &targets, depths], random)
+}
+
+/// The same in parts: one edge in so many on average has the demand 0, with 1 all of them, and others may have it by chance.
+pub fn parted(shape: Shape, depths: &[u8], times: usize, random: &mut Random) -> Yard {
+    let n = depths.len();
+    let parents = rooted(shape.parents(n, random), random.below(n));
+    let cut: Vec<bool> = (0..n).map(|_| random.once_in(times)).collect();
+    let (pebbles, targets) = part_by_part(&parents, depths, |node| cut[node], |depths| pebbles_and_targets(depths, random));
+    numbered_anyhow(&parents, [&pebbles, &targets, depths], random)
 }
 
 /// The depths of n nodes, up to a greatest: any, all the same, or a few that are not 1.
@@ -165,10 +206,19 @@ pub fn depths(n: usize, most: u8, random: &mut Random) -> Vec<u8> {
 /// The tree of the shape with root 0 and parents first, all nodes of this depth, the first half of them full, the last to be filled: for a line of depth 1
 /// this is yard I of document 01.
 pub fn far(shape: Shape, n: usize, depth: u8, random: &mut Random) -> Yard {
+    far_parts(shape, n, depth, n, random)
+}
+
+/// The same in parts: the edge above each node whose number is a multiple of `every` is cut, and the first half of each part is full, its last to be filled.
+pub fn far_parts(shape: Shape, n: usize, depth: u8, every: usize, random: &mut Random) -> Yard {
     let parents = shape.parents(n, random);
     let depths = vec![depth; n];
-    let half = usize::from(depth) * (n / 2);
-    renamed(&parents, [&first(&depths, half), &last(&depths, half), &depths], &Vec::from_iter(0..n))
+    let own = |depths: &[u8]| {
+        let half = usize::from(depth) * (depths.len() / 2);
+        (first(depths, half), last(depths, half))
+    };
+    let (pebbles, targets) = part_by_part(&parents, &depths, |node| node.is_multiple_of(every), own);
+    renamed(&parents, [&pebbles, &targets, &depths], &Vec::from_iter(0..n))
 }
 
 /// A number of nodes from `low` to `high`, small ones as likely as large ones.

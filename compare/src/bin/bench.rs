@@ -9,7 +9,7 @@ use unrelated::distance::{self, Nearest};
 use unrelated::event::{way, Event, Kept};
 use unrelated::figures::Length;
 use unrelated::random::Random;
-use unrelated::shapes::{far, Shape};
+use unrelated::shapes::{far, far_parts, Shape};
 use unrelated::yard::{having, Answer, Yard, MAX_DEPTH};
 use unrelated::{fast, library, planner};
 
@@ -75,6 +75,23 @@ fn plans(yard: &Yard, plain: Planner) -> Option<(Vec<u8>, Times)> {
     let plan = list[..2 * answer.ok()? as usize].to_vec();
     let times = measure(|| call(library::plan, &mut list), || call(plain, &mut plain_list));
     Some((plan, times))
+}
+
+/// The moves of the plans of the parts and the times, or nothing if they differ.
+fn parts(yard: &Yard) -> Option<(usize, Times)> {
+    let Yard { parents, pebbles, targets, depths } = yard;
+    type Call = fn(&[u8], &[u8], &[u8], &[u8], &mut [u8], &mut [u8]) -> Answer<u32>;
+    let call = |call: Call, list: &mut [u8], parts: &mut [u8]| {
+        call(black_box(parents), black_box(pebbles), black_box(targets), black_box(depths), black_box(list), black_box(parts))
+    };
+    let (mut list, mut plain_list) = (vec![0; MAX_PLAN_BYTES], vec![0; MAX_PLAN_BYTES]);
+    let (mut parts, mut plain_parts) = (vec![0; yard.nodes()], vec![0; yard.nodes()]);
+    let answer = call(library::plan_parts, &mut list, &mut parts);
+    if answer != call(fast::plan_parts, &mut plain_list, &mut plain_parts) || list != plain_list || parts != plain_parts {
+        return None;
+    }
+    let times = measure(|| call(library::plan_parts, &mut list, &mut parts), || call(fast::plan_parts, &mut plain_list, &mut plain_parts));
+    Some((answer.ok()? as usize, times))
 }
 
 fn checks(yard: &Yard, plan: &[u8]) -> Option<Times> {
@@ -236,14 +253,21 @@ fn yard(shape: Shape, n: usize, depth: u8) -> Yard {
     far(shape, n, depth, &mut Random::new(n as u64))
 }
 
+/// The same trees in many parts: the edge above every eighth node is cut, and the first half of each part is full, the other to be filled.
+fn yard_in_parts(shape: Shape, n: usize, depth: u8) -> Yard {
+    far_parts(shape, n, depth, 8, &mut Random::new(n as u64))
+}
+
 /// Every call on 256 nodes of one depth. The highest ratio, or nothing if answers differ.
 fn all_calls(depth: u8) -> Option<f64> {
     let mut highest = 0.0;
     for shape in Shape::ALL {
         let yard = yard(shape, 256, depth);
         let (plan, planned) = plans(&yard, fast::plan)?;
+        let (in_parts, planned_in_parts) = parts(&yard_in_parts(shape, 256, depth))?;
         let rows = [
             ("plan", planned),
+            ("plan_parts", parts(&yard)?.1),
             ("check", checks(&yard, &plan)?),
             ("trial", trials(&yard, &plan)?),
             ("bound", figures(&yard, bound, fast::length_bound)?),
@@ -254,9 +278,10 @@ fn all_calls(depth: u8) -> Option<f64> {
             ("step", steps(&yard, &plan)?),
             ("test_yard", figures(&yard, library::test_yard, fast::test_yard)?),
         ];
-        for (call, times) in rows {
+        let rows = rows.into_iter().map(|(call, times)| (call, plan.len() / 2, times)).chain([("many parts", in_parts, planned_in_parts)]);
+        for (call, moves, times) in rows {
             let (library, plain, ratio) = (times.library / 1e3, times.plain / 1e3, times.ratio());
-            println!("{:<13}{depth:>5}  {call:<10}{:>7}{library:>12.2}{plain:>12.2}{ratio:>8.2}", shape.name(), plan.len() / 2);
+            println!("{:<13}{depth:>5}  {call:<10}{moves:>7}{library:>12.2}{plain:>12.2}{ratio:>8.2}", shape.name());
             highest = ratio.max(highest);
         }
     }
@@ -270,7 +295,7 @@ fn run() -> Option<f64> {
     println!("a pebble's arrival at the node farthest from the root that has a place, or its leaving it. Nearest and reach are asked from the");
     println!("farthest node; the reach ends halfway between its nearest and its farthest pebble. A step obeys the plan's first move or takes it");
     println!("back; the 9 bytes of its block are put back after both, within the time. 'Plain' is the same algorithm in safe Rust, with the same");
-    println!("tests first.\n");
+    println!("tests first. 'Many parts' is plan_parts once more, on the same tree with the edge above every eighth node cut.\n");
     println!("256 nodes    depth  call        moves  library µs    plain µs   ratio");
     let highest = all_calls(1)?.max(all_calls(MAX_DEPTH)?);
     println!("\nPlan, time a move  nodes  depth   moves  library ns    plain ns   ratio");

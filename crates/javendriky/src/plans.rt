@@ -1,8 +1,9 @@
-// The planner.
+// The planner, over the whole yard and part by part.
 ghost use mathlib.Core.Path.{_≡_};
 ghost use Rattle.model.specs.Given.{given, was, became};
 ghost use Rattle.model.specs.Calls.Answers.{inC, told};
 ghost use Rattle.model.specs.Calls.Plans.{planAnswer, planList};
+ghost use Rattle.model.specs.Calls.Parts.{partsAnswer, partsPlanList, partsList};
 ghost use Rattle.laws.specs.Demand3.{Demand3};
 use crate::answers::counted;
 
@@ -20,4 +21,22 @@ pub extern "C" fn javendriky_plan(
     ensures { λ r. ⌜ Demand3 (given parents pebbles targets depths) (was plan) (told r) (became plan) ⌝ }
 {
     counted(planner::plan::plan(parents, pebbles, targets, depths, plan))
+}
+
+// The planner part by part (request 2.11): writes the parts' plans, one behind the other, at the front of the plan list and for each node its part's topmost node
+// into the part list, and answers the number of moves. Refusals 1 to 7, then 2 for the part list, then 8.
+#[no_mangle]
+pub extern "C" fn javendriky_plan_parts(
+    parents: &[u8],
+    pebbles: &[u8],
+    targets: &[u8],
+    depths: &[u8],
+    plan: &mut [u8],
+    parts: &mut [u8],
+) -> u32
+    ensures { λ r. ⌜ r ≡ inC (partsAnswer (given parents pebbles targets depths) (was plan) (was parts)) ⌝ }
+    ensures { λ r. ⌜ became plan ≡ partsPlanList (given parents pebbles targets depths) (was plan) (was parts) ⌝ }
+    ensures { λ r. ⌜ became parts ≡ partsList (given parents pebbles targets depths) (was plan) (was parts) ⌝ }
+{
+    counted(parts::plan::plan_parts(parents, pebbles, targets, depths, plan, parts))
 }

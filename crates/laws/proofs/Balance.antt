@@ -100,7 +100,7 @@ pub root-fit : (y : Yard) → Tree y → Matched y → All (Fit y) (root y ∷ [
 root-fit y t m = ((wood y t .root-lt, root-even y t m), tt)
 
 -- how deep the tree may be below a node
-abbrev Low : Yard → ℕ → ℕ → Type 0
+abbrev pub Low : Yard → ℕ → ℕ → Type 0
 Low y d c = weight (y .parents) c ≤ d
 
 -- a side of turns is sound in a yard, whatever its pebbles, if at an even node with a child that is not, it takes a way that is open: the node can
@@ -133,9 +133,13 @@ fills-steers o ps t u l e c k n = go (held y u) refl (needy (lacking y) y u) ref
         (ltb-true 0 (pebble y u) h, omega (arith, a .1, child-le (y .parents) (lacking y) u v (a .0)))
 
 module _ (side : Side) (rule : Rule) (sound : Sound rule) where
+  pub turn-chosen : (y : Yard) → Tree y → Steers side y → (u : ℕ) → u < size y → Even y u → (c : ℕ) → Child (y .parents) u c → 0 < imbalance y c
+      → Child (y .parents) u (rule (need y (side y u)) y u) × Due y (side y u) (rule (need y (side y u)) y u)
+  turn-chosen y t st u l e c k n = let a = st (y .pebbles) t u l e c k n in chosen-due rule sound y t (side y u) u (a .0) (a .1)
+
   pub turn-due : (y : Yard) → Tree y → Steers side y → (u : ℕ) → u < size y → Even y u → (c : ℕ) → Child (y .parents) u c → 0 < imbalance y c
       → Due y (side y u) (rule (need y (side y u)) y u)
-  turn-due y t st u l e c k n = let a = st (y .pebbles) t u l e c k n in chosen-due rule sound y t (side y u) u (a .0) (a .1) .1
+  turn-due y t st u l e c k n = turn-chosen y t st u l e c k n .1
 
   pub turned-shift : {y : Yard} {u c : ℕ} {cs : List ℕ} {ms : List Move} → Tree y → Steers side y → u < size y → Even y u → needy (imbalance y) y u ≡ c ∷ cs
       → Serves rule y (side y u) (rule (need y (side y u)) y u) ms → Good y ms × (0 < length ms)
@@ -194,7 +198,7 @@ module _ (side : Side) (rule : Rule) (sound : Sound rule) where
           (turned q s (ih (run y (turn side rule k y u)) (good-tree y tr (turn side rule k y u) (g .0)) st u l (omega (arith, keeps y tr (turn side rule k y u) (g .0) u l)) f (omega (arith, g .0 .spends, g .1))))
 
   module _ (k : ℕ) where
-    abbrev Enough : ℕ → Type 0
+    abbrev pub Enough : ℕ → Type 0
     Enough d = (us : List ℕ) (y : Yard) → Tree y → Steers side y → enough y ≤ k → All (Fit y) us → All (Low y d) us → Balances side rule y us (each (balance side rule k d) y us)
 
     each-balances : (d : ℕ) → Enough d → Enough (suc d)
@@ -224,7 +228,7 @@ module _ (side : Side) (rule : Rule) (sound : Sound rule) where
         z : Yard
         z = run y (ms ++ ns)
 
-    balance-balances : (d : ℕ) → Enough d
+    pub balance-balances : (d : ℕ) → Enough d
     unfolding each
     balance-balances zero [] y t st f a w = none
     balance-balances zero (u ∷ us) y t st f a w = absurd (omega (arith, w .0, weight-pos (wood y t) u (a .0 .0)))
@@ -257,7 +261,11 @@ module _ (side : Side) (rule : Rule) (sound : Sound rule) where
     pub planBy-even : (v : ℕ) → v < size y → Even (run y (planBy side rule y)) v
     planBy-even v l = balanced .1 .0 v l (wood y t .to-root v l)
 
--- the plan is what balances the root by the planner's turns and rule
+-- the plan balances the root by the planner's turns and rule, and nothing else does
+pub plan-balances : (y : Yard) → Tree y → Matched y → Balances fills choice y (root y ∷ []) (plan y)
+unfolding plan
+plan-balances y t m = planBy-balances fills choice choice-sound y t (fills-steers y) m
+
 pub plan-only : (y : Yard) → Tree y → Matched y → (ms : List Move) → Balances fills choice y (root y ∷ []) ms → ms ≡ plan y
 unfolding plan
 plan-only y t = planBy-only fills choice choice-sound y t (fills-steers y)

@@ -18,10 +18,10 @@ use Rattle.model.specs.Calls.Checks.{maxPlanBytes}
 use Rattle.model.specs.Sheets.{programPlanBytes}
 use Rattle.laws.specs.Demand3.{Optimal, Demand3}
 use Rattle.laws.proofs.Sums.{sum-cong}
-use Rattle.laws.proofs.Demands.{even-solved, solved-iff}
+use Rattle.laws.proofs.Demands.{even-solved, solved-even, solved-iff}
 use Rattle.laws.proofs.Bounds.{shortest-bound, shortest-max, shortest-fits, shortest-fits-shallow}
-use Rattle.laws.proofs.Runs.{pebbleCount-run}
-use Rattle.laws.proofs.Shortest.{Good, shortest-least, thrifty-crosses, good-tree, good-thrifty}
+use Rattle.laws.proofs.Runs.{obeys, run-tree, pebbleCount-run}
+use Rattle.laws.proofs.Shortest.{Good, shortest-least, thrifty-crosses, good-tree}
 use Rattle.laws.proofs.Follow.{follows-simple}
 use Rattle.laws.proofs.LastIn.{lifo-follows}
 use Rattle.laws.proofs.Choice.{Sound, lowest-sound, neediest-sound, choice-sound}
@@ -32,6 +32,17 @@ module _ (y : Yard) (t : Tree y) where
   -- pushes bring no pebble in or out, so a yard that some list solves has as many as targets
   pub solved-matched : (ms : List Move) → Solved (run y ms) → Matched y
   solved-matched ms h = sym (pebbleCount-run y t ms) ∙ sum-cong (size y) (pebble (run y ms)) (target y) h
+
+  -- whatever is accepted, solves the yard and has the shortest length is optimal
+  pub optimal : (ms : List Move) → accepted y ms ≡ ms → Solved (run y ms) → length ms ≡ shortest y → Optimal y ms
+  optimal ms o h e = record {
+    obeyed = o;
+    solves = h;
+    crossed = λ v l. omega (arith, thrifty-crosses y t ms (rw (o, solved-iff (run y ms) (run-tree (obeys ms y t) t) .0 h) (omega arith)) v l, solved-even (run y ms) h v);
+    least = λ ps k. omega (arith, shortest-least y t ps k);
+    followed = λ ps. let r = lifo-follows y t ps in (lifo y (accepted y ps), r .0, r .1);
+    simple = λ ps k f g. follows-simple y t ps g k (f ∙ e);
+  }
 
   -- the plan under any sound side of turns and any sound rule of choice
   module _ (m : Matched y) (side : Side) (steers : Steers side y) (rule : Rule) (sound : Sound rule) where
@@ -46,14 +57,7 @@ module _ (y : Yard) (t : Tree y) where
     planBy-length = omega (arith, good .spends, solved-iff (run y (planBy side rule y)) (good-tree y t (planBy side rule y) good) .0 planBy-solves)
 
     pub planBy-optimal : Optimal y (planBy side rule y)
-    planBy-optimal = record {
-      obeyed = good .obeyed;
-      solves = planBy-solves;
-      crossed = λ v l. omega (arith, thrifty-crosses y t (planBy side rule y) (good-thrifty y t (planBy side rule y) good) v l, planBy-even side rule sound y t steers m v l);
-      least = λ ps h. omega (arith, planBy-length, shortest-least y t ps h);
-      followed = λ ps. let r = lifo-follows y t ps in (lifo y (accepted y ps), r .0, r .1);
-      simple = λ ps h e f. follows-simple y t ps f h (e ∙ planBy-length);
-    }
+    planBy-optimal = optimal (planBy side rule y) (good .obeyed) planBy-solves planBy-length
 
   module _ (m : Matched y) where
     pub plan-optimal : Optimal y (plan y)

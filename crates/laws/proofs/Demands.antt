@@ -26,6 +26,16 @@ overChildren ps f u = sum (length ps) (λ v. one (isChild ps u v) * f v)
 pub child-le : (ps : List ℕ) (f : ℕ → ℕ) (u c : ℕ) → Child ps u c → f c ≤ overChildren ps f u
 child-le ps f u c k = omega (arith, sum-term (length ps) c (λ v. one (isChild ps u v) * f v) (k .lt), ap (λ (b : Bool). one b * f c) (child-is ps u c k))
 
+pub over-cong : (ps : List ℕ) (f g : ℕ → ℕ) (u : ℕ) → ((c : ℕ) → Child ps u c → f c ≡ g c) → overChildren ps f u ≡ overChildren ps g u
+over-cong ps f g u h = sum-cong (length ps) _ _ (λ c l. go c l (isChild ps u c) refl)
+  where
+    go : (c : ℕ) → c < length ps → (b : Bool) → isChild ps u c ≡ b → one b * f c ≡ one b * g c
+    go c l true e = rw (h c (is-child ps u c l e))
+    go c l false e = omega arith
+
+pub over-add : (ps : List ℕ) (f g : ℕ → ℕ) (u : ℕ) → overChildren ps (λ c. f c + g c) u ≡ overChildren ps f u + overChildren ps g u
+over-add ps f g u = sum-cong (length ps) _ (λ c. one (isChild ps u c) * f c + one (isChild ps u c) * g c) (λ c _. omega arith) ∙ sum-add (length ps) _ _
+
 abbrev pub weight : List ℕ → ℕ → ℕ
 weight ps u = subtotal ps (λ _. 1) u
 

@@ -36,6 +36,14 @@ pub mod Longest
 pub mod Moves
 pub mod Demand2
 pub mod Trial
+pub mod Kept
+pub mod Struck
+pub mod Striking
+pub mod Own
+pub mod Parts
+pub mod Mingling
+pub mod PartTurns
+pub mod PartsCall
 pub mod Lines
 pub mod Sheets
 pub mod Report

@@ -23,6 +23,8 @@ use Rattle.model.specs.Calls.Events.{possible, eventTests, eventFault}
 use Rattle.model.specs.Distance.{distance}
 use Rattle.model.specs.Calls.Distances.{nearest, Nearest, nearestOf, nearestTests, nearestFault, nearestAnswer, inReach, reachTests, reachFault, reachAnswer}
 use Rattle.model.specs.Calls.Plans.{planTests, planFault, movesOf}
+use Rattle.model.specs.Parts.{partsPlan}
+use Rattle.model.specs.Calls.Parts.{partsTests, partsFault, partsAnswer}
 use Rattle.model.specs.Calls.Checks.{maxPlanBytes, bytesFault, movesFault, Verdict, checkTests, checkFault, checkAnswer, within, trialTests, trialFault, trialAnswer, trialInC}
 use Rattle.model.specs.Sheets.{maxSheetBytes, yardSheet, readYard, reader, readAnswer, writeTests, writeFault, writeAnswer}
 use Rattle.laws.proofs.Basics.{All, one-le, all-below, none-all, unless-none}
@@ -35,6 +37,7 @@ use Rattle.laws.proofs.Distance.{distance-lt}
 use Rattle.laws.proofs.Nearest.{nearest-none, nearest-is}
 use Rattle.laws.proofs.Demand3.{plan-length}
 use Rattle.laws.proofs.Displaced.{displaced-le}
+use Rattle.laws.proofs.PartTurns.{partsPlan-length}
 use Rattle.laws.proofs.Sheets.{YardBytes, yardSheet-short, read-sizes, read-places}
 
 -- a refusal, if there is one, is of the table and has a small place
@@ -233,6 +236,23 @@ module _ (y : Yard) where
 
   pub plan-small : (room : ℕ) → Small (answer (planFault y room) (length (plan y)))
   plan-small room = small _ (plan-low room) (λ e. let h = plan-none y room .0 e in plan-short (h .0) (h .1))
+
+  -- planned part by part it has as many moves
+  pub parts-small : (list parts : List ℕ) → Small (partsAnswer y list parts)
+  unfolding partsFault
+  parts-small list parts = small _ low (λ e. let a = none-all (partsTests y list parts) e in short (a .0) (totals-none y .0 (a .1 .0)))
+    where
+      short : Tree y → Matched y → length (partsPlan y) < rowUnit
+      short t m = omega (arith, partsPlan-length y t m, plan-short t m)
+
+      low : Low (firstOf (partsTests y list parts))
+      low =
+          first (drop 1 (partsTests y list parts)) (judge-low y) (λ t.
+          first (drop 2 (partsTests y list parts)) totals-low (λ e.
+          all (drop 2 (partsTests y list parts)) (
+            once (eqb (length parts) (size y)) 2 0 (omega arith) (omega arith),
+            (once (leb (2 * length (partsPlan y)) (length list)) 8 (length (partsPlan y)) (omega arith) (short t (totals-none y .0 e)), tt),
+          )))
 
   -- the bound's two values
   pub moves-small : Small (mapAnswer (λ l. l .moves) (boundAnswer y))

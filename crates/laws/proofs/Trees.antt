@@ -1,7 +1,7 @@
 -- Trees, by the list of parents. Every node climbs to the root, so what holds there and passes from parent to child holds everywhere: so
 -- it is with the laws of which node lies inside which.
 use mathlib.Core.Path.{_≡_, refl, sym, ap, _∙_}
-use mathlib.Core.Logic.{_≢_}
+use mathlib.Core.Logic.{_≢_, _⊎_, inl, inr}
 use mathlib.Core.Bool.{Bool, true, false, not, _||_, or-true, and-eq-true-iff, false≢true}
 use mathlib.Core.List.{List}
 use Prim.Native.Nat.{ℕ, zero, suc, _+_, _<_}
@@ -117,3 +117,48 @@ module _ {ps : List ℕ} {r : ℕ} (f : Wood ps r) where
 
   pub outside-other : (u v : ℕ) → inside ps u v ≡ false → v ≢ u
   outside-other u v o e = false≢true (sym o ∙ ap (inside ps u) e ∙ inside-self u)
+
+  -- what lies inside a node that lies inside another lies inside that
+  pub inside-trans : (a b c : ℕ) → b < length ps → c < length ps → inside ps a b ≡ true → inside ps b c ≡ true → inside ps a c ≡ true
+  inside-trans a b c l k = down-ind (λ b. inside ps a b ≡ true → inside ps b c ≡ true → inside ps a c ≡ true) base next b l
+    where
+      base : inside ps a r ≡ true → inside ps r c ≡ true → inside ps a c ≡ true
+      base e i = let q : r ≡ a = eqb-true r a (sym (root-inside a) ∙ e) in rw (← q) i
+
+      next : (b : ℕ) → b < length ps → b ≢ r → (inside ps a (up ps b) ≡ true → inside ps (up ps b) c ≡ true → inside ps a c ≡ true)
+          → inside ps a b ≡ true → inside ps b c ≡ true → inside ps a c ≡ true
+      next b l d ih e i = at (eqb b a) refl (sym (above a b l) ∙ e)
+        where
+          at : (x : Bool) → eqb b a ≡ x → (x || inside ps a (up ps b)) ≡ true → inside ps a c ≡ true
+          at true q _ = rw (← (eqb-true b a q)) i
+          at false q j = ih j (inside-up b c k i)
+
+  pub inside-of-child : (u c v : ℕ) → Child ps u c → v < length ps → inside ps c v ≡ true → inside ps u v ≡ true
+  inside-of-child u c v k l e = rw (k .up) at (inside-up c v l e)
+
+  -- a node inside a is a, or its parent is inside a
+  pub inside-split : (a v : ℕ) → v < length ps → inside ps a v ≡ true → (v ≡ a) ⊎ (inside ps a (up ps v) ≡ true)
+  inside-split a v l e = at (eqb v a) refl (sym (above a v l) ∙ e)
+    where
+      at : (b : Bool) → eqb v a ≡ b → (b || inside ps a (up ps v)) ≡ true → (v ≡ a) ⊎ (inside ps a (up ps v) ≡ true)
+      at true q _ = inl (eqb-true v a q)
+      at false q i = inr i
+
+  pub child-above : (u c : ℕ) → Child ps u c → inside ps c u ≡ true → ⊥
+  child-above u c k e = false≢true (sym (parent-outside c (k .lt) (child-off-root u c k)) ∙ ap (inside ps c) (k .up) ∙ e)
+
+  -- no node is inside two children of a node
+  pub siblings-apart : (u c d : ℕ) → Child ps u c → Child ps u d → (v : ℕ) → v < length ps → inside ps c v ≡ true → inside ps d v ≡ true → c ≡ d
+  siblings-apart u c d p q = down-ind (λ v. inside ps c v ≡ true → inside ps d v ≡ true → c ≡ d) base next
+    where
+      base : inside ps c r ≡ true → inside ps d r ≡ true → c ≡ d
+      base e g = sym (eqb-true r c (sym (root-inside c) ∙ e)) ∙ eqb-true r d (sym (root-inside d) ∙ g)
+
+      next : (v : ℕ) → v < length ps → v ≢ r → (inside ps c (up ps v) ≡ true → inside ps d (up ps v) ≡ true → c ≡ d) → inside ps c v ≡ true → inside ps d v ≡ true → c ≡ d
+      next v l n ih e g = go (inside-split c v l e) (inside-split d v l g)
+        where
+          go : (v ≡ c) ⊎ (inside ps c (up ps v) ≡ true) → (v ≡ d) ⊎ (inside ps d (up ps v) ≡ true) → c ≡ d
+          go (inl a) (inl b) = sym a ∙ b
+          go (inl a) (inr b) = absurd (child-above u d q (rw (a, p .up) at b))
+          go (inr a) (inl b) = absurd (child-above u c p (rw (b, q .up) at a))
+          go (inr a) (inr b) = ih a b

@@ -1,4 +1,5 @@
--- What is promised of the definitions as a whole: demands 2 and 3, and that equation 2 has one solution.
+-- What is promised of the definitions as a whole: demands 2 and 3, that equation 2 has one solution, and what request 2.11 says of parts.
 pub mod Demand2
 pub mod Demand3
 pub mod Equation2
+pub mod Parts

@@ -2,7 +2,7 @@
 -- as one list of inputs and outcomes: the definitions, computed, give what is written here.
 use mathlib.Core.Path.{_≡_, refl}
 use mathlib.Core.Bool.{Bool, true, false, cond}
-use mathlib.Core.List.{List, [], _∷_, map}
+use mathlib.Core.List.{List, [], _∷_, map, flatten}
 use mathlib.Core.Option.{Option, none}
 use Prim.Native.Nat.{ℕ, zero, suc, _≤_, _<_}
 use Prim.Native.String.{String}
@@ -23,6 +23,8 @@ use Rattle.model.specs.Calls.Events.{demandsAfter, eventFault, eventPebb
 use Rattle.model.specs.Distance.{anyOf, reaches, distance}
 use Rattle.model.specs.Calls.Distances.{Nearest, nearest, nearestFault, nearestAnswer, inReach, reachFault, reachList, reachAnswer}
 use Rattle.model.specs.Calls.Plans.{bytes, movesOf, planFault, planAnswer, planList}
+use Rattle.model.specs.Parts.{climbed, topmost, tops, masked, partsPlan}
+use Rattle.model.specs.Calls.Parts.{partsFault, partsAnswer, partsPlanList, partsList}
 use Rattle.model.specs.Calls.Checks.{movesFault, Verdict, checkFault, checkAnswer, Trial, trialFault, trialAnswer, trialPebbles}
 use Rattle.model.specs.Calls.Registers.{blockOf, registersOf, bit, setBit, raised, registerFault, taskFault, stepFault, registersThen, pebblesThen, stepped}
 use Rattle.model.specs.Cabinet.{steps}
@@ -40,6 +42,8 @@ data Input : Type 0 where
   lowestOpeningOf : Yard → Input
   -- the planner with a list of so many bytes, all 9
   planInto : ℕ → Yard → Input
+  -- the call that plans part by part, with a plan list and a part list of so many bytes, all 9
+  partsInto : ℕ → ℕ → Yard → Input
   checkOf : List ℕ → Yard → Input
   trialOf : List ℕ → ℕ → Yard → Input
   -- pushes, one after another, each on the yard that the one before gave back
@@ -68,6 +72,8 @@ data Outcome : Type 0 where
   refusal : Option Fault → Outcome
   moves : List Move → Outcome
   planned : Answer ℕ → List ℕ → Outcome
+  -- the answer, and the plan list and the part list then
+  parted : Answer ℕ → List ℕ → List ℕ → Outcome
   checked : Answer Verdict → Outcome
   tried : Answer Trial → List ℕ → Outcome
   left : List ℕ → Outcome
@@ -90,6 +96,7 @@ outcome (planOf y) = moves (plan y)
 outcome (openingOf y) = moves (take 1 (plan y))
 outcome (lowestOpeningOf y) = moves (take 1 (planBy fills lowestChild y))
 outcome (planInto n y) = planned (planAnswer y (replicate n 9)) (planList y (replicate n 9))
+outcome (partsInto n k y) = let list : List ℕ = replicate n 9 in let parts : List ℕ = replicate k 9 in parted (partsAnswer y list parts) (partsPlanList y list parts) (partsList y list parts)
 outcome (checkOf bs y) = checked (checkAnswer y bs)
 outcome (trialOf bs budget y) = tried (trialAnswer y bs budget) (trialPebbles y bs budget)
 outcome (pushesOf ms y) = left (after y ms)
@@ -118,6 +125,14 @@ i gives o = record { input = i; expected = o }
 -- two pebbles at node 1 and one at node 2
 siding : Yard
 siding = yardOf (0 ∷ 0 ∷ 0 ∷ []) (0 ∷ 2 ∷ 1 ∷ []) (1 ∷ 1 ∷ 1 ∷ []) (1 ∷ 2 ∷ 2 ∷ [])
+
+-- two parts: 3 with 0 below it, and 1 with 2 below it. The planner begins at 3, the root; part by part 1 comes first, though 0 is the lowest node
+twoParts : Yard
+twoParts = yard (3 ∷ 3 ∷ 1 ∷ 3 ∷ []) (0 ∷ 2 ∷ []) (1 ∷ 3 ∷ [])
+
+-- two parts: 0 with 2, 4 and 5 below it, and 1 with 3 below it, which the planner comes to between two moves of the other
+between : Yard
+between = yard (0 ∷ 0 ∷ 0 ∷ 1 ∷ 2 ∷ 2 ∷ []) (2 ∷ 3 ∷ 4 ∷ []) (0 ∷ 1 ∷ 5 ∷ [])
 
 -- an event in yard A that is refused: the yard and the list stay
 keeps : Event → ℕ → List ℤ → ℕ → ℕ → Case
@@ -403,10 +418,24 @@ cases =
     ∷ (startsOf siding gives left (1 ∷ 1 ∷ 2 ∷ []))
     ∷ (takenOf (push 1 0 ∷ push 0 1 ∷ push 1 0 ∷ push 1 0 ∷ []) siding gives left (0 ∷ 0 ∷ 0 ∷ 1 ∷ []))
     ∷ (takenOf (push 1 0 ∷ push 2 0 ∷ push 0 1 ∷ push 1 0 ∷ push 0 2 ∷ push 0 2 ∷ []) siding gives left (0 ∷ 2 ∷ 2 ∷ 2 ∷ 2 ∷ 0 ∷ []))
+    -- request 2.11. Yard A is one part, as no edge of it has a demand of 0; the byte behind the moves stays
+    ∷ (partsInto 9 5 yardA gives parted (answered 4) (1 ∷ 0 ∷ 0 ∷ 2 ∷ 3 ∷ 1 ∷ 1 ∷ 4 ∷ 9 ∷ []) (0 ∷ 0 ∷ 0 ∷ 0 ∷ 0 ∷ []))
+    -- parts in rising number of their topmost nodes, which is not the planner's order
+    ∷ (planOf twoParts gives moves (push 0 3 ∷ push 2 1 ∷ []))
+    ∷ (partsInto 4 4 twoParts gives parted (answered 2) (2 ∷ 1 ∷ 0 ∷ 3 ∷ []) (3 ∷ 1 ∷ 1 ∷ 3 ∷ []))
+    -- all moves of a part before those of the next
+    ∷ (planOf between gives moves (push 2 0 ∷ push 3 1 ∷ push 4 2 ∷ push 2 5 ∷ []))
+    ∷ (partsInto 8 6 between gives parted (answered 4) (2 ∷ 0 ∷ 4 ∷ 2 ∷ 2 ∷ 5 ∷ 3 ∷ 1 ∷ []) (0 ∷ 1 ∷ 0 ∷ 1 ∷ 0 ∷ 0 ∷ []))
+    -- a node whose own edge is cut, and whose children's are, is a part of its own, without a move
+    ∷ (partsInto 0 2 (yard (0 ∷ 0 ∷ []) (0 ∷ 1 ∷ []) (0 ∷ 1 ∷ [])) gives parted (answered 0) [] (0 ∷ 1 ∷ []))
+    -- 7, then 2, then 8 with the moves of all parts
+    ∷ (partsInto 0 3 (yard (0 ∷ 0 ∷ []) (0 ∷ []) (0 ∷ 1 ∷ [])) gives parted (refused (row 7 0)) [] (9 ∷ 9 ∷ 9 ∷ []))
+    ∷ (partsInto 3 3 twoParts gives parted (refused (row 2 0)) (9 ∷ 9 ∷ 9 ∷ []) (9 ∷ 9 ∷ 9 ∷ []))
+    ∷ (partsInto 3 4 twoParts gives parted (refused (row 8 2)) (9 ∷ 9 ∷ 9 ∷ []) (9 ∷ 9 ∷ 9 ∷ 9 ∷ []))
     ∷ []
 
 worked : map (λ (c : Case). outcome (c .input)) cases ≡ map (λ (c : Case). c .expected) cases
-unfolding stepB refusesStep refusesB rounds blockOf registersOf bit setBit raised registerFault taskFault stepFault registersThen pebblesThen stepped steps near highRoot zeros nines anyOf reaches distance nearest nearestFault inReach reachFault demandsA siding placed occurs firstAt lastIn displaced demandsAfter eventFault leaves runLeaves keeps cases _gives_ outcome yard marks yardA yardB planB sum below roots climbs inside subtotal shortest judge moveFault pushFault legal shifted after accepted count needy lowestChild greatest neediestChild choice fills inject extract turn settle each balance planWithin planBy plan range demandsFault bytes movesOf planFault movesFault checkFault trialFault matchedFault text digits decimal stopBefore line lines header cut same value field readLine readNodes readYard moveLines edges report moveSheet refusalSheet program
+unfolding twoParts between flatten climbed topmost tops masked partsPlan partsFault stepB refusesStep refusesB rounds blockOf registersOf bit setBit raised registerFault taskFault stepFault registersThen pebblesThen stepped steps near highRoot zeros nines anyOf reaches distance nearest nearestFault inReach reachFault demandsA siding placed occurs firstAt lastIn displaced demandsAfter eventFault leaves runLeaves keeps cases _gives_ outcome yard marks yardA yardB planB sum below roots climbs inside subtotal shortest judge moveFault pushFault legal shifted after accepted count needy lowestChild greatest neediestChild choice fills inject extract turn settle each balance planWithin planBy plan range demandsFault bytes movesOf planFault movesFault checkFault trialFault matchedFault text digits decimal stopBefore line lines header cut same value field readLine readNodes readYard moveLines edges report moveSheet refusalSheet program
 worked = refl
 
 -- two pebbles start at node 1, and one at node 2: whichever is taken, pebble 1 may go the second time, and each has its own route

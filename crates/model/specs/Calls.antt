@@ -4,5 +4,6 @@ pub mod Demands
 pub mod Events
 pub mod Distances
 pub mod Plans
+pub mod Parts
 pub mod Checks
 pub mod Registers

@@ -5,6 +5,7 @@ pub mod Push
 pub mod Plan
 pub mod Follow
 pub mod Distance
+pub mod Parts
 pub mod Calls
 pub mod Sheets
 pub mod Paper

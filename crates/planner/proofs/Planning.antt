@@ -1,5 +1,5 @@
 -- What planning starts from: the demands and pebbles of the yard, its length, and an even root.
-use mathlib.Core.Path.{_≡_, refl, _∙_}
+use mathlib.Core.Path.{_≡_, refl, sym, _∙_}
 use mathlib.Core.Logic.{_≢_}
 use mathlib.Core.Bool.{Bool, true, false}
 use mathlib.Core.List.{List}
@@ -10,24 +10,25 @@ use native.Mathlib.Decide.{ℕ-discrete, decLt}
 use lib.ListN.{length, getD, take, set, length-set, List·getD-eq-default}
 use lib.Seq.{getD-set-same, getD-set-other, getD-take, length-take-le}
 use lib.IntN.{ℤ, pos, natAbs}
-use borrow.Author.Tests.{lt-leb}
+use borrow.Author.Tests.{lt-leb, ne-eqb}
 use mathlib.Core.Option.{none}
 use Rattle.model.specs.Yard.{Yard, size, sum, root, imbalance, shortest, Matched}
-use Rattle.model.specs.Judge.{row, Tree}
+use Rattle.model.specs.Judge.{fault, Tree}
 use Rattle.model.specs.Plan.{plan}
-use Rattle.model.specs.Calls.Answers.{refused, overwrite}
+use Rattle.model.specs.Calls.Answers.{overwrite}
 use Rattle.model.specs.Calls.Demands.{demandsOf}
-use Rattle.model.specs.Calls.Plans.{bytes, planFault, planAnswer, planList}
+use Rattle.model.specs.Calls.Plans.{bytes, planFault}
 use Rattle.laws.proofs.Sums.{sum-cong}
 use Rattle.laws.proofs.Judged.{facts, wood}
 use Rattle.laws.proofs.Demands.{root-even, weight-le}
 use Rattle.laws.proofs.Signed.{demand-size, demand-range}
 use Rattle.laws.proofs.Balance.{plan-only}
+use Rattle.laws.proofs.Own.{balancesIn-all}
 use Rattle.laws.proofs.Calls.{totals-none, plan-none}
 use Rattle.laws.proofs.Demand3.{plan-length}
 use Rattle.demand.proofs.Answers.{demands-at}
 use Rattle.serve.specs.Serving.{Tables, lastAt, Kept}
-use Rattle.planner.specs.Balancing.{AskedEven, Balanced, Placed}
+use Rattle.planner.specs.Balancing.{entered, AskedEven, Balanced, Placed}
 
 pub place-none : (pebbles depths : List ℕ) (s : List ℤ) → length s ≡ 1280 → Placed pebbles depths s s 0
 place-none pebbles depths s e = record { long = e; low = λ w l. refl; high = λ w l. absurd (omega arith); lasts = λ b w l. absurd (omega arith); deep = λ w l. absurd (omega arith) }
@@ -124,15 +125,15 @@ module _ (y : Yard) (t : Tree y) (s : List ℤ) (k : Kept y s) where
 
 module _ (y : Yard) (t : Tree y) (m : Matched y) (list : List ℕ) (l : ℕ) (e : l ≡ shortest y) where
   -- a list that is too short
-  pub plan-refused : length list / 2 < l → (refused (row 8 l) ≡ planAnswer y list) × (list ≡ planList y list)
+  pub plan-short : length list / 2 < l → planFault y (length list) ≡ fault 8 l
   unfolding planFault
-  plan-refused h =
+  plan-short h =
       let short : length list < 2 * length (plan y) = omega (arith, div-lt-iff-lt-mul {k = 2} (omega arith) .0 h, plan-length y t m) in
-      rw (t, totals-none y .1 m, lt-leb (2 * length (plan y)) (length list) short, e, ← (plan-length y t m)) (refl, refl)
+      rw (t, totals-none y .1 m, lt-leb (2 * length (plan y)) (length list) short, e, ← (plan-length y t m))
 
   -- a list that is long enough: balancing the root gives the plan
   module _ (h : l ≤ length list / 2) where
-    room : 2 * shortest y ≤ length list
+    pub room : 2 * shortest y ≤ length list
     room = omega (arith, le-div-iff-mul-le {k = 2} (omega arith) .0 h)
 
     pub root-asked : (tab : List ℕ) (s : List ℤ) → Tables (y .parents) tab → Kept y s → (r : ℕ) → r ≡ root y → AskedEven y tab s list r (size y)
@@ -147,7 +148,7 @@ module _ (y : Yard) (t : Tree y) (m : Matched y) (list : List ℕ) (l : ℕ) (e 
     pub plan-accepted : planFault y (length list) ≡ none
     plan-accepted = plan-none y (length list) .1 (t, m, omega (arith, room, plan-length y t m))
 
-    pub plan-written : (r : ℕ) → r ≡ root y → (s : List ℤ) (after : List ℕ) (count : ℕ) → Balanced y r s list after count → (count ≡ length (plan y)) × (after ≡ overwrite (bytes (plan y)) list)
+    pub plan-written : (r : ℕ) → r ≡ root y → (s : List ℤ) (after : List ℕ) (count : ℕ) → Balanced (entered (y .parents)) y r s list after count → (count ≡ length (plan y)) × (after ≡ overwrite (bytes (plan y)) list)
     plan-written r q s after count b =
-        let p : b .moves ≡ plan y = plan-only y t m (b .moves) (rw q at (b .balances)) in
+        let p : b .moves ≡ plan y = plan-only y t m (b .moves) (balancesIn-all (rw q at (b .balances)) (λ u c k. rw (k .up, ne-eqb u c (λ e. k .other (sym e))))) in
         rw (← p) (b .made .counted, b .made .written)

@@ -1,17 +1,19 @@
 -- What balancing a node asks and gives, and what it starts from, beside what the tables and the state hold.
 use mathlib.Core.Path.{_≡_}
 use mathlib.Core.Logic.{_≢_}
-use mathlib.Core.Bool.{Bool}
+use mathlib.Core.Bool.{Bool, not}
 use mathlib.Core.List.{List, [], _∷_}
 use Prim.Native.Nat.{ℕ, _+_, _*_, _≤_, _<_}
 use lib.ListN.{length, getD}
+use lib.Dec.{eqb}
 use lib.IntN.{ℤ, pos}
 use Rattle.model.specs.Yard.{Yard, size, shortest}
 use Rattle.model.specs.Push.{Move}
 use Rattle.model.specs.Plan.{choice, fills}
 use Rattle.laws.proofs.Demands.{weight}
 use Rattle.laws.proofs.Step.{need}
-use Rattle.laws.proofs.Balance.{Even, Settles, Balances}
+use Rattle.laws.proofs.Balance.{Even, Settles}
+use Rattle.laws.proofs.Own.{BalancesIn}
 use Rattle.serve.specs.Serving.{lastAt, Describes, Made, Served}
 
 -- what balancing u asks, and its loop
@@ -32,15 +34,19 @@ pub record TurnTaken (b : Bool) (y : Yard) (u : ℕ) (s₀ s : List ℤ) (before
   pub none : count ≡ 0 → (u ≡ choice (need y b) y u) × (s ≡ s₀) × (after ≡ before)
   pub some : count ≢ 0 → (choice (need y b) y u ≢ u) × Served b y (choice (need y b) y u) s before after count
 
--- what the loop at u gives, and what balancing u gives
+-- a list of parts does not name c by itself: c is not the topmost node of its part
+abbrev pub entered : List ℕ → ℕ → Bool
+entered parts c = not (eqb (getD parts c 0) c)
+
+-- what the loop at u gives, and what balancing u gives, with the children that pass a test
 pub record Settled (y : Yard) (u : ℕ) (s : List ℤ) (before after : List ℕ) (count : ℕ) : Type 0 where
   pub moves : List Move
   pub settles : Settles fills choice y u moves
   pub made : Made y moves s before after count
 
-pub record Balanced (y : Yard) (u : ℕ) (s : List ℤ) (before after : List ℕ) (count : ℕ) : Type 0 where
+pub record Balanced (p : ℕ → Bool) (y : Yard) (u : ℕ) (s : List ℤ) (before after : List ℕ) (count : ℕ) : Type 0 where
   pub moves : List Move
-  pub balances : Balances fills choice y (u ∷ []) moves
+  pub balances : BalancesIn p y (u ∷ []) moves
   pub made : Made y moves s before after count
 
 -- what is known of the nodes below v, placed behind the demands: the pebbles, for each sign the node itself, and the depths

@@ -1,9 +1,13 @@
 // Algorithm 1: balancing the subtrees of a node.
-ghost use mathlib.Core.Bool.{true, false};
-ghost use Rattle.model.specs.Yard.{Yard};
+ghost use mathlib.Core.Path.{_≡_};
+ghost use mathlib.Core.Bool.{true, false, not, _&&_};
+ghost use Prim.Native.Nat.{_+_, _≤_, _<_};
+ghost use lib.Dec.{eqb};
+ghost use lib.ListN.{length, getD};
+ghost use Rattle.model.specs.Yard.{Yard, size};
 ghost use Rattle.model.specs.Plan.{fills};
 ghost use Rattle.model.specs.Given.{was, became};
-ghost use Rattle.planner.specs.Balancing.{AskedEven, AskedTurn, TurnTaken, Settled, Balanced};
+ghost use Rattle.planner.specs.Balancing.{entered, AskedEven, AskedTurn, TurnTaken, Settled, Balanced};
 use serve::choose::pick;
 use serve::choose::wide;
 use serve::pebble::extract_start;
@@ -78,25 +82,38 @@ fn settle(t: &[u8; 768], s: &mut [i16; 1280], plan: &mut [u8], u: usize, height:
     }
 }
 
-// Balances u: the loop, and after it has ended the children in rising number, each behind the moves before; one that has no child itself needs no
-// move, and no call. The moves go to the front of the list; answers how many.
+// Whether the child v is balanced after its parent: not if it has no child itself, as it then needs no move, and not if the list names it by itself.
+fn enters(t: &[u8; 768], parts: &[u8], v: usize) -> bool
+    requires { ⌜ (v < 256) × (v < length (now parts)) ⌝ }
+    ensures { λ r. ⌜ r ≡ (entered (was parts) v) && (not (eqb (getD (was t) (256 + v) 0) v)) ⌝ }
+{
+    if wide(parts[v]) == v {
+        return false;
+    }
+    wide(t[256 + v]) != v
+}
+
+// Balances u: the loop, and after it has ended the children in rising number, each behind the moves before. A child that the list of parts names by itself is
+// the topmost node of another part (request 2.11), and is passed over; in the list of parents none is, so with that all of the tree is balanced. The moves go
+// to the front of the plan list; answers how many.
 pub fn balance_subtrees(
     t: &[u8; 768],
     s: &mut [i16; 1280],
     plan: &mut [u8],
+    parts: &[u8],
     u: usize,
     height: usize,
 ) -> usize
-    requires { ⌜ ((y : Yard) × AskedEven y (now t) (now s) (now plan) u height) ⌝ }
-    ensures { λ r. ⌜ ((y : Yard) → AskedEven y (was t) (was s) (was plan) u height → Balanced y u (became s) (was plan) (became plan) r) ⌝ }
+    requires { ⌜ ((y : Yard) × AskedEven y (now t) (now s) (now plan) u height × (size y ≤ length (now parts))) ⌝ }
+    ensures { λ r. ⌜ ((y : Yard) → AskedEven y (was t) (was s) (was plan) u height → Balanced (entered (was parts)) y u (became s) (was plan) (became plan) r) ⌝ }
 {
     let mut k = settle(t, s, plan, u, height);
     let mut c = wide(t[256 + u]);
     while c != u {
         let v = c;
         c = wide(t[512 + v]);
-        if wide(t[256 + v]) != v {
-            let m = balance_subtrees(t, s, &mut plan[2 * k..], v, height - 1);
+        if enters(t, parts, v) {
+            let m = balance_subtrees(t, s, &mut plan[2 * k..], parts, v, height - 1);
             k += m;
         }
     }

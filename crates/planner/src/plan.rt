@@ -5,8 +5,7 @@ ghost use Rattle.model.specs.Calls.Plans.{planAnswer, planList};
 ghost use Rattle.model.specs.Paper.{paperCounted};
 ghost use Rattle.laws.specs.Demand3.{Demand3};
 use crate::balance::balance_subtrees;
-use crate::state::place;
-use demand::matched::matched_demands;
+use crate::state::start;
 use demand::signed::sizes;
 use lists::find::first_own;
 use model::Counted;
@@ -26,19 +25,18 @@ fn plan_sheet(
     ensures { λ r. ⌜ became plan ≡ planList (given parents pebbles targets depths) (was plan) ⌝ }
 {
     let mut s = [0i16; 1280];
-    let tested = matched_demands(parents, pebbles, targets, depths, &mut s);
+    let tested = start(parents, pebbles, targets, depths, &mut s);
     if let Done::Refused(r) = tested {
         return Counted::Refused(r);
     }
     let n = parents.len();
-    place(pebbles, depths, &mut s);
     let length = sizes(&s[..n]);
     if plan.len() / 2 < length {
         return Counted::Refused(Refusal::ListTooShort(length));
     }
     let t = tables(parents);
     let root = first_own(parents, 0);
-    let count = balance_subtrees(&t, &mut s, plan, root, n);
+    let count = balance_subtrees(&t, &mut s, plan, parents, root, n);
     Counted::Number(count)
 }
 

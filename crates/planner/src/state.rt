@@ -1,12 +1,18 @@
-// The state that planning starts from, behind the demands.
+// The state that planning starts from.
 ghost use Prim.Native.Nat.{_≤_};
 ghost use mathlib.Core.Path.{_≡_};
 ghost use lib.ListN.{length};
-ghost use Rattle.model.specs.Given.{was, became};
+ghost use mathlib.Core.Option.{none};
+ghost use Rattle.model.specs.Judge.{matchedFault};
+ghost use Rattle.model.specs.Given.{given, was, became};
+ghost use Rattle.model.specs.Paper.{paperDone};
+ghost use Rattle.serve.specs.Serving.{Kept};
 ghost use Rattle.planner.specs.Balancing.{Placed};
+use demand::matched::matched_demands;
+use model::Done;
 
 // Writes the pebbles 256 entries behind the demands, behind those twice each node itself, as none of its children was served, and behind those the depths.
-pub fn place(pebbles: &[u8], depths: &[u8], s: &mut [i16])
+fn place(pebbles: &[u8], depths: &[u8], s: &mut [i16])
     requires { ⌜ (length (now pebbles) ≤ 256) × (length (now depths) ≡ length (now pebbles)) × (length (now s) ≡ 1280) ⌝ }
     ensures { λ _. ⌜ Placed (was pebbles) (was depths) (was s) (became s) (length (was pebbles)) ⌝ }
 {
@@ -18,4 +24,18 @@ pub fn place(pebbles: &[u8], depths: &[u8], s: &mut [i16])
         s[1024 + v] = depths[v] as i16;
         v += 1;
     }
+}
+
+// Tests the yard by refusals 1 to 7, and makes the state of one that passes.
+pub fn start(parents: &[u8], pebbles: &[u8], targets: &[u8], depths: &[u8], s: &mut [i16]) -> Done
+    requires { ⌜ length (now s) ≡ 1280 ⌝ }
+    ensures { λ r. ⌜ paperDone r ≡ matchedFault (given parents pebbles targets depths) ⌝ }
+    ensures { λ _. ⌜ (matchedFault (given parents pebbles targets depths) ≡ none → Kept (given parents pebbles targets depths) (became s)) ⌝ }
+{
+    let tested = matched_demands(parents, pebbles, targets, depths, s);
+    if let Done::Refused(r) = tested {
+        return Done::Refused(r);
+    }
+    place(pebbles, depths, s);
+    Done::Accepted
 }

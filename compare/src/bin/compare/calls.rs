@@ -8,6 +8,7 @@ use std::sync::atomic::{AtomicPtr, Ordering};
 use unrelated::cabinet::{self, Stepped};
 use unrelated::distance::Nearest;
 use unrelated::event::{happen, Event, Kept};
+use unrelated::parts::{self, Parted};
 use unrelated::yard::{total, Answer, Yard};
 use unrelated::{checker, demands, distance, fast, figures, library, planner, sheet, yard};
 
@@ -231,6 +232,41 @@ impl Caller {
             quick(&inputs, Ok(quick_list), &Ok(after.clone()))?;
         }
         self.same(&inputs, got, moves, lent.wrong(yard).or_else(|| list.wrong("plan", &after)))
+    }
+
+    /// The library's plan of a yard whose plan has so many bytes, for what must follow from it. Each of its bytes is compared by `plan`.
+    pub fn library_plan(&self, yard: &Yard, bytes: usize) -> Same<Vec<u8>> {
+        let inputs = Inputs { numbers: &[bytes], ..Inputs::of("plan", yard) };
+        let mut list = vec![0; bytes];
+        let got = during(&inputs, || library::plan(&yard.parents, &yard.pebbles, &yard.targets, &yard.depths, &mut list));
+        self.same(&inputs, got, Ok(bytes as u32 / 2), None)?;
+        Ok(list)
+    }
+
+    /// The plans of the parts, with a list of `room` bytes for them and one of this length for the parts. Gives back what both sides answer, with what they write
+    /// if they accept.
+    pub fn plan_parts(&self, yard: &Yard, room: usize, length: usize) -> Same<Answer<Parted>> {
+        let inputs = Inputs { numbers: &[room, length], ..Inputs::of("plan_parts", yard) };
+        let before = Parted { plan: unwritten(room), parts: unwritten(length) };
+        let lent = self.lend(yard);
+        let [mut list, mut tops] = [&before.plan, &before.parts].map(|list| self.lender.lend(list));
+        let got = during(&inputs, || {
+            let [parents, pebbles, targets, depths] = [&lent.parents, &lent.pebbles, &lent.targets, &lent.depths].map(Lent::list);
+            library::plan_parts(parents, pebbles, targets, depths, list.list_mut(), tops.list_mut())
+        });
+        let expected = parts::plan_parts(yard, room, length);
+        let mut after = before.clone();
+        if let Ok(Parted { plan, parts }) = &expected {
+            after.plan[..plan.len()].copy_from_slice(plan);
+            after.parts.copy_from_slice(parts);
+        }
+        let moves = expected.as_ref().map(|parted| parted.plan.len() as u32 / 2).map_err(|refusal| *refusal);
+        let mut quickly = before;
+        quick(&inputs, fast::plan_parts(&yard.parents, &yard.pebbles, &yard.targets, &yard.depths, &mut quickly.plan, &mut quickly.parts), &moves)?;
+        quick(&inputs, Ok(&quickly), &Ok(&after))?;
+        let wrong = lent.wrong(yard).or_else(|| list.wrong("plan", &after.plan));
+        self.same(&inputs, got, moves, wrong.or_else(|| tops.wrong("parts", &after.parts)))?;
+        Ok(expected)
     }
 
     /// An event on a yard and a list of demands, its own or not. Gives back what both sides answer, with what they leave if they accept.

@@ -2,7 +2,7 @@
 
 use crate::calls::{Caller, Same};
 use crate::worked::worked;
-use crate::{distances, events, sheets, steps};
+use crate::{distances, events, parts, sheets, steps};
 use unrelated::planner::{Choice, Turn};
 use unrelated::random::Random;
 use unrelated::shapes::{self, Shape};
@@ -12,7 +12,7 @@ use unrelated::{checker, damage, demands, figures, follow, library, planner, rep
 /// A family tries its cases and tells how many there were.
 pub type Family = fn(&Caller, Thin) -> Same<u64>;
 
-pub const FAMILIES: [(&str, Family); 36] = [
+pub const FAMILIES: [(&str, Family); 39] = [
     ("yards and examples of documents 01 and 02", |caller, _| worked(caller)),
     ("every tree up to 5 nodes of depth 1, all counts, by search", every_tree),
     ("every tree up to 4 nodes of small depths, all counts, by search", every_deep_tree),
@@ -43,6 +43,9 @@ pub const FAMILIES: [(&str, Family); 36] = [
     ("whole runs of steps, with stalls, stopped and started again", steps::whole_runs),
     ("runs of steps with anything altered between them", steps::any_runs),
     ("steps of plans about as long as a plan can be", steps::long_plans),
+    ("parts of every tree up to 5 nodes, small depths, all counts", parts::every_tree),
+    ("parts of yards to 256 nodes, many, few and one, mingled", parts::all_shapes),
+    ("parts of lists with faults, other part lists, any room", parts::damaged),
     ("sheets written and read, any room", sheets::written),
     ("sheets altered in one to three places", sheets::damaged),
     ("a small sheet with every byte changed, left out, put in", sheets::every_byte),
@@ -368,7 +371,8 @@ fn any_lists(caller: &Caller, yard: &Yard, random: &mut Random) -> Same {
     caller.push(yard, usize::from(from), usize::from(to))?;
     events::any_lists(caller, yard, random)?;
     distances::any_lists(caller, yard, random)?;
-    steps::any_lists(caller, yard, &plan, random)
+    steps::any_lists(caller, yard, &plan, random)?;
+    parts::any_lists(caller, yard, random)
 }
 
 /// All lists of these values up to a length.
@@ -528,7 +532,7 @@ fn pushes(caller: &Caller, thin: Thin) -> Same<u64> {
 fn no_address(_: &Caller, _: Thin) -> Same<u64> {
     use std::ptr::{null, null_mut};
     let (parents, one, zero) = ([0u8], [1u8], [0u8]);
-    let (mut pebbles, mut targets, mut bytes, mut distance) = (one, zero, 0, 0);
+    let (mut pebbles, mut targets, mut parts, mut bytes, mut distance) = (one, zero, zero, 0, 0);
     // A start, its finish asked for by the mask.
     let mut block = [1u8, 0, 0, 0, 0, 0, 0, 1, 0];
     // SAFETY: lengths are 0 where there is no address, else those of the arrays.
@@ -536,6 +540,7 @@ fn no_address(_: &Caller, _: Thin) -> Same<u64> {
         use library::raw::*;
         [
             ("plan", javendriky_plan(null(), 0, null(), 0, null(), 0, null(), 0, null_mut(), 0), 1_000_000),
+            ("plan_parts", javendriky_plan_parts(null(), 0, null(), 0, null(), 0, null(), 0, null_mut(), 0, null_mut(), 0), 1_000_000),
             ("test_yard", javendriky_test_yard(null(), 0, null(), 0, null(), 0, null(), 0), 1_000_000),
             ("demands", javendriky_demands(null(), 0, null(), 0, null(), 0, null(), 0, null_mut(), 0), 1_000_000),
             ("length_bound", javendriky_length_bound(null(), 0, null(), 0, null(), 0, null(), 0, &mut bytes), 1_000_000),
@@ -554,6 +559,16 @@ fn no_address(_: &Caller, _: Thin) -> Same<u64> {
             ("test_yard", javendriky_test_yard(parents.as_ptr(), 1, null(), 0, zero.as_ptr(), 1, one.as_ptr(), 1), 2_000_000),
             ("test_yard", javendriky_test_yard(parents.as_ptr(), 1, one.as_ptr(), 1, zero.as_ptr(), 1, null(), 0), 2_000_000),
             ("plan", javendriky_plan(parents.as_ptr(), 1, one.as_ptr(), 1, one.as_ptr(), 1, one.as_ptr(), 1, null_mut(), 0), 0),
+            (
+                "plan_parts",
+                javendriky_plan_parts(parents.as_ptr(), 1, one.as_ptr(), 1, one.as_ptr(), 1, one.as_ptr(), 1, null_mut(), 0, null_mut(), 0),
+                2_000_000,
+            ),
+            (
+                "plan_parts",
+                javendriky_plan_parts(parents.as_ptr(), 1, one.as_ptr(), 1, one.as_ptr(), 1, one.as_ptr(), 1, null_mut(), 0, parts.as_mut_ptr(), 1),
+                0,
+            ),
             ("demands", javendriky_demands(parents.as_ptr(), 1, one.as_ptr(), 1, one.as_ptr(), 1, one.as_ptr(), 1, null_mut(), 0), 2_000_000),
             (
                 "target_set",

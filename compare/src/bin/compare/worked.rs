@@ -7,6 +7,7 @@ use unrelated::cabinet::{self, Registers, Stepped, BLOCK_BYTES};
 use unrelated::checker::{check, push, trial, Checked, Tried, MAX_PLAN_BYTES};
 use unrelated::distance::{nearest, reach, Nearest};
 use unrelated::event::{happen, Event, Kept};
+use unrelated::parts::{plan_parts, Parted};
 use unrelated::planner::{plan, plan_by, Choice, Turn};
 use unrelated::random::Random;
 use unrelated::shapes::{far, Shape};
@@ -87,6 +88,13 @@ impl Worked<'_> {
     fn reach(&mut self, name: &str, yard: &Yard, length: usize, node: usize, within: u16, expected: Answer<&[u8]>) -> Same {
         self.is(name, reach(yard, length, node, within), expected.map(<[u8]>::to_vec))?;
         self.caller.reach(yard, length, node, within).map(drop)
+    }
+
+    /// The plans and the topmost nodes that are written into a list of so many bytes and one of this length.
+    fn plan_parts(&mut self, name: &str, yard: &Yard, room: usize, length: usize, expected: Answer<(&[u8], &[u8])>) -> Same {
+        let written = expected.map(|(plan, parts)| Parted { plan: plan.to_vec(), parts: parts.to_vec() });
+        self.is(name, plan_parts(yard, room, length), written)?;
+        self.caller.plan_parts(yard, room.min(MAX_PLAN_BYTES), length).map(drop)
     }
 
     /// What a step leaves: pebbles, block and line.
@@ -174,6 +182,7 @@ pub fn worked(caller: &Caller) -> Same<u64> {
     deep_nodes(&mut w)?;
     order_of_26_and_27(&mut w)?;
     longest_of_all(&mut w)?;
+    parts_by_hand(&mut w, &a, &a_plan)?;
 
     // The table of refusals, with H among them.
     let two = |pebbles: &[u8], targets: &[u8]| yard(&[0, 0], pebbles, targets);
@@ -584,4 +593,39 @@ fn longest_of_all(w: &mut Worked) -> Same {
     let printed = program(&sheet::unjudged(&line(128)));
     w.is("just not too long for it", report::judge(&line(128), &printed), Ok(()))?;
     w.is("its total", printed.ends_with(b"\ntotal\n32768\n"), true)
+}
+
+/// Request 2.11, each of its rules on a small yard.
+fn parts_by_hand(w: &mut Worked, a: &Yard, a_plan: &[u8]) -> Same {
+    w.plan_parts("A is one part", a, ANY, 5, Ok((a_plan, &[0; 5])))?;
+    w.plan_parts("D, two parts with no move", &yard(&[0, 0], &[1, 0], &[1, 0]), 0, 2, Ok((&[], &[0, 1])))?;
+    // One move in each of three parts: the sheet begins with the root's, node 0 is in the last.
+    let three = yard(&[4, 3, 1, 3, 3, 3], &[1, 1, 0, 1, 0, 0], &[0, 0, 1, 0, 1, 1]);
+    let (plan, parts) = (&[1, 2, 3, 5, 0, 4], &[4, 1, 1, 3, 4, 3]);
+    w.is("three parts, demands", demands::of_tree(&three), vec![-1, 0, 1, 0, 0, 1])?;
+    w.plan("three parts, the sheet", &three, ANY, Ok(&[3, 5, 1, 2, 0, 4]))?;
+    w.plan_parts("three parts", &three, ANY, 6, Ok((plan, parts)))?;
+    w.check("three parts mingled", &three, &[0, 4, 1, 2, 3, 5], Ok(Checked { moves: 3, excess: 0 }))?;
+    // The part of 2 hangs amid the root's, and in the sheet its move stands amid the root's too.
+    let amid = yard(&[0, 0, 1, 1, 3, 3, 2], &[0, 0, 1, 1, 1, 0, 0], &[1, 0, 0, 0, 0, 1, 1]);
+    w.plan("a part amid another, the sheet", &amid, ANY, Ok(&[3, 1, 1, 0, 2, 6, 4, 3, 3, 5]))?;
+    w.plan_parts("a part amid another", &amid, ANY, 7, Ok((&[3, 1, 1, 0, 4, 3, 3, 5, 2, 6], &[0, 0, 2, 0, 0, 0, 2])))?;
+    // Of two pebbles on a part's topmost node one goes down.
+    w.plan_parts("a deep part", &deep(&[0, 0, 1], &[1, 2, 0], &[1, 1, 1], &[1, 2, 1]), ANY, 3, Ok((&[1, 2], &[0, 1, 1])))?;
+
+    // Each refusal before the next: a circle, unequal totals, a part list of another length, a plan list without room for all parts.
+    w.plan_parts("parts, 6 before 7", &yard(&[0, 0, 0, 4, 3], &[0; 5], &a.targets), 0, 4, refuse(6, 3))?;
+    w.plan_parts("parts, 7 before 2", &yard(&a.parents, &[0; 5], &a.targets), 0, 4, refuse(7, 0))?;
+    // As many entries as nodes once the high bytes are lost, too.
+    for length in [0, 5, 7, 12, 256 + 6, 65_536 + 6] {
+        w.plan_parts("parts, 2", &three, 6, length, refuse(2, 0))?;
+        w.plan_parts("parts, 2 before 8", &three, 5, length, refuse(2, 0))?;
+    }
+    for room in 0..6 {
+        w.plan_parts("parts, 8 with the whole length", &three, room, 6, refuse(8, 3))?;
+    }
+    for room in [6, 7, 9] {
+        w.plan_parts("parts, room for all", &three, room, 6, Ok((plan, parts)))?;
+    }
+    Ok(())
 }

@@ -2,7 +2,8 @@
 -- has fewer nodes inside, so the height that bounds them falls (the laws are in Stretches, Siblings and Children).
 use native.Mathlib.Omega.{arith}
 use Prim.Native.Nat.{ℕ, _+_, _-_, _*_, _≤_, _<_}
-use mathlib.Core.Path.{_≡_}
+use mathlib.Core.Path.{_≡_, sym, _∙_}
+use mathlib.Core.Bool.{and-eq-true-iff}
 use mathlib.Core.List.{List}
 use lib.ListN.{length}
 use borrow.Author.Needs.{needs}
@@ -11,47 +12,48 @@ use borrow.Fn.PlainCycle.{Measures, is, falls, and}
 use Rattle.model.specs.Yard.{Yard}
 use Rattle.model.specs.Push.{run}
 use Rattle.laws.proofs.Trees.{Child}
-use Rattle.planner.specs.Balancing.{AskedEven}
+use Rattle.planner.specs.Balancing.{entered, AskedEven}
 use Rattle.serve.specs.Serving.{childrenFrom}
 use Rattle.serve.proofs.Looking.{node-small}
 use Rattle.serve.proofs.Stretches.{rest, back, made-length}
 use Rattle.serve.proofs.Siblings.{next-is, ahead, ahead-falls}
-use Rattle.planner.proofs.Children.{ChildrenLeft, LoopEnded, child-lower, child-asked, left-next, LeftFrom, left-first, left-last, left-child, left-here, left-behind, left-childless}
+use Rattle.planner.proofs.Children.{ChildrenLeft, LoopEnded, child-lower, child-asked, left-next, LeftFrom, left-first, left-last, left-child, left-here, left-behind, left-passed}
 use Rattle.planner.proofs.balance.balance_subtrees.Reads as tree
 use Rattle.planner.proofs.balance.balance_subtrees.Kinds as kinds
 use Rattle.planner.proofs.balance.+balance_subtrees.Lts-balance_subtrees as lts
 use Rattle.planner.proofs.balance.settle.Reads as settle
 use Rattle.serve.proofs.choose.wide.Reads as wide
+use Rattle.planner.proofs.balance.enters.Reads as enters
 use Rattle.planner.proofs.balance.+balance_subtrees.{statement}
 use Rattle.planner.proofs.balance.+balance_subtrees.Tie.{close}
 
-abbrev μ-tree : Measures 3 kinds.ps ℕ
-μ-tree κs a = a .1 .1 .1 .1 .0
+abbrev μ-tree : Measures 4 kinds.ps ℕ
+μ-tree κs a = a .1 .1 .1 .1 .1 .0
 
-abbrev tree-at : ℕ → In 3 kinds.ps
-tree-at n = and 3 kinds.ps (is 3 kinds.ps μ-tree n) tree.Pre
+abbrev tree-at : ℕ → In 4 kinds.ps
+tree-at n = and 4 kinds.ps (is 4 kinds.ps μ-tree n) tree.Pre
 
-abbrev tree-below : ℕ → In 3 kinds.ps
-tree-below n = and 3 kinds.ps (falls 3 kinds.ps _<_ μ-tree n) tree.Pre
+abbrev tree-below : ℕ → In 4 kinds.ps
+tree-below n = and 4 kinds.ps (falls 4 kinds.ps _<_ μ-tree n) tree.Pre
 
 abbrev claims : ℕ → lts.Claims
-claims n = (settle.Asked, settle.Learnt, wide.Asked, wide.Learnt, tree-below n, tree.Post)
+claims n = (settle.Asked, settle.Learnt, wide.Asked, wide.Learnt, enters.Asked, enters.Learnt, tree-below n, tree.Post)
 
 abbrev Inv-loop : lts.InvT-loop
-Inv-loop t s₀ plan₀ u height k₀ c₀ s plan k c = (y : Yard) (before : List ℕ) → LoopEnded y before t s₀ plan₀ k₀ u height → LeftFrom y u s before plan k c
+Inv-loop t s₀ plan₀ parts u height k₀ c₀ s plan k c = (y : Yard) (before : List ℕ) → LoopEnded y before t s₀ plan₀ k₀ u height → LeftFrom (entered parts) y u s before plan k c
 
 abbrev μ-loop : lts.MeasureT-loop
-μ-loop t s₀ plan₀ u height k₀ c₀ s plan k c = ahead u c
+μ-loop t s₀ plan₀ parts u height k₀ c₀ s plan k c = ahead u c
 
 module _ (n : ℕ) where
   settle-requires : lts.Need-settle-requires (claims n) (tree-at n) tree.Post Inv-loop μ-loop
-  settle-requires c κs = c .before .before .before .pre .1
+  settle-requires c κs = let p = c .before .before .before .before .pre .1 in (p .0, p .1)
 
   add-wide : lts.Need-add-wide (claims n) (tree-at n) tree.Post Inv-loop μ-loop
-  add-wide c = let a = c .before .before .before .before .before .before .pre .1 .1 in omega (arith, node-small (a .described) (a .node))
+  add-wide c = let a = c .before .before .before .before .before .before .before .pre .1 .1 in omega (arith, node-small (a .described) (a .node))
 
   element-copy-out-wide : lts.Need-element-copy-out-wide (claims n) (tree-at n) tree.Post Inv-loop μ-loop
-  element-copy-out-wide c = let a = c .before .before .before .before .before .before .pre .1 .1 in omega (arith, node-small (a .described) (a .node))
+  element-copy-out-wide c = let a = c .before .before .before .before .before .before .before .pre .1 .1 in omega (arith, node-small (a .described) (a .node))
 
   wide-requires : lts.Need-wide-requires (claims n) (tree-at n) tree.Post Inv-loop μ-loop
   wide-requires c κs = search needs
@@ -61,7 +63,7 @@ module _ (n : ℕ) where
 
   -- the call that a loop's head belongs to, and what its loop at u left
   abbrev call : lts.At-loop (claims n) (tree-at n) tree.Post Inv-loop μ-loop → lts.Start (claims n) (tree-at n) tree.Post Inv-loop μ-loop
-  call c = c .before .before .before .before .before .before .before .before .before
+  call c = c .before .before .before .before .before .before .before .before .before .before
 
   abbrev Ended : lts.At-loop (claims n) (tree-at n) tree.Post Inv-loop μ-loop → Yard → List ℕ → Type 0
   Ended c y before =
@@ -75,7 +77,7 @@ module _ (n : ℕ) where
   ended c y a = record { entry = _; asked = a; loop = c .before .before .before .before .before .settle .ensures y a }
 
   -- what is left at a loop's head, for the yard that the call asked for, and what was used of the list
-  left : (c : lts.At-loop (claims n) (tree-at n) tree.Post Inv-loop μ-loop) → LeftFrom (call c .pre .1 .0) (call c .args .u) (c .loop .s) (call c .args .plan .now) (c .loop .plan) (c .loop .k) (c .loop .c)
+  left : (c : lts.At-loop (claims n) (tree-at n) tree.Post Inv-loop μ-loop) → LeftFrom (entered (call c .args .parts .now)) (call c .pre .1 .0) (call c .args .u) (c .loop .s) (call c .args .plan .now) (c .loop .plan) (c .loop .k) (c .loop .c)
   left c = c .loop .inv _ _ (ended c _ (call c .pre .1 .1))
 
   used : (c : lts.At-loop (claims n) (tree-at n) tree.Post Inv-loop μ-loop) → (length (c .loop .plan) ≡ length (call c .args .plan .now)) × (2 * c .loop .k ≤ length (call c .args .plan .now))
@@ -97,18 +99,12 @@ module _ (n : ℕ) where
   wide-requires-2 : lts.Need-wide-requires-2 (claims n) (tree-at n) tree.Post Inv-loop μ-loop
   wide-requires-2 c κs = search needs
 
-  add-wide-3 : lts.Need-add-wide-3 (claims n) (tree-at n) tree.Post Inv-loop μ-loop
-  add-wide-3 c = omega (arith, small (c .before .before))
+  enters-requires : lts.Need-enters-requires (claims n) (tree-at n) tree.Post Inv-loop μ-loop
+  enters-requires c κs = let i = c .before .before in (small i, omega (arith, child i .lt, call (i .before) .pre .1 .2))
 
-  element-copy-out-wide-3 : lts.Need-element-copy-out-wide-3 (claims n) (tree-at n) tree.Post Inv-loop μ-loop
-  element-copy-out-wide-3 c = omega (arith, small (c .before .before))
-
-  wide-requires-3 : lts.Need-wide-requires-3 (claims n) (tree-at n) tree.Post Inv-loop μ-loop
-  wide-requires-3 c κs = search needs
-
-  -- a turn whose child has children itself
+  -- a turn whose child is entered
   abbrev turn : lts.Then1 (claims n) (tree-at n) tree.Post Inv-loop μ-loop → lts.In-loop (claims n) (tree-at n) tree.Post Inv-loop μ-loop
-  turn c = c .before .before .before .before .before
+  turn c = c .before .before .before .before
 
   mul-tree : lts.Need-mul-balance-subtrees (claims n) (tree-at n) tree.Post Inv-loop μ-loop
   mul-tree c = let l = turn (c .before) .before in omega (arith, used l, call l .good)
@@ -138,18 +134,19 @@ module _ (n : ℕ) where
   tree-requires c κs =
       let i = turn (c .before .before) in
       let p = call (i .before) .pre in
-      (omega (arith, p .0, child-lower (p .1 .1) (child i)), (_, asks i _ _ (ended (i .before) _ (p .1 .1))))
+      (omega (arith, p .0, child-lower (p .1 .1) (child i)), (_, asks i _ _ (ended (i .before) _ (p .1 .1)), p .1 .2))
 
   -- one child more
   stepped : (c : lts.After-balance-subtrees (claims n) (tree-at n) tree.Post Inv-loop μ-loop) (y : Yard) (before : List ℕ)
       → let l = turn (c .before .before .before) .before in
       Ended l y before
-      → ChildrenLeft y (call l .args .u) (c .balance-subtrees .last .1 .0) before (back (l .loop .plan) (l .loop .k) (c .balance-subtrees .last .1 .1 .0)) (l .loop .k + c .balance-subtrees .result) (childrenFrom (y .parents) (call l .args .u) (l .loop .c + 1))
+      → ChildrenLeft (entered (call l .args .parts .now)) y (call l .args .u) (c .balance-subtrees .last .1 .0) before (back (l .loop .plan) (l .loop .k) (c .balance-subtrees .last .1 .1 .0)) (l .loop .k + c .balance-subtrees .result) (childrenFrom (y .parents) (call l .args .u) (l .loop .c + 1))
   stepped c y before a =
-      let i = turn (c .before .before .before) in
+      let e = c .before .before .before in
+      let i = turn e in
       let l = i .before .loop .inv y before a in
       let d = i .loop-test .taken in
-      left-next (a .asked) (left-child (a .asked) l d) (left-here (a .asked) l d) (c .balance-subtrees .ensures _ (asks i y before a))
+      left-next (a .asked) (left-child (a .asked) l d) (left-here (a .asked) l d) (and-eq-true-iff _ _ .0 (sym (e .before .enters .ensures) ∙ e .if1 .taken) .0) (c .balance-subtrees .ensures _ (asks i y before a))
 
   add-k : lts.Need-add-k (claims n) (tree-at n) tree.Post Inv-loop μ-loop
   add-k c =
@@ -166,23 +163,23 @@ module _ (n : ℕ) where
       rw (c .wide2 .ensures .0) (ahead-falls (i .loop-test .taken) (small i) (next-is (call (i .before) .pre .1 .1 .described .tables) (child i)))
 
   loop-less : lts.Need-loop-less (claims n) (tree-at n) tree.Post Inv-loop μ-loop
-  loop-less c = falls-on (c .before .before .before .before .before .before .before .before)
+  loop-less c = falls-on (c .before .before .before .before .before .before .before)
 
   loop-again : lts.Need-loop-again (claims n) (tree-at n) tree.Post Inv-loop μ-loop
   loop-again c y before a =
       let m = c .before .before in
-      let w = m .before .before .before .before .before .before in
-      let i = w .before .before in
+      let i = turn (m .before .before .before) in
+      let w = m .before .before .before .before .before in
       left-behind (a .asked) (i .before .loop .inv y before a) (i .loop-test .taken) (w .wide2 .ensures .0) (stepped m y before a)
 
   loop-less-2 : lts.Need-loop-less-2 (claims n) (tree-at n) tree.Post Inv-loop μ-loop
-  loop-less-2 c = falls-on (c .before .before .before)
+  loop-less-2 c = falls-on (c .before .before)
 
   loop-again-2 : lts.Need-loop-again-2 (claims n) (tree-at n) tree.Post Inv-loop μ-loop
   loop-again-2 c y before a =
-      let w = c .before .before .before in
+      let w = c .before .before in
       let i = w .before .before in
-      left-childless (a .asked) (i .before .loop .inv y before a) (i .loop-test .taken) (w .wide2 .ensures .0) (omega (arith, c .before .wide3 .ensures .0))
+      left-passed (a .asked) (i .before .loop .inv y before a) (i .loop-test .taken) (w .wide2 .ensures .0) (sym (c .before .enters .ensures) ∙ c .if1 .left)
 
   same-length : lts.Need-same-length (claims n) (tree-at n) tree.Post Inv-loop μ-loop
   same-length c = used (c .before) .0
@@ -203,9 +200,7 @@ pub +balance-subtrees-spec : {M : Type 1} → statement M
     (add-wide-2 n)
     (element-copy-out-wide-2 n)
     (wide-requires-2 n)
-    (add-wide-3 n)
-    (element-copy-out-wide-3 n)
-    (wide-requires-3 n)
+    (enters-requires n)
     (mul-tree n)
     (sub-tree n)
     (part-tree-start n)

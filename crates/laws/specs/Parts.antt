@@ -1,0 +1,48 @@
+-- Request 2.11: what two pushers rely on who are handed the parts of a yard.
+use mathlib.Core.Path.{_≡_}
+use mathlib.Core.Bool.{Bool, cond, _&&_}
+use mathlib.Core.List.{List, [], _∷_}
+use Prim.Native.Nat.{ℕ, _<_}
+use lib.ListN.{length}
+use lib.Dec.{ltb, eqb}
+use Rattle.model.specs.Yard.{Yard, size, Matched}
+use Rattle.model.specs.Push.{Move}
+use Rattle.model.specs.Plan.{plan}
+use Rattle.model.specs.Parts.{topmost, inPart, partYard, partsPlan}
+use Rattle.model.specs.Calls.Answers.{answered}
+use Rattle.model.specs.Calls.Plans.{bytes}
+use Rattle.model.specs.Calls.Checks.{checkAnswer}
+
+-- a move lies in a part if both its nodes do
+abbrev pub liesIn : (ℕ → Bool) → Move → Bool
+liesIn p m = (p (m .from)) && (p (m .to))
+
+-- it lies in some part: its nodes are in the same one
+abbrev pub liesInOne : Yard → Move → Bool
+liesInOne y m = (ltb (m .from) (size y)) && (eqb (topmost y (m .from)) (topmost y (m .to)))
+
+-- the moves that pass a test, all others struck
+unfoldable pub kept : (Move → Bool) → List Move → List Move
+kept p [] = []
+kept p (m ∷ ms) = cond (p m) (m ∷ kept p ms) (kept p ms)
+
+-- t names a part: it is the topmost node of its own
+pub record Top (y : Yard) (t : ℕ) : Type 0 where
+  pub lt : t < size y
+  pub own : topmost y t ≡ t
+
+-- a mingling of the parts' plans that keeps each in order: every move lies in a part, and with all moves outside a part struck that part's plan is left
+pub record Mingling (y : Yard) (ms : List Move) : Type 0 where
+  pub lie : kept (liesInOne y) ms ≡ ms
+  pub parts : (t : ℕ) → Top y t → kept (liesIn (inPart y t)) ms ≡ plan (partYard y t)
+
+-- of every tree with as many pebbles as targets
+pub record TwoPushers (y : Yard) : Type 0 where
+  -- each part has as many pebbles as targets, and the parts' plans together are as long as the plan
+  pub matched : (t : ℕ) → Matched (partYard y t)
+  pub as-long : length (partsPlan y) ≡ length (plan y)
+  -- with all moves outside a part struck, the planner's sheet is that part's plan
+  pub struck : (t : ℕ) → kept (liesIn (inPart y t)) (plan y) ≡ plan (partYard y t)
+  -- every mingling is accepted by the checker with no excess (spare), and the call's own sheet is one
+  pub mingled : (ms : List Move) → Mingling y ms → checkAnswer y (bytes ms) ≡ answered (record { moves = length (plan y); excess = 0 })
+  pub own : Mingling y (partsPlan y)

@@ -1,0 +1,3 @@
+-- What the helpers of planning part by part promise one another (request 2.11).
+pub mod Naming
+pub mod Planning
