@@ -30,7 +30,7 @@
  *
  * Answers. Each call answers one number a:
  *   a < 1,000,000     accepted: a is the value, or 0 where the call has none
- *   a >= 1,000,000    refused: JAVENDRIKY_REFUSAL(a) is the refusal's number, 1 to 27, and JAVENDRIKY_PLACE(a) its place
+ *   a >= 1,000,000    refused: JAVENDRIKY_REFUSAL(a) is the refusal's number, 1 to 28, and JAVENDRIKY_PLACE(a) its place
  * A refused call alters nothing that was lent to it. Every content of the lists is allowed: what is wrong with them is refused. Where several
  * refusals are due, the first in the order that the call gives is answered. */
 #ifndef JAVENDRIKY_H
@@ -45,7 +45,7 @@ extern "C" {
 
 /* The version of these calls, which the library answers too. It is raised whenever a call is added, or gets further arguments or another
  * meaning under the same name, which requests to come will do: a program built with another header would still link. So compare the two once, before any other call. */
-#define JAVENDRIKY_VERSION 10
+#define JAVENDRIKY_VERSION 11
 
 /* The most nodes that a yard can have. */
 #define JAVENDRIKY_MAX_NODES 256
@@ -53,7 +53,7 @@ extern "C" {
 /* The most pebbles that a node can have room for. */
 #define JAVENDRIKY_MAX_DEPTH 8
 
-/* The most bytes that a plan can have for javendriky_check, javendriky_excess, javendriky_trial and javendriky_step: 131,072 moves. */
+/* The most bytes that a plan can have for javendriky_check, javendriky_excess, javendriky_wear, javendriky_trial and javendriky_step: 131,072 moves. */
 #define JAVENDRIKY_MAX_PLAN_BYTES 262144
 
 /* The bytes of the longest plan that javendriky_plan writes: no yard of n nodes needs more moves than eight times the whole part of n * n / 4, which is
@@ -98,6 +98,7 @@ extern "C" {
 #define JAVENDRIKY_NOT_IDLE 25       /* a start while the cabinet is running or stalled; place 0 */
 #define JAVENDRIKY_DEPTH_OUTSIDE 26  /* a depth is not 1 to 8; the lowest such node */
 #define JAVENDRIKY_ABOVE_DEPTH 27    /* an entry of pebbles, or else of targets, is above the node's depth; the lowest such node */
+#define JAVENDRIKY_WIDTH 28           /* a width of 0, or of more moves than the plan has; place 0 */
 
 /* The pusher cabinet's registers: a block of bytes, by their places; the commands, the states, and the bits of flags and mask. */
 #define JAVENDRIKY_BLOCK_BYTES 9
@@ -160,6 +161,7 @@ static inline const char *javendriky_refusal_text(uint32_t answer)
     case 25: return "the cabinet is not idle: let it finish, or stop it, before it is started";
     case 26: return "the named berth has a depth of 0 or above 8: write how many cars it has room for, from 1 to 8";
     case 27: return "the named berth has more cars, or more targets, than its depth: write no more than it has room for, or the depth that it really has";
+    case 28: return "the width is 0, or there are fewer moves in the plan: ask for a width from 1 to the number of moves";
     default: return "this refusal has no sentence in the header that the program was built with: build it with the library's own header";
     }
 }
@@ -306,6 +308,18 @@ uint32_t javendriky_excess(const uint8_t *parents, size_t parents_len,
                            const uint8_t *targets, size_t targets_len,
                            const uint8_t *depths, size_t depths_len,
                            const uint8_t *plan, size_t plan_len);
+
+/* Wear: how often one edge is crossed, either way, within `width` moves in a row. Writes nothing but its further values.
+ * Answers the most crossings of one edge within any such stretch of an accepted plan, which need not be shortest. Writes through `first` the number, from 0, of the first
+ * move of the first stretch that has as many, and through `edge` the lowest edge that has as many in it, by its lower node. With the whole of a plan of
+ * javendriky_plan as the one stretch it is the largest demand, its sign dropped (proved, as wear-planned in crates/laws/proofs). The time does not depend on the width.
+ * Refused as javendriky_check is, then with 28 for a width of 0 or of more moves than the plan has. */
+uint32_t javendriky_wear(const uint8_t *parents, size_t parents_len,
+                         const uint8_t *pebbles, size_t pebbles_len,
+                         const uint8_t *targets, size_t targets_len,
+                         const uint8_t *depths, size_t depths_len,
+                         const uint8_t *plan, size_t plan_len,
+                         uint32_t width, uint32_t *first, uint32_t *edge);
 
 /* Trial: obeys a plan from its first move until `budget` moves are taken or the plan ends.
  * Answers the number of moves taken, plus JAVENDRIKY_BUDGET_ENDED if moves of the plan are left. Where both end together the plan has ended, and

@@ -1,11 +1,12 @@
-//! Test, bound, displaced, events, nearest, reach, planner, plans of parts, checker, trial and the cabinet's step once more, written for speed: no list is asked
-//! for from the heap, each child names its next sibling, and each node keeps whose turn it is among its children. The benchmark sets the library beside these.
+//! Test, bound, displaced, events, nearest, reach, planner, plans of parts, checker, wear, trial and the cabinet's step once more, written for speed: no list is
+//! asked for from the heap, each child names its next sibling, and each node keeps whose turn it is among its children. The benchmark sets the library beside these.
 
 use crate::cabinet::{command, flag, status, BLOCK_BYTES};
 use crate::checker::{Tried, MAX_PLAN_BYTES};
 use crate::distance::Nearest;
 use crate::event::Event;
 use crate::figures::Length;
+use crate::wear::Wear;
 use crate::yard::{refuse, Answer, MAX_DEPTH, MAX_NODES};
 use std::mem::swap;
 
@@ -164,6 +165,20 @@ pub fn plan_parts(parents: &[u8], pebbles: &[u8], targets: &[u8], depths: &[u8],
 pub fn check(parents: &[u8], pebbles: &[u8], targets: &[u8], depths: &[u8], plan: &[u8]) -> Answer<()> {
     test_yard(parents, pebbles, targets, depths)?;
     check_on_tree(parents, pebbles, targets, depths, plan)
+}
+
+/// The refusals of a yard, 7, 9, 10 to 13 for each move, 14, 28; the crossings are counted while the moves are obeyed.
+pub fn wear(parents: &[u8], pebbles: &[u8], targets: &[u8], depths: &[u8], plan: &[u8], width: u32) -> Answer<Wear> {
+    test_yard(parents, pebbles, targets, depths)?;
+    let width = width as usize;
+    if width == 0 || width > plan.len() / 2 {
+        check_on_tree(parents, pebbles, targets, depths, plan)?;
+        return refuse(28, 0);
+    }
+    equal_totals(pebbles, targets)?;
+    let (after, wear) = obey_and_count(parents, pebbles, depths, whole_moves(plan)?, width)?;
+    targets_reached(&after, targets)?;
+    Ok(wear)
 }
 
 /// The refusals of a yard, 9, 10 to 13 for each move obeyed; writes the pebbles when all are accepted.
@@ -870,11 +885,22 @@ fn three_bytes(left: usize) -> [u8; 3] {
 
 /// Refusals 7, 9, 10 to 13 for each move, 14.
 fn check_on_tree(parents: &[u8], pebbles: &[u8], targets: &[u8], depths: &[u8], plan: &[u8]) -> Answer<()> {
+    equal_totals(pebbles, targets)?;
+    let after = obey(parents, pebbles, depths, whole_moves(plan)?)?;
+    targets_reached(&after, targets)
+}
+
+/// Refusal 7.
+fn equal_totals(pebbles: &[u8], targets: &[u8]) -> Answer<()> {
     let total = |counts: &[u8]| -> u32 { counts.iter().map(|&count| u32::from(count)).sum() };
     if total(pebbles) != total(targets) {
         return refuse(7, 0);
     }
-    let after = obey(parents, pebbles, depths, whole_moves(plan)?)?;
+    Ok(())
+}
+
+/// Refusal 14.
+fn targets_reached(after: &[u8; MAX_NODES], targets: &[u8]) -> Answer<()> {
     match after.iter().zip(targets).position(|(pebbles, targets)| pebbles < targets) {
         Some(node) => refuse(14, node),
         None => Ok(()),
@@ -886,13 +912,49 @@ fn obey(parents: &[u8], pebbles: &[u8], depths: &[u8], plan: &[u8]) -> Answer<[u
     // Copied, as any byte is a place in 256 entries.
     let (parent_of, depth_of, mut after) = (copy(parents), copy(depths), copy(pebbles));
     for (place, ends) in plan.chunks_exact(2).enumerate() {
-        if let Some(number) = unfit(parents.len(), &parent_of, &after, &depth_of, [ends[0], ends[1]]) {
-            return refuse(number, place);
-        }
-        after[usize::from(ends[0])] -= 1;
-        after[usize::from(ends[1])] += 1;
+        make_move(parents.len(), &parent_of, &depth_of, &mut after, place, ends)?;
     }
     Ok(after)
+}
+
+/// The same, and the wear of a plan that has a stretch of this width.
+///
+/// Each edge has a count of its crossings within the stretch, which goes on by a move at a time. Of the first stretch all counts are looked at. From then on only that
+/// of the edge whose move comes in can rise above the most so far, so a move costs the same however wide the stretch is.
+fn obey_and_count(parents: &[u8], pebbles: &[u8], depths: &[u8], plan: &[u8], width: usize) -> Answer<([u8; MAX_NODES], Wear)> {
+    let n = parents.len();
+    let (parent_of, depth_of, mut after) = (copy(parents), copy(depths), copy(pebbles));
+    let edge = |ends: &[u8]| usize::from(if parent_of[usize::from(ends[0])] == ends[1] { ends[0] } else { ends[1] });
+    let mut crossings = [0u32; MAX_NODES];
+    let (begin, rest) = plan.split_at(2 * width);
+    for (place, come) in begin.chunks_exact(2).enumerate() {
+        make_move(n, &parent_of, &depth_of, &mut after, place, come)?;
+        crossings[edge(come)] += 1;
+    }
+    let most = crossings.iter().fold(0, |most, &count| most.max(count));
+    let lowest = crossings.iter().position(|&count| count == most).unwrap_or(0);
+    let mut wear = Wear { crossings: most, first: 0, edge: lowest as u32 };
+    for (place, (come, gone)) in (width..).zip(rest.chunks_exact(2).zip(plan.chunks_exact(2))) {
+        make_move(n, &parent_of, &depth_of, &mut after, place, come)?;
+        crossings[edge(gone)] -= 1;
+        let come = edge(come);
+        crossings[come] += 1;
+        if crossings[come] > wear.crossings {
+            wear = Wear { crossings: crossings[come], first: (place + 1 - width) as u32, edge: come as u32 };
+        }
+    }
+    Ok((after, wear))
+}
+
+/// A move with this number that meets none of refusals 10 to 13.
+#[inline(always)]
+fn make_move(n: usize, parents: &[u8; MAX_NODES], depths: &[u8; MAX_NODES], pebbles: &mut [u8; MAX_NODES], place: usize, ends: &[u8]) -> Answer<()> {
+    if let Some(number) = unfit(n, parents, pebbles, depths, [ends[0], ends[1]]) {
+        return refuse(number, place);
+    }
+    pebbles[usize::from(ends[0])] -= 1;
+    pebbles[usize::from(ends[1])] += 1;
+    Ok(())
 }
 
 /// Which of refusals 10 to 13 a move on n nodes meets.

@@ -24,4 +24,5 @@ pub mod report;
 pub mod shapes;
 pub mod sheet;
 pub mod shortest;
+pub mod wear;
 pub mod yard;

@@ -4,10 +4,11 @@ use crate::checker::Tried;
 use crate::distance::Nearest;
 use crate::event::Event;
 use crate::figures::Length;
+use crate::wear::Wear;
 use crate::yard::{Answer, Refusal};
 
 /// The version of the calls that are declared here: JAVENDRIKY_VERSION of the header. A library of another version must not be called.
-pub const VERSION: u32 = 10;
+pub const VERSION: u32 = 11;
 
 /// What an accepted trial adds to the moves taken where the budget ended it.
 const BUDGET_ENDED: u32 = 500_000;
@@ -76,6 +77,10 @@ pub mod raw {
         pub fn javendriky_excess(
             parents: *const u8, parents_len: usize, pebbles: *const u8, pebbles_len: usize, targets: *const u8, targets_len: usize,
             depths: *const u8, depths_len: usize, plan: *const u8, plan_len: usize,
+        ) -> u32;
+        pub fn javendriky_wear(
+            parents: *const u8, parents_len: usize, pebbles: *const u8, pebbles_len: usize, targets: *const u8, targets_len: usize,
+            depths: *const u8, depths_len: usize, plan: *const u8, plan_len: usize, width: u32, first: *mut u32, edge: *mut u32,
         ) -> u32;
         pub fn javendriky_trial(
             parents: *const u8, parents_len: usize, pebbles: *mut u8, pebbles_len: usize, targets: *const u8, targets_len: usize,
@@ -240,6 +245,19 @@ pub fn excess(parents: &[u8], pebbles: &[u8], targets: &[u8], depths: &[u8], pla
             depths.as_ptr(), depths.len(), plan.as_ptr(), plan.len(),
         )
     })
+}
+
+/// First move and edge are written through the pointers, and a refusal leaves what is there.
+pub fn wear(
+    parents: &[u8], pebbles: &[u8], targets: &[u8], depths: &[u8], plan: &[u8], width: u32, [first, edge]: [&mut u32; 2],
+) -> Answer<Wear> {
+    let crossings = answer(unsafe {
+        raw::javendriky_wear(
+            parents.as_ptr(), parents.len(), pebbles.as_ptr(), pebbles.len(), targets.as_ptr(), targets.len(),
+            depths.as_ptr(), depths.len(), plan.as_ptr(), plan.len(), width, first, edge,
+        )
+    });
+    crossings.map(|crossings| Wear { crossings, first: *first, edge: *edge })
 }
 
 pub fn trial(parents: &[u8], pebbles: &mut [u8], targets: &[u8], depths: &[u8], plan: &[u8], budget: u16) -> Answer<Tried> {

@@ -10,6 +10,7 @@ use unrelated::event::{way, Event, Kept};
 use unrelated::figures::Length;
 use unrelated::random::Random;
 use unrelated::shapes::{far, far_parts, Shape};
+use unrelated::wear::Wear;
 use unrelated::yard::{having, Answer, Yard, MAX_DEPTH};
 use unrelated::{fast, library, planner};
 
@@ -119,6 +120,23 @@ fn trials(yard: &Yard, plan: &[u8]) -> Option<Times> {
         return None;
     }
     Some(measure(|| call(library::trial, &mut counts), || call(fast::trial, &mut plain_counts)))
+}
+
+/// The moves of a stretch; all where a plan has fewer.
+const WIDTH: usize = 64;
+
+fn wears(yard: &Yard, plan: &[u8]) -> Option<Times> {
+    let Yard { parents, pebbles, targets, depths } = yard;
+    type Call = fn(&[u8], &[u8], &[u8], &[u8], &[u8], u32) -> Answer<Wear>;
+    let width = WIDTH.min(plan.len() / 2) as u32;
+    let call = |call: Call| call(black_box(parents), black_box(pebbles), black_box(targets), black_box(depths), black_box(plan), black_box(width));
+    let library: Call =
+        |parents, pebbles, targets, depths, plan, width| library::wear(parents, pebbles, targets, depths, plan, width, [&mut 0, &mut 0]);
+    let answer = call(library);
+    if answer.is_err() || answer != call(fast::wear) {
+        return None;
+    }
+    Some(measure(|| call(library), || call(fast::wear)))
 }
 
 /// Of the nodes that are wanted the one farthest from the root, the last among equals.
@@ -269,6 +287,7 @@ fn all_calls(depth: u8) -> Option<f64> {
             ("plan", planned),
             ("plan_parts", parts(&yard)?.1),
             ("check", checks(&yard, &plan)?),
+            ("wear", wears(&yard, &plan)?),
             ("trial", trials(&yard, &plan)?),
             ("bound", figures(&yard, bound, fast::length_bound)?),
             ("displaced", figures(&yard, library::displaced, fast::displaced)?),
@@ -294,8 +313,9 @@ fn run() -> Option<f64> {
     println!("on both sides and within the time (256 bytes copied); its budget is 65,535 moves, fewer than the longest plans have. An event is");
     println!("a pebble's arrival at the node farthest from the root that has a place, or its leaving it. Nearest and reach are asked from the");
     println!("farthest node; the reach ends halfway between its nearest and its farthest pebble. A step obeys the plan's first move or takes it");
-    println!("back; the 9 bytes of its block are put back after both, within the time. 'Plain' is the same algorithm in safe Rust, with the same");
-    println!("tests first. 'Many parts' is plan_parts once more, on the same tree with the edge above every eighth node cut.\n");
+    println!("back; the 9 bytes of its block are put back after both, within the time. Wear is asked for within {WIDTH} moves. 'Plain' is the same");
+    println!("algorithm in safe Rust, with the same tests first. 'Many parts' is plan_parts once more, on the same tree with the edge above every");
+    println!("eighth node cut.\n");
     println!("256 nodes    depth  call        moves  library µs    plain µs   ratio");
     let highest = all_calls(1)?.max(all_calls(MAX_DEPTH)?);
     println!("\nPlan, time a move  nodes  depth   moves  library ns    plain ns   ratio");

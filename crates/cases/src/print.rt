@@ -7,6 +7,7 @@ use model::Measured;
 use model::Refusal;
 use model::Signalled;
 use model::Tried;
+use model::Worn;
 
 pub fn text(bytes: &[u8]) {
     io::write_all(1, bytes);
@@ -124,6 +125,17 @@ pub fn located(answer: Located) {
             figure(b" distance ", distance);
         }
         Located::Refused(r) => refused(r),
+    }
+}
+
+pub fn worn(answer: Worn) {
+    match answer {
+        Worn::Most(crossings, first, edge) => {
+            figure(b"crossings ", crossings);
+            figure(b" first ", first);
+            figure(b" edge ", edge);
+        }
+        Worn::Refused(r) => refused(r),
     }
 }
 

@@ -9,4 +9,5 @@ pub mod plans;
 pub mod sheets;
 pub mod steps;
 pub mod version;
+pub mod wears;
 pub mod yards;

@@ -44,6 +44,7 @@ pub mod Parts
 pub mod Mingling
 pub mod PartTurns
 pub mod PartsCall
+pub mod Wear
 pub mod Lines
 pub mod Sheets
 pub mod Report

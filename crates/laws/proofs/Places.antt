@@ -26,6 +26,9 @@ use Rattle.model.specs.Calls.Plans.{planTests, planFault, movesOf}
 use Rattle.model.specs.Parts.{partsPlan}
 use Rattle.model.specs.Calls.Parts.{partsTests, partsFault, partsAnswer}
 use Rattle.model.specs.Calls.Checks.{maxPlanBytes, bytesFault, movesFault, Verdict, checkTests, checkFault, checkAnswer, within, trialTests, trialFault, trialAnswer, trialInC}
+use Rattle.model.specs.Wear.{stretches, Wear, wear}
+use Rattle.model.specs.Calls.Wear.{wearTests, wearFault, wearAnswer}
+use Rattle.laws.specs.Wear.{Worst}
 use Rattle.model.specs.Sheets.{maxSheetBytes, yardSheet, readYard, reader, readAnswer, writeTests, writeFault, writeAnswer}
 use Rattle.laws.proofs.Basics.{All, one-le, all-below, none-all, unless-none}
 use Rattle.laws.proofs.Sums.{sum-mono, sum-scale, sum-le}
@@ -38,6 +41,7 @@ use Rattle.laws.proofs.Nearest.{nearest-none, nearest-is}
 use Rattle.laws.proofs.Demand3.{plan-length}
 use Rattle.laws.proofs.Displaced.{displaced-le}
 use Rattle.laws.proofs.PartTurns.{partsPlan-length}
+use Rattle.laws.proofs.Wear.{wearAt-le, wear-answer}
 use Rattle.laws.proofs.Sheets.{YardBytes, yardSheet-short, read-sizes, read-places}
 
 -- a refusal, if there is one, is of the table and has a small place
@@ -233,6 +237,27 @@ module _ (y : Yard) where
     pub excess-small : {a : Answer Verdict} → a ≡ checkAnswer y bs → Small (mapAnswer (λ v. v .excess) a)
     unfolding checkFault
     excess-small d = rw (d, map-answer) (small _ check-low (λ e. omega (arith, few-moves bs (none-all (checkTests y bs) e .1 .1 .0))))
+
+    -- the wear's three values
+    module _ (w : ℕ) where
+      wear-low : Low (wearFault y bs w)
+      unfolding wearFault
+      wear-low = all (wearTests y bs w) (check-low, (once ((ltb 0 w) && (leb w (length (movesOf bs)))) 28 0 (omega arith) (omega arith), tt))
+
+      worst : wearFault y bs w ≡ none → (length (movesOf bs) ≤ 131_072) × (size y ≤ 256) × Worst y w (movesOf bs) (stretches w (movesOf bs)) (wear y w (movesOf bs))
+      unfolding wearFault checkFault
+      worst e =
+          let q = none-all (checkTests y bs) (none-all (wearTests y bs w) e .0) in
+          (few-moves bs (q .1 .1 .0), facts y (q .0) .few .1, wear-answer y bs w (wear y w (movesOf bs)) (rw e) .2)
+
+      pub wear-small : Small (mapAnswer (λ (r : Wear). r .crossings) (wearAnswer y bs w))
+      wear-small = rw map-answer (small _ wear-low (λ e. let h = worst e in omega (arith, h .0, h .2 .attained, wearAt-le y w (movesOf bs) (wear y w (movesOf bs) .first) (wear y w (movesOf bs) .edge))))
+
+      pub wear-first-small : Small (mapAnswer (λ (r : Wear). r .first) (wearAnswer y bs w))
+      wear-first-small = rw map-answer (small _ wear-low (λ e. let h = worst e in omega (arith, h .0, h .2 .first-lt)))
+
+      pub wear-edge-small : Small (mapAnswer (λ (r : Wear). r .edge) (wearAnswer y bs w))
+      wear-edge-small = rw map-answer (small _ wear-low (λ e. let h = worst e in omega (arith, h .1, h .2 .edge-lt)))
 
   pub plan-small : (room : ℕ) → Small (answer (planFault y room) (length (plan y)))
   plan-small room = small _ (plan-low room) (λ e. let h = plan-none y room .0 e in plan-short (h .0) (h .1))

@@ -12,7 +12,7 @@ use lib.ListN.{length, take, replicate}
 use lib.IntN.{ℤ, pos, negsuc}
 use Rattle.model.specs.declared.Event.{Event}
 use Rattle.model.specs.declared.Event.the-variants.{PebbleArrives, PebbleLeaves, TargetSet, TargetCleared}
-use Rattle.model.specs.Yard.{Yard, yardOf, holding, sum, below, roots, climbs, inside, subtotal, sumℤ, Equation2, shortest}
+use Rattle.model.specs.Yard.{Yard, yardOf, holding, sum, below, roots, climbs, inside, subtotal, most, sumℤ, Equation2, shortest}
 use Rattle.model.specs.Judge.{Fault, row, fault, judge, matchedFault}
 use Rattle.model.specs.Push.{Move, push, moveFault, pushFault, legal, shifted, after, accepted, count}
 use Rattle.model.specs.Plan.{needy, lowestChild, greatest, neediestChild, choice, fills, inject, extract, turn, settle, each, balance, planWithin, planBy, plan}
@@ -26,6 +26,8 @@ use Rattle.model.specs.Calls.Plans.{bytes, movesOf, planFault, planAnswe
 use Rattle.model.specs.Parts.{climbed, topmost, tops, masked, partsPlan}
 use Rattle.model.specs.Calls.Parts.{partsFault, partsAnswer, partsPlanList, partsList}
 use Rattle.model.specs.Calls.Checks.{movesFault, Verdict, checkFault, checkAnswer, Trial, trialFault, trialAnswer, trialPebbles}
+use Rattle.model.specs.Wear.{wearAt, Wear, wearOver}
+use Rattle.model.specs.Calls.Wear.{wearFault, wearAnswer}
 use Rattle.model.specs.Calls.Registers.{blockOf, registersOf, bit, setBit, raised, registerFault, taskFault, stepFault, registersThen, pebblesThen, stepped}
 use Rattle.model.specs.Cabinet.{steps}
 use Rattle.model.specs.Sheets.{text, digits, decimal, stopBefore, line, lines, header, yardSheet, maxSheetBytes, judgedBytes, cut, same, value, field, readLine, readNodes, readYard, moveLines, edges, report, moveSheet, refusalSheet, program}
@@ -46,6 +48,8 @@ data Input : Type 0 where
   partsInto : ℕ → ℕ → Yard → Input
   checkOf : List ℕ → Yard → Input
   trialOf : List ℕ → ℕ → Yard → Input
+  -- the wear of a plan, within so many moves
+  wearOf : List ℕ → ℕ → Yard → Input
   -- pushes, one after another, each on the yard that the one before gave back
   pushesOf : List Move → Yard → Input
   printOf : String → Input
@@ -76,6 +80,7 @@ data Outcome : Type 0 where
   parted : Answer ℕ → List ℕ → List ℕ → Outcome
   checked : Answer Verdict → Outcome
   tried : Answer Trial → List ℕ → Outcome
+  worn : Answer Wear → Outcome
   left : List ℕ → Outcome
   measured : Answer Length → Outcome
   counted : Answer ℕ → Outcome
@@ -99,6 +104,7 @@ outcome (planInto n y) = planned (planAnswer y (replicate n 9)) (planList y (rep
 outcome (partsInto n k y) = let list : List ℕ = replicate n 9 in let parts : List ℕ = replicate k 9 in parted (partsAnswer y list parts) (partsPlanList y list parts) (partsList y list parts)
 outcome (checkOf bs y) = checked (checkAnswer y bs)
 outcome (trialOf bs budget y) = tried (trialAnswer y bs budget) (trialPebbles y bs budget)
+outcome (wearOf bs w y) = worn (wearAnswer y bs w)
 outcome (pushesOf ms y) = left (after y ms)
 outcome (printOf sheet) = printed (program (text sheet))
 outcome (boundOf y) = measured (boundAnswer y)
@@ -133,6 +139,17 @@ twoParts = yard (3 ∷ 3 ∷ 1 ∷ 3 ∷ []) (0 ∷ 2 ∷ []) (1 ∷ 3 ∷ [])
 -- two parts: 0 with 2, 4 and 5 below it, and 1 with 3 below it, which the planner comes to between two moves of the other
 between : Yard
 between = yard (0 ∷ 0 ∷ 0 ∷ 1 ∷ 2 ∷ 2 ∷ []) (2 ∷ 3 ∷ 4 ∷ []) (0 ∷ 1 ∷ 5 ∷ [])
+
+-- a pebble goes there and back, first over edge 1, then over edge 2
+star : Yard
+star = yard (0 ∷ 0 ∷ 0 ∷ []) (0 ∷ []) (2 ∷ [])
+
+thereAndBack : List ℕ
+thereAndBack = 0 ∷ 1 ∷ 1 ∷ 0 ∷ 0 ∷ 2 ∷ 2 ∷ 0 ∷ 0 ∷ 2 ∷ []
+
+-- so many crossings, from this move on, of this edge
+wears : ℕ → ℕ → ℕ → Outcome
+wears crossings first edge = worn (answered (record { crossings = crossings; first = first; edge = edge }))
 
 -- an event in yard A that is refused: the yard and the list stay
 keeps : Event → ℕ → List ℤ → ℕ → ℕ → Case
@@ -432,10 +449,25 @@ cases =
     ∷ (partsInto 0 3 (yard (0 ∷ 0 ∷ []) (0 ∷ []) (0 ∷ 1 ∷ [])) gives parted (refused (row 7 0)) [] (9 ∷ 9 ∷ 9 ∷ []))
     ∷ (partsInto 3 3 twoParts gives parted (refused (row 2 0)) (9 ∷ 9 ∷ 9 ∷ []) (9 ∷ 9 ∷ 9 ∷ []))
     ∷ (partsInto 3 4 twoParts gives parted (refused (row 8 2)) (9 ∷ 9 ∷ 9 ∷ []) (9 ∷ 9 ∷ 9 ∷ 9 ∷ []))
+    -- request 2.12. Yard B's plan crosses edge 2 and then edge 1; widths of 0 and above the number of moves, also of a plan without one; the checker speaks first
+    ∷ (wearOf planB 0 yardB gives worn (refused (row 28 0)))
+    ∷ (wearOf planB 1 yardB gives wears 1 0 2)
+    ∷ (wearOf planB 2 yardB gives wears 1 0 1)
+    ∷ (wearOf planB 3 yardB gives worn (refused (row 28 0)))
+    ∷ (wearOf [] 0 (yard (0 ∷ []) [] []) gives worn (refused (row 28 0)))
+    ∷ (wearOf [] 1 (yard (0 ∷ []) [] []) gives worn (refused (row 28 0)))
+    ∷ (wearOf (0 ∷ 1 ∷ []) 0 yardB gives worn (refused (row 13 0)))
+    ∷ (wearOf (0 ∷ 1 ∷ 1 ∷ []) 9 yardB gives worn (refused (row 9 0)))
+    -- each width of a plan that the planner did not make: crossings of both ways count, the first of equal stretches, the lowest of equal edges
+    ∷ (wearOf thereAndBack 1 star gives wears 1 0 1)
+    ∷ (wearOf thereAndBack 2 star gives wears 2 0 1)
+    ∷ (wearOf thereAndBack 3 star gives wears 3 2 2)
+    ∷ (wearOf thereAndBack 4 star gives wears 3 1 2)
+    ∷ (wearOf thereAndBack 5 star gives wears 3 0 2)
     ∷ []
 
 worked : map (λ (c : Case). outcome (c .input)) cases ≡ map (λ (c : Case). c .expected) cases
-unfolding twoParts between flatten climbed topmost tops masked partsPlan partsFault stepB refusesStep refusesB rounds blockOf registersOf bit setBit raised registerFault taskFault stepFault registersThen pebblesThen stepped steps near highRoot zeros nines anyOf reaches distance nearest nearestFault inReach reachFault demandsA siding placed occurs firstAt lastIn displaced demandsAfter eventFault leaves runLeaves keeps cases _gives_ outcome yard marks yardA yardB planB sum below roots climbs inside subtotal shortest judge moveFault pushFault legal shifted after accepted count needy lowestChild greatest neediestChild choice fills inject extract turn settle each balance planWithin planBy plan range demandsFault bytes movesOf planFault movesFault checkFault trialFault matchedFault text digits decimal stopBefore line lines header cut same value field readLine readNodes readYard moveLines edges report moveSheet refusalSheet program
+unfolding wearFault wearOver wearAt most star thereAndBack wears twoParts between flatten climbed topmost tops masked partsPlan partsFault stepB refusesStep refusesB rounds blockOf registersOf bit setBit raised registerFault taskFault stepFault registersThen pebblesThen stepped steps near highRoot zeros nines anyOf reaches distance nearest nearestFault inReach reachFault demandsA siding placed occurs firstAt lastIn displaced demandsAfter eventFault leaves runLeaves keeps cases _gives_ outcome yard marks yardA yardB planB sum below roots climbs inside subtotal shortest judge moveFault pushFault legal shifted after accepted count needy lowestChild greatest neediestChild choice fills inject extract turn settle each balance planWithin planBy plan range demandsFault bytes movesOf planFault movesFault checkFault trialFault matchedFault text digits decimal stopBefore line lines header cut same value field readLine readNodes readYard moveLines edges report moveSheet refusalSheet program
 worked = refl
 
 -- two pebbles start at node 1, and one at node 2: whichever is taken, pebble 1 may go the second time, and each has its own route

@@ -6,4 +6,5 @@ pub mod Distances
 pub mod Plans
 pub mod Parts
 pub mod Checks
+pub mod Wear
 pub mod Registers

@@ -6,6 +6,7 @@ pub mod Plan
 pub mod Follow
 pub mod Distance
 pub mod Parts
+pub mod Wear
 pub mod Calls
 pub mod Sheets
 pub mod Paper

@@ -4,7 +4,7 @@ use mathlib.Core.Bool.{Bool, true, false}
 use mathlib.Core.Option.{Option, none, some}
 use Prim.Native.Nat.{ℕ}
 use Rattle.model.specs.declared.Refusal.{Refusal}
-use Rattle.model.specs.declared.Refusal.the-variants.{NodeCount, ListLength, ParentOutside, Roots, Circle, Totals, ListTooShort, PlanLength, NoSuchNode, NotAdjacent, FromEmpty, ToFull, TargetEmpty, Header, LineShape, NodeNumber, ReaderList, NodeOutside, EventImpossible, NoPebble, StaleDemands, Register, NotIdle, Depth, AboveDepth}
+use Rattle.model.specs.declared.Refusal.the-variants.{NodeCount, ListLength, ParentOutside, Roots, Circle, Totals, ListTooShort, PlanLength, NoSuchNode, NotAdjacent, FromEmpty, ToFull, TargetEmpty, Header, LineShape, NodeNumber, ReaderList, NodeOutside, EventImpossible, NoPebble, StaleDemands, Register, NotIdle, Depth, AboveDepth, Width}
 use Rattle.model.specs.declared.Done.{Done}
 use Rattle.model.specs.declared.Counted.{Counted}
 use Rattle.model.specs.declared.Checked.{Checked}
@@ -12,11 +12,13 @@ use Rattle.model.specs.declared.Tried.{Tried}
 use Rattle.model.specs.declared.Measured.{Measured}
 use Rattle.model.specs.declared.Located.{Located}
 use Rattle.model.specs.declared.Signalled.{Signalled}
+use Rattle.model.specs.declared.Worn.{Worn}
 use Rattle.model.specs.Judge.{Fault, row}
 use Rattle.model.specs.Calls.Answers.{Answer, answered, refused}
 use Rattle.model.specs.Calls.Checks.{Verdict, Trial}
 use Rattle.model.specs.Calls.Demands.{Length}
 use Rattle.model.specs.Calls.Distances.{Nearest}
+use Rattle.model.specs.Wear.{Wear}
 
 abbrev pub paper : Refusal → Fault
 paper (NodeCount p) = row 1 p
@@ -44,6 +46,7 @@ paper (Register r) = row 24 r
 paper NotIdle = row 25 0
 paper (Depth v) = row 26 v
 paper (AboveDepth v) = row 27 v
+paper Width = row 28 0
 
 -- accepted, or the refusal
 abbrev pub paperDone : Done → Option Fault
@@ -75,6 +78,11 @@ paperMeasured (Measured.Refused r) = refused (paper r)
 abbrev pub paperLocated : Located → Answer Nearest
 paperLocated (Located.Node v d) = answered (record { node = v; distance = d })
 paperLocated (Located.Refused r) = refused (paper r)
+
+-- the crossings, the first move of the stretch and the edge, or the refusal
+abbrev pub paperWorn : Worn → Answer Wear
+paperWorn (Worn.Most crossings first edge) = answered (record { crossings = crossings; first = first; edge = edge })
+paperWorn (Worn.Refused r) = refused (paper r)
 
 -- whether the line is raised, or the refusal
 abbrev pub paperSignalled : Signalled → Answer Bool

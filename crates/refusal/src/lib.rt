@@ -32,6 +32,7 @@ pub fn number(r: Refusal) -> u32
         Refusal::NotIdle => 25,
         Refusal::Depth(_) => 26,
         Refusal::AboveDepth(_) => 27,
+        Refusal::Width => 28,
     }
 }
 
@@ -64,5 +65,6 @@ pub fn place(r: Refusal) -> usize
         Refusal::NotIdle => 0,
         Refusal::Depth(v) => v,
         Refusal::AboveDepth(v) => v,
+        Refusal::Width => 0,
     }
 }

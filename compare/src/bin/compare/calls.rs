@@ -9,6 +9,7 @@ use unrelated::cabinet::{self, Stepped};
 use unrelated::distance::Nearest;
 use unrelated::event::{happen, Event, Kept};
 use unrelated::parts::{self, Parted};
+use unrelated::wear::{wear_by, Count, Wear};
 use unrelated::yard::{total, Answer, Yard};
 use unrelated::{checker, demands, distance, fast, figures, library, planner, sheet, yard};
 
@@ -25,7 +26,7 @@ pub struct Inputs<'a> {
     pub demands: &'a [i16],
     /// The register block of a step.
     pub block: &'a [u8],
-    /// Lengths of lists to be written, budget, nodes that are asked for, reach, or whether a push failed.
+    /// Lengths of lists to be written, budget, width, nodes that are asked for, reach, or whether a push failed.
     pub numbers: &'a [usize],
 }
 
@@ -84,7 +85,7 @@ pub fn watch_pages() {
 }
 
 /// The number of the last refusal in the papers.
-pub const LAST_REFUSAL: usize = 27;
+pub const LAST_REFUSAL: usize = 28;
 /// Those that no input meets any more (requests 2.10 and 2.8).
 pub const UNUSED_REFUSALS: [usize; 2] = [3, 21];
 
@@ -353,6 +354,27 @@ impl Caller {
         let inputs = Inputs { call: "excess", ..inputs };
         let got = during(&inputs, || library::excess(lent.parents.list(), lent.pebbles.list(), lent.targets.list(), lent.depths.list(), list.list()));
         self.same(&inputs, got, expected.map(|checked| checked.excess), lent.wrong(yard).or_else(|| list.wrong("plan", plan)))
+    }
+
+    /// The wear of a plan, on this side by either count. Gives back what both sides answer.
+    pub fn wear(&self, count: Count, yard: &Yard, plan: &[u8], width: u32) -> Same<Answer<Wear>> {
+        let inputs = Inputs { bytes: plan, numbers: &[width as usize], ..Inputs::of("wear", yard) };
+        // No move and no edge have such a number, and none of their bytes is 0.
+        let before = [[3_000_000_001], [4_000_000_002]];
+        let lent = self.lend(yard);
+        let list = self.lender.lend(plan);
+        let [mut first, mut edge] = before.map(|number| self.lender.lend(&number));
+        let got = during(&inputs, || {
+            let [parents, pebbles, targets, depths] = [&lent.parents, &lent.pebbles, &lent.targets, &lent.depths].map(Lent::list);
+            library::wear(parents, pebbles, targets, depths, list.list(), width, [&mut first.list_mut()[0], &mut edge.list_mut()[0]])
+        });
+        let expected = wear_by(count, yard, plan, width);
+        quick(&inputs, fast::wear(&yard.parents, &yard.pebbles, &yard.targets, &yard.depths, plan, width), &expected)?;
+        let first_after = written(&before[0], &expected.map(|wear| vec![wear.first]));
+        let edge_after = written(&before[1], &expected.map(|wear| vec![wear.edge]));
+        let wrong = lent.wrong(yard).or_else(|| list.wrong("plan", plan)).or_else(|| first.wrong("first", &first_after));
+        self.same(&inputs, got, expected, wrong.or_else(|| edge.wrong("edge", &edge_after)))?;
+        Ok(expected)
     }
 
     pub fn trial(&self, yard: &Yard, plan: &[u8], budget: u16) -> Same {

@@ -2,17 +2,18 @@
 
 use crate::calls::{Caller, Same};
 use crate::worked::worked;
-use crate::{distances, events, parts, sheets, steps};
+use crate::{distances, events, parts, sheets, steps, wear};
 use unrelated::planner::{Choice, Turn};
 use unrelated::random::Random;
 use unrelated::shapes::{self, Shape};
+use unrelated::wear::every_stretch;
 use unrelated::yard::{Refusal, Yard, MAX_DEPTH};
 use unrelated::{checker, damage, demands, figures, follow, library, planner, report, sheet, shortest, yard};
 
 /// A family tries its cases and tells how many there were.
 pub type Family = fn(&Caller, Thin) -> Same<u64>;
 
-pub const FAMILIES: [(&str, Family); 39] = [
+pub const FAMILIES: [(&str, Family); 44] = [
     ("yards and examples of documents 01 and 02", |caller, _| worked(caller)),
     ("every tree up to 5 nodes of depth 1, all counts, by search", every_tree),
     ("every tree up to 4 nodes of small depths, all counts, by search", every_deep_tree),
@@ -46,6 +47,11 @@ pub const FAMILIES: [(&str, Family); 39] = [
     ("parts of every tree up to 5 nodes, small depths, all counts", parts::every_tree),
     ("parts of yards to 256 nodes, many, few and one, mingled", parts::all_shapes),
     ("parts of lists with faults, other part lists, any room", parts::damaged),
+    ("wear of the plan of every tree up to 5 nodes, every width", wear::every_tree),
+    ("wear of every plan of few moves on small trees, every width", wear::every_plan),
+    ("wear on up to 256 nodes, of the planner's plans and others", wear::all_shapes),
+    ("wear of plans about as long as a plan can be", wear::long_plans),
+    ("wear of plans and lists with faults, any width", wear::damaged),
     ("sheets written and read, any room", sheets::written),
     ("sheets altered in one to three places", sheets::damaged),
     ("a small sheet with every byte changed, left out, put in", sheets::every_byte),
@@ -372,7 +378,8 @@ fn any_lists(caller: &Caller, yard: &Yard, random: &mut Random) -> Same {
     events::any_lists(caller, yard, random)?;
     distances::any_lists(caller, yard, random)?;
     steps::any_lists(caller, yard, &plan, random)?;
-    parts::any_lists(caller, yard, random)
+    parts::any_lists(caller, yard, random)?;
+    wear::any_lists(caller, yard, &plan, random)
 }
 
 /// All lists of these values up to a length.
@@ -460,6 +467,7 @@ fn every_plan(caller: &Caller, thin: Thin) -> Same<u64> {
                     cases += 1;
                     caller.check(&yard, plan)?;
                     caller.trial(&yard, plan, (number % 4) as u16)?;
+                    caller.wear(every_stretch, &yard, plan, (number / 4 % 4) as u32).map(drop)?;
                 }
             }
         }
@@ -533,6 +541,7 @@ fn no_address(_: &Caller, _: Thin) -> Same<u64> {
     use std::ptr::{null, null_mut};
     let (parents, one, zero) = ([0u8], [1u8], [0u8]);
     let (mut pebbles, mut targets, mut parts, mut bytes, mut distance) = (one, zero, zero, 0, 0);
+    let (mut first, mut edge) = (0, 0);
     // A start, its finish asked for by the mask.
     let mut block = [1u8, 0, 0, 0, 0, 0, 0, 1, 0];
     // SAFETY: lengths are 0 where there is no address, else those of the arrays.
@@ -554,6 +563,7 @@ fn no_address(_: &Caller, _: Thin) -> Same<u64> {
             ("push", javendriky_push(null(), 0, null_mut(), 0, null(), 0, null(), 0, 0, 0), 1_000_000),
             ("check", javendriky_check(null(), 0, null(), 0, null(), 0, null(), 0, null(), 0), 1_000_000),
             ("excess", javendriky_excess(null(), 0, null(), 0, null(), 0, null(), 0, null(), 0), 1_000_000),
+            ("wear", javendriky_wear(null(), 0, null(), 0, null(), 0, null(), 0, null(), 0, 1, &mut first, &mut edge), 1_000_000),
             ("trial", javendriky_trial(null(), 0, null_mut(), 0, null(), 0, null(), 0, null(), 0, 0), 1_000_000),
             ("step", javendriky_step(null(), 0, null_mut(), 0, null(), 0, null(), 0, null(), 0, null_mut(), 0, 0), 1_000_000),
             ("test_yard", javendriky_test_yard(parents.as_ptr(), 1, null(), 0, zero.as_ptr(), 1, one.as_ptr(), 1), 2_000_000),
@@ -578,6 +588,11 @@ fn no_address(_: &Caller, _: Thin) -> Same<u64> {
             ("reach", javendriky_reach(parents.as_ptr(), 1, one.as_ptr(), 1, one.as_ptr(), 1, one.as_ptr(), 1, null_mut(), 0, 0, 0), 2_000_000),
             ("check", javendriky_check(parents.as_ptr(), 1, one.as_ptr(), 1, one.as_ptr(), 1, one.as_ptr(), 1, null(), 0), 0),
             ("excess", javendriky_excess(parents.as_ptr(), 1, one.as_ptr(), 1, one.as_ptr(), 1, one.as_ptr(), 1, null(), 0), 0),
+            (
+                "wear",
+                javendriky_wear(parents.as_ptr(), 1, one.as_ptr(), 1, one.as_ptr(), 1, one.as_ptr(), 1, null(), 0, 1, &mut first, &mut edge),
+                28_000_000,
+            ),
             (
                 "step",
                 javendriky_step(parents.as_ptr(), 1, pebbles.as_mut_ptr(), 1, one.as_ptr(), 1, one.as_ptr(), 1, null(), 0, null_mut(), 0, 0),

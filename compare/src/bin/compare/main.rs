@@ -12,6 +12,7 @@ mod lent;
 mod parts;
 mod sheets;
 mod steps;
+mod wear;
 mod worked;
 
 use calls::{watch_pages, Caller, UNUSED_REFUSALS};

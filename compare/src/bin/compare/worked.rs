@@ -12,6 +12,7 @@ use unrelated::planner::{plan, plan_by, Choice, Turn};
 use unrelated::random::Random;
 use unrelated::shapes::{far, Shape};
 use unrelated::sheet::{self, program, HEADER};
+use unrelated::wear::{every_stretch, wear, Wear};
 use unrelated::yard::{judge, refuse, Answer, Yard};
 use unrelated::{demands, figures, follow, report};
 
@@ -95,6 +96,13 @@ impl Worked<'_> {
         let written = expected.map(|(plan, parts)| Parted { plan: plan.to_vec(), parts: parts.to_vec() });
         self.is(name, plan_parts(yard, room, length), written)?;
         self.caller.plan_parts(yard, room.min(MAX_PLAN_BYTES), length).map(drop)
+    }
+
+    /// The crossings, the first move and the edge that the wear call gives.
+    fn wear(&mut self, name: &str, yard: &Yard, moves: &[u8], width: u32, expected: Answer<(u32, u32, u32)>) -> Same {
+        let due = expected.map(|(crossings, first, edge)| Wear { crossings, first, edge });
+        self.is(&format!("{name}, width {width}"), wear(yard, moves, width), due)?;
+        self.caller.wear(every_stretch, yard, moves, width).map(drop)
     }
 
     /// What a step leaves: pebbles, block and line.
@@ -183,6 +191,8 @@ pub fn worked(caller: &Caller) -> Same<u64> {
     order_of_26_and_27(&mut w)?;
     longest_of_all(&mut w)?;
     parts_by_hand(&mut w, &a, &a_plan)?;
+    wear_by_hand(&mut w, (&a, &a_plan), (&b, &b_plan))?;
+    order_of_28(&mut w)?;
 
     // The table of refusals, with H among them.
     let two = |pebbles: &[u8], targets: &[u8]| yard(&[0, 0], pebbles, targets);
@@ -588,6 +598,9 @@ fn longest_of_all(w: &mut Worked) -> Same {
     w.is("the figure for 256", figures::longest_plan(256), Ok(131_072))?;
     w.check("the longest plan", &longest, &moves, Ok(Checked { moves: 131_072, excess: 0 }))?;
     w.plan("a byte too few", &longest, 262_143, refuse(8, 131_072))?;
+    // The edge amid the line is crossed by all pebbles.
+    w.wear("the longest plan", &longest, &moves, 131_072, Ok((1_024, 0, 128)))?;
+    w.wear("the longest plan", &longest, &moves, 131_073, refuse(28, 0))?;
     w.printed("too long for the program", &longest, &["refusal place", "8 131072"])?;
     w.printed("a little too long for it", &line(129), &["refusal place", "8 33280"])?;
     let printed = program(&sheet::unjudged(&line(128)));
@@ -628,4 +641,63 @@ fn parts_by_hand(w: &mut Worked, a: &Yard, a_plan: &[u8]) -> Same {
         w.plan_parts("parts, room for all", &three, room, 6, Ok((plan, parts)))?;
     }
     Ok(())
+}
+
+/// Request 2.12, each of its rules on a small yard.
+fn wear_by_hand(w: &mut Worked, (a, a_plan): (&Yard, &[u8]), (b, b_plan): (&Yard, &[u8])) -> Same {
+    for width in 1..=4 {
+        w.wear("A, each edge once", a, a_plan, width, Ok((1, 0, 1)))?;
+    }
+    // Edge 2 is crossed first, but within both moves 1 is the lowest.
+    for (width, expected) in [(0, refuse(28, 0)), (1, Ok((1, 0, 2))), (2, Ok((1, 0, 1))), (3, refuse(28, 0))] {
+        w.wear("B", b, b_plan, width, expected)?;
+    }
+    // A star, and the edges that are crossed: 1 1 2 2 2.
+    let star = |target: usize| yard(&[0, 0, 0], &[1, 0, 0], &Vec::from_iter((0..3).map(|node| u8::from(node == target))));
+    let there_and_on = [0, 1, 1, 0, 0, 2, 2, 0, 0, 2];
+    for (width, expected) in [(1, (1, 0, 1)), (2, (2, 0, 1)), (3, (3, 2, 2)), (4, (3, 1, 2)), (5, (3, 0, 2))] {
+        w.wear("a star", &star(2), &there_and_on, width, Ok(expected))?;
+    }
+    // 2 2 1 1: the first stretch comes before the lowest edge.
+    let both = [0, 2, 2, 0, 0, 1, 1, 0];
+    for (width, expected) in [(1, (1, 0, 2)), (2, (2, 0, 2)), (3, (2, 0, 2)), (4, (2, 0, 1))] {
+        w.wear("a star, both ways", &star(0), &both, width, Ok(expected))?;
+    }
+    // The same with the root at 2, so that there is an edge 0: 1 1 0 0.
+    let last = yard(&[2, 2, 2], &[0, 0, 1], &[0, 0, 1]);
+    for (width, expected) in [(1, (1, 0, 1)), (2, (2, 0, 1)), (3, (2, 0, 1)), (4, (2, 0, 0))] {
+        w.wear("an edge 0", &last, &[2, 1, 1, 2, 2, 0, 0, 2], width, Ok(expected))?;
+    }
+    // Two pebbles over one edge.
+    let two = deep(&[0, 0], &[3, 0], &[1, 2], &[3, 2]);
+    for (width, expected) in [(1, (1, 0, 1)), (2, (2, 0, 1))] {
+        w.wear("deep nodes", &two, &[0, 1, 0, 1], width, Ok(expected))?;
+    }
+    Ok(())
+}
+
+/// What the checker refuses comes before 28, whatever the width. Then 28: 0, more than the moves, and such as would do once the high bytes are lost.
+fn order_of_28(w: &mut Worked) -> Same {
+    let two = |pebbles: &[u8], targets: &[u8]| yard(&[0, 0], pebbles, targets);
+    let (there, home) = (two(&[1, 0], &[0, 1]), two(&[1, 0], &[1, 0]));
+    let refused: [(&str, &Yard, &[u8], u32, usize); 8] = [
+        ("6 before 7", &yard(&[0, 2, 1], &[1, 0, 0], &[0; 3]), &[0, 1, 1], 6, 1),
+        ("7 before 9", &two(&[1, 0], &[1, 1]), &[0, 1, 1], 7, 0),
+        ("9 before 10", &there, &[2, 0, 1], 9, 0),
+        ("10 before 28", &there, &[0, 1, 1, 2], 10, 1),
+        ("11 before 28", &there, &[0, 1, 1, 1], 11, 1),
+        ("12 before 28", &there, &[0, 1, 0, 1], 12, 1),
+        ("13 before 28", &two(&[1, 1], &[1, 1]), &[0, 1], 13, 0),
+        ("14 before 28", &there, &[0, 1, 1, 0], 14, 1),
+    ];
+    for (name, yard, plan, number, place) in refused {
+        for width in [0, 1, 2, 3, u32::MAX] {
+            w.wear(&format!("wear, {name}"), yard, plan, width, refuse(number, place))?;
+        }
+    }
+    for width in [0, 3, 4, 1 << 16, 1 << 31, (1 << 8) + 1, (1 << 16) + 1, (1 << 31) + 1, u32::MAX] {
+        w.wear("wear, 28", &home, &[0, 1, 1, 0], width, refuse(28, 0))?;
+        w.wear("wear, 28 of no move", &home, &[], width, refuse(28, 0))?;
+    }
+    w.wear("wear, 28 of no move", &home, &[], 1, refuse(28, 0))
 }

@@ -85,6 +85,9 @@ enum-known-r-15 c = search needs
 enum-known-r-16 : tie.Need-enum-known-r-16
 enum-known-r-16 c = search needs
 
+enum-told-10 : tie.Need-enum-told-10
+enum-told-10 c = search needs
+
 returns : tie.Need-returns
 returns c = sym (ap told (c .before .r .given .1))
 
@@ -160,6 +163,9 @@ returns-24 c = sym (ap told (c .before .r15 .given .1))
 returns-25 : tie.Need-returns-25
 returns-25 c = sym (ap told (c .before .r16 .given .1))
 
+returns-26 : tie.Need-returns-26
+returns-26 c = sym (ap told (c .enum-told10 .given .1))
+
 pub place-spec : {M : Type 1} → statement M
 place-spec =
     tie.close
@@ -189,6 +195,7 @@ place-spec =
     enum-told-9
     enum-known-r-15
     enum-known-r-16
+    enum-told-10
     returns
     returns-2
     returns-3
@@ -213,4 +220,5 @@ place-spec =
     returns-22
     returns-23
     returns-24
-    returns-25)
+    returns-25
+    returns-26)

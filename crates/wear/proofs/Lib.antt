@@ -1,0 +1,2 @@
+-- Laws about counting within a stretch, beside the functions' proofs.
+pub mod Wearing
