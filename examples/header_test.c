@@ -9,7 +9,7 @@ static const char *text(uint32_t number, uint32_t place) { return javendriky_ref
 
 int main(void)
 {
-    const uint32_t last = JAVENDRIKY_ABOVE_DEPTH, unused[] = {3, 21};
+    const uint32_t last = JAVENDRIKY_WIDTH, unused[] = {3, 21};
     const uint8_t registers[JAVENDRIKY_BLOCK_BYTES] = {1, 1, 1, 1, 4, 3, 2, 1, 1};
     uint32_t a, b;
 

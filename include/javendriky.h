@@ -22,7 +22,7 @@
  * call writes overlaps no other list of that call. A list passed as const is only read. No call keeps a pointer, asks for memory, or has a state of
  * its own, so calls on different lists may run at the same time.
  *
- * Stack. No call needs more than 28 KiB of stack, which javendriky_plan and javendriky_plan_parts take on a line of 256 nodes; every other call needs at most 6 KiB (measured with the
+ * Stack. No call needs more than 36 KiB of stack, which javendriky_plan and javendriky_plan_parts take on a line of 256 nodes; every other call needs at most 6 KiB (measured with the
  * library that `rt staticlib` builds for x86-64).
  *
  * Numbers. A call with a further value writes it through a pointer to one uint32_t, which is never NULL and overlaps no list of the call. A refused call
@@ -98,7 +98,7 @@ extern "C" {
 #define JAVENDRIKY_NOT_IDLE 25       /* a start while the cabinet is running or stalled; place 0 */
 #define JAVENDRIKY_DEPTH_OUTSIDE 26  /* a depth is not 1 to 8; the lowest such node */
 #define JAVENDRIKY_ABOVE_DEPTH 27    /* an entry of pebbles, or else of targets, is above the node's depth; the lowest such node */
-#define JAVENDRIKY_WIDTH 28           /* a width of 0, or of more moves than the plan has; place 0 */
+#define JAVENDRIKY_WIDTH 28          /* a width of 0, or of more moves than the plan has; place 0 */
 
 /* The pusher cabinet's registers: a block of bytes, by their places; the commands, the states, and the bits of flags and mask. */
 #define JAVENDRIKY_BLOCK_BYTES 9

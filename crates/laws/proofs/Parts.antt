@@ -145,7 +145,7 @@ module _ (y : Yard) (t : Tree y) (m : Matched y) where
   pub part-matched : (s : ℕ) → Matched (partYard y s)
   part-matched s = struck-matched t (masked-struck (inPart y s) y t) (part-closed s) m
 
-  -- striking all moves outside a part from the planner's sheet leaves that part's plan
+  -- the planner's moves within a part are, in their order, the part's plan
   pub part-struck : (s : ℕ) → kept (liesIn (inPart y s)) (plan y) ≡ plan (partYard y s)
   part-struck s = plan-struck (inPart y s) y t m (part-closed s)
 

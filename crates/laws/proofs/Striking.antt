@@ -144,14 +144,8 @@ module _ (p : ℕ → Bool) where
         rw (kept-append (liesIn p) (ms ++ ns) ps, kept-append (liesIn p) ms ns) (next (first .1) (kids .1) (rw (kept-append (liesIn p) ms ns) at (rest .1))),
       )
 
--- the plan: no move of it goes from a node that passes to one that does not, and those of nodes that pass are the plan of the yard with the
--- marks of those nodes alone
-module _ (p : ℕ → Bool) (y : Yard) (t : Tree y) (m : Matched y) (o : Closed p y) where
-  both : All (OneSided p) (plan y) × Balances fills choice (masking p y) (root y ∷ []) (kept (liesIn p) (plan y))
-  both = balances-struck p (plan-balances y t m) t (root-fit y t m) o _ _ (masked-struck p y t)
-
-  pub plan-sided : All (OneSided p) (plan y)
-  plan-sided = both .0
-
-  pub plan-struck : kept (liesIn p) (plan y) ≡ plan (masking p y)
-  plan-struck = let k = masked-struck p y t in plan-only (masking p y) (struck-tree t k) (struck-matched t k o m) _ (both .1)
+-- the plan: its moves between nodes that pass are the plan of the yard with the marks of those nodes alone
+pub plan-struck : (p : ℕ → Bool) (y : Yard) → Tree y → Matched y → Closed p y → kept (liesIn p) (plan y) ≡ plan (masking p y)
+plan-struck p y t m o =
+    let k = masked-struck p y t in
+    plan-only (masking p y) (struck-tree t k) (struck-matched t k o m) _ (balances-struck p (plan-balances y t m) t (root-fit y t m) o _ _ k .1)
