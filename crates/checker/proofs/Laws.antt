@@ -54,7 +54,7 @@ alone : (f : Option Fault) → firstOf (f ∷ []) ≡ f
 alone none = refl
 alone (some f) = refl
 
-some-not : {f : Fault} {A : Type 0} → some f ≡ none → A
+pub some-not : {f : Fault} {A : Type 0} → some f ≡ none → A
 some-not e = let z : _≡_ {A = ℕ} 0 1 = cc in absurd (omega arith)
 
 -- refusal 9, by its test

@@ -149,7 +149,7 @@ pub record Crossed (y : Yard) (m : Move) : Type 0 where
   pub off-root : edgeOf y m ≢ root y
   pub once : (v : ℕ) → hits y m v ≡ one (eqb v (edgeOf y m))
 
-step-crossed : (y : Yard) (m : Move) → Step y m → Crossed y m
+pub step-crossed : (y : Yard) (m : Move) → Step y m → Crossed y m
 step-crossed y m s = record {
   from-lt = ends y m s .0;
   edge-lt = rw (edge-node y m s) (s .node-lt);
@@ -163,7 +163,7 @@ step-crossed y m s = record {
     go false true = refl
     go false false = refl
 
-pub obeys-crossed : {y z : Yard} {ms : List Move} (d : Move) → Obeys y ms z → (j : ℕ) → j < length ms → Crossed y (getD ms j d)
+obeys-crossed : {y z : Yard} {ms : List Move} (d : Move) → Obeys y ms z → (j : ℕ) → j < length ms → Crossed y (getD ms j d)
 obeys-crossed d Obeys.done j l = absurd (omega arith)
 obeys-crossed d (Obeys.next {y} {m = m} s o) zero l = step-crossed y m s
 obeys-crossed d (Obeys.next {y} {m = m} s o) (suc j) l = let c = obeys-crossed d o j (omega arith) in record { from-lt = c .from-lt; edge-lt = c .edge-lt; off-root = c .off-root; once = c .once }
@@ -198,6 +198,11 @@ pub wearAt-le : (y : Yard) (w : ℕ) (ms : List Move) (i v : ℕ) → wearAt y w
 unfolding wearAt
 wearAt-le y w ms i v = omega (arith, count-stretch (isUp y v) w i ms, count-stretch (isDown y v) w i ms, count-le (isUp y v) ms, count-le (isDown y v) ms)
 
+count-front : (p : Move → Bool) (ms : List Move) (d : Move) (w i : ℕ) → 0 < w → i < length ms → one (p (getD ms i d)) ≤ count p (stretch w ms i)
+unfolding count
+count-front p ms d zero i lw l = absurd (omega arith)
+count-front p ms d (suc w) i lw l = rw (drop-cons ms i d l) (omega arith)
+
 -- a stretch moved on by one: one move goes, and one comes in
 count-next : (p : Move → Bool) (ms : List Move) (d : Move) (w i : ℕ) → i + w < length ms
     → count p (stretch w ms (suc i)) + one (p (getD ms i d)) ≡ count p (stretch w ms i) + one (p (getD ms (i + w) d))
@@ -212,6 +217,10 @@ module _ (y : Yard) (w : ℕ) (ms : List Move) (d : Move) where
   unfolding wearAt
   wearAt-next i v l = omega (arith, count-next (isUp y v) ms d w i l, count-next (isDown y v) ms d w i l)
 
+  pub wearAt-front : (i v : ℕ) → 0 < w → i < length ms → hits y (getD ms i d) v ≤ wearAt y w ms i v
+  unfolding wearAt
+  wearAt-front i v lw l = omega (arith, count-front (isUp y v) ms d w i lw l, count-front (isDown y v) ms d w i lw l)
+
   -- the first stretch, move by move, and what it gives
   pub wearAt-more : (v : ℕ) → w < length ms → wearAt y (suc w) ms 0 v ≡ wearAt y w ms 0 v + hits y (getD ms w d) v
   unfolding wearAt count
@@ -221,61 +230,61 @@ module _ (y : Yard) (w : ℕ) (ms : List Move) (d : Move) where
   unfolding wearOver
   wear-start = rw (most-one (busiest y w ms), ← (lowest-is-it 1 (busiest y w ms) (busiest y w ms 0) 0 (omega arith) refl (λ v l. absurd (omega arith))))
 
--- from stretch to stretch
+-- from stretch to stretch, by the move that goes and the one that comes in
+module _ (y : Yard) (t : Tree y) (w : ℕ) (ms : List Move) (d : Move) (i : ℕ) (l : i + w < length ms) (goes : Crossed y (getD ms i d)) (comes : Crossed y (getD ms (i + w) d)) where
+  pub wearAt-slides : (v : ℕ) → wearAt y w ms (suc i) v + one (eqb v (edgeOf y (getD ms i d))) ≡ wearAt y w ms i v + one (eqb v (edgeOf y (getD ms (i + w) d)))
+  wearAt-slides v = omega (arith, wearAt-next y w ms d i v l, goes .once v, comes .once v)
+
+  -- only the edge of the move that comes in can have more crossings than before
+  pub wearAt-others : (v : ℕ) → v ≢ edgeOf y (getD ms (i + w) d) → wearAt y w ms (suc i) v ≤ wearAt y w ms i v
+  wearAt-others v n = omega (arith, wearAt-slides v, ap one (ne-eqb v (edgeOf y (getD ms (i + w) d)) n))
+
+  e : ℕ
+  e = edgeOf y (getD ms (i + w) d)
+
+  before : Worst y w ms (suc i) (wearOver y w ms (suc i))
+  before = wear-worst y w ms (suc i) (omega arith) (omega (arith, wood y t .root-lt))
+
+  others : (v : ℕ) → v < size y → v ≢ e → wearAt y w ms (suc i) v ≤ wearOver y w ms (suc i) .crossings
+  unfolding e
+  others v n q = omega (arith, wearAt-others v q, before .largest i v (omega arith) n)
+
+  -- the largest is that of the stretches before, or this edge's
+  largest-next : (c : ℕ) → wearOver y w ms (suc i) .crossings ≤ c → wearAt y w ms (suc i) e ≤ c → (j v : ℕ) → j < suc (suc i) → v < size y → wearAt y w ms j v ≤ c
+  largest-next c h g j v k n = go (ℕ-discrete j (suc i)) (ℕ-discrete v e)
+    where
+      go : Dec (j ≡ suc i) → Dec (v ≡ e) → wearAt y w ms j v ≤ c
+      go (no p) q = omega (arith, before .largest j v (omega arith) n)
+      go (yes p) (yes q) = rw (p, q) g
+      go (yes p) (no q) = rw p (omega (arith, others v n q))
+
+  -- so either nothing changes, or that edge has more than all before and is the answer from there on
+  pub wear-stays : wearAt y w ms (suc i) (edgeOf y (getD ms (i + w) d)) ≤ wearOver y w ms (suc i) .crossings → wearOver y w ms (suc (suc i)) ≡ wearOver y w ms (suc i)
+  unfolding e
+  wear-stays h = sym (wear-only y w ms (suc (suc i)) (wearOver y w ms (suc i)) (record {
+    first-lt = omega (arith, before .first-lt);
+    edge-lt = before .edge-lt;
+    attained = before .attained;
+    largest = largest-next _ (omega arith) h;
+    earliest = before .earliest;
+    lowest = before .lowest;
+  }))
+
+  pub wear-rises : wearOver y w ms (suc i) .crossings < wearAt y w ms (suc i) (edgeOf y (getD ms (i + w) d))
+      → wearOver y w ms (suc (suc i)) ≡ record { crossings = wearAt y w ms (suc i) (edgeOf y (getD ms (i + w) d)); first = suc i; edge = edgeOf y (getD ms (i + w) d) }
+  unfolding e
+  wear-rises h = sym (wear-only y w ms (suc (suc i)) _ (record {
+    first-lt = omega arith;
+    edge-lt = comes .edge-lt;
+    attained = refl;
+    largest = largest-next _ (omega arith) (omega arith);
+    earliest = λ j v k n. omega (arith, before .largest j v k n);
+    lowest = λ v k. omega (arith, others v (omega (arith, comes .edge-lt)) (omega arith));
+  }))
+
 module _ (y : Yard) (t : Tree y) (w : ℕ) (ms : List Move) (a : accepted y ms ≡ ms) (d : Move) where
-  pub crossed : (j : ℕ) → j < length ms → Crossed y (getD ms j d)
+  crossed : (j : ℕ) → j < length ms → Crossed y (getD ms j d)
   crossed = obeys-crossed d (accepted-obeys y t ms a)
-
-  module _ (i : ℕ) (l : i + w < length ms) where
-    pub wearAt-slides : (v : ℕ) → wearAt y w ms (suc i) v + one (eqb v (edgeOf y (getD ms i d))) ≡ wearAt y w ms i v + one (eqb v (edgeOf y (getD ms (i + w) d)))
-    wearAt-slides v = omega (arith, wearAt-next y w ms d i v l, crossed i (omega arith) .once v, crossed (i + w) l .once v)
-
-    -- only the edge of the move that comes in can have more crossings than before
-    pub wearAt-others : (v : ℕ) → v ≢ edgeOf y (getD ms (i + w) d) → wearAt y w ms (suc i) v ≤ wearAt y w ms i v
-    wearAt-others v n = omega (arith, wearAt-slides v, ap one (ne-eqb v (edgeOf y (getD ms (i + w) d)) n))
-
-    e : ℕ
-    e = edgeOf y (getD ms (i + w) d)
-
-    before : Worst y w ms (suc i) (wearOver y w ms (suc i))
-    before = wear-worst y w ms (suc i) (omega arith) (omega (arith, wood y t .root-lt))
-
-    others : (v : ℕ) → v < size y → v ≢ e → wearAt y w ms (suc i) v ≤ wearOver y w ms (suc i) .crossings
-    unfolding e
-    others v n q = omega (arith, wearAt-others v q, before .largest i v (omega arith) n)
-
-    -- the largest is that of the stretches before, or this edge's
-    largest-next : (c : ℕ) → wearOver y w ms (suc i) .crossings ≤ c → wearAt y w ms (suc i) e ≤ c → (j v : ℕ) → j < suc (suc i) → v < size y → wearAt y w ms j v ≤ c
-    largest-next c h g j v k n = go (ℕ-discrete j (suc i)) (ℕ-discrete v e)
-      where
-        go : Dec (j ≡ suc i) → Dec (v ≡ e) → wearAt y w ms j v ≤ c
-        go (no p) q = omega (arith, before .largest j v (omega arith) n)
-        go (yes p) (yes q) = rw (p, q) g
-        go (yes p) (no q) = rw p (omega (arith, others v n q))
-
-    -- so either nothing changes, or that edge has more than all before and is the answer from there on
-    pub wear-stays : wearAt y w ms (suc i) (edgeOf y (getD ms (i + w) d)) ≤ wearOver y w ms (suc i) .crossings → wearOver y w ms (suc (suc i)) ≡ wearOver y w ms (suc i)
-    unfolding e
-    wear-stays h = sym (wear-only y w ms (suc (suc i)) (wearOver y w ms (suc i)) (record {
-      first-lt = omega (arith, before .first-lt);
-      edge-lt = before .edge-lt;
-      attained = before .attained;
-      largest = largest-next _ (omega arith) h;
-      earliest = before .earliest;
-      lowest = before .lowest;
-    }))
-
-    pub wear-rises : wearOver y w ms (suc i) .crossings < wearAt y w ms (suc i) (edgeOf y (getD ms (i + w) d))
-        → wearOver y w ms (suc (suc i)) ≡ record { crossings = wearAt y w ms (suc i) (edgeOf y (getD ms (i + w) d)); first = suc i; edge = edgeOf y (getD ms (i + w) d) }
-    unfolding e
-    wear-rises h = sym (wear-only y w ms (suc (suc i)) _ (record {
-      first-lt = omega arith;
-      edge-lt = crossed (i + w) l .edge-lt;
-      attained = refl;
-      largest = largest-next _ (omega arith) (omega arith);
-      earliest = λ j v k n. omega (arith, before .largest j v k n);
-      lowest = λ v k. omega (arith, others v (omega (arith, crossed (i + w) l .edge-lt)) (omega arith));
-    }))
 
   wearAt-root : (i : ℕ) → wearAt y w ms i (root y) ≡ 0
   unfolding wearAt

@@ -1,31 +1,100 @@
--- Counting move by move: the first stretch grows by the edge of each move; from stretch to stretch one move comes in and one goes. Only the edge of the one that comes in
--- can be the worst (`wear-stays`, `wear-rises`).
-use mathlib.Core.Path.{_≡_, refl, sym, ap, _∙_, subst}
+-- Obeying and counting move by move: the first stretch grows by the edge of each move; from stretch to stretch one move comes in and one goes. Only the edge of the one that
+-- comes in can be the worst (`wear-stays`, `wear-rises`).
+use mathlib.Core.Path.{_≡_, refl, sym, ap, _∙_}
 use mathlib.Core.Logic.{_≢_}
-use mathlib.Core.List.{List}
-use mathlib.Core.Option.{none, some}
+use mathlib.Core.Bool.{true, false, _&&_, and-eq-true-iff}
+use mathlib.Core.List.{List, [], _∷_}
+use mathlib.Core.Option.{Option, none, some}
 use Prim.Native.Nat.{ℕ, zero, suc, _+_, _-_, _*_, _≤_, _<_}
 use native.Mathlib.Omega.{arith}
 use native.Mathlib.Decide.{ℕ-discrete}
 use lib.ListN.{length, getD, set, replicate, length-set, length-replicate}
 use lib.Seq.{getD-set-same, getD-set-other}
-use lib.Dec.{eqb}
-use borrow.Author.Tests.{lt-ltb, le-ltb, le-leb, lt-leb, eq-eqb, ne-eqb}
-use Rattle.model.specs.Yard.{Yard, size, up, one, most, headOr}
-use Rattle.model.specs.Judge.{Fault, row}
-use Rattle.model.specs.Push.{push, count}
+use lib.Dec.{eqb, leb, ltb}
+use borrow.Author.Tests.{ltb-true, leb-true, lt-ltb, le-leb, eq-eqb, ne-eqb}
+use Rattle.model.specs.Yard.{Yard, yardOf, size, up, one, most, headOr, holding}
+use Rattle.model.specs.Judge.{Fault, row, firstOf, Tree}
+use Rattle.model.specs.Push.{push, count, moveFault, after}
+use Rattle.model.specs.Push as Push
 use Rattle.model.specs.Wear.{wearAt, Wear, wearOver, wear, stretches}
-use Rattle.model.specs.Calls.Answers.{answered, refused}
+use Rattle.model.specs.Calls.Answers.{answer, answered, refused}
 use Rattle.model.specs.Calls.Plans.{movesOf}
-use Rattle.model.specs.Calls.Checks.{checkTests, checkFault}
+use Rattle.model.specs.Calls.Checks.{movesFault, checkFault}
 use Rattle.model.specs.Calls.Wear.{wearFault, wearAnswer}
-use Rattle.laws.proofs.Basics.{below-same, none-all}
+use Rattle.laws.proofs.Basics.{below-same}
 use Rattle.laws.proofs.Judged.{facts, wood}
-use Rattle.laws.proofs.Calls.{movesOf-half, move-at, totals-none}
-use Rattle.laws.proofs.Demand2.{checkFault-none}
-use Rattle.laws.proofs.Places.{few-moves}
-use Rattle.laws.proofs.Wear.{edgeOf, crossed, wearAt-le, wearAt-more, wearAt-slides, wear-start, wear-stays, wear-rises, most-cong, most-one, most-met, most-stays, most-rises, lowest-met, lowest-is-it}
-use Rattle.wear.specs.Wearing.{edgeIn, added, shifted, AskedWear, Entries, AskedShift, Busiest, AskedSlide, Slid}
+use Rattle.laws.proofs.Calls.{movesOf-half, move-at}
+use Rattle.laws.proofs.Step.{step}
+use Rattle.laws.proofs.Moves.{moveFault-legal}
+use Rattle.laws.proofs.Wear.{Crossed, step-crossed, edgeOf, wearAt-le, wearAt-front, wearAt-more, wearAt-slides, wear-start, wear-stays, wear-rises, most-cong, most-one, most-met, most-stays, most-rises, lowest-met, lowest-is-it}
+use Rattle.checker.proofs.Laws.{some-not, Left, left-none, left-refused, left-next}
+use Rattle.wear.specs.Wearing.{moveIn, edgeIn, taken, added, AskedWear, AskedShift, Busiest}
+
+-- the first i moves of a plan are obeyed, they have left the pebbles, and each crossed an edge
+pub record Obeying (y : Yard) (plan : List ℕ) (i : ℕ) (qs : List ℕ) : Type 0 where
+  pub left : Left y (movesOf plan) i qs
+  pub crossed : (j : ℕ) → j < i → Crossed y (getD (movesOf plan) j (push 0 0))
+
+pub obeying-first : (y : Yard) (plan : List ℕ) → Tree y → Obeying y plan 0 (y .pebbles)
+unfolding after
+obeying-first y plan t = record { left = (t, refl, refl); crossed = λ j l. absurd (omega arith) }
+
+module _ {y : Yard} {plan : List ℕ} {i : ℕ} {qs : List ℕ} (o : Obeying y plan i qs) where
+  pub obeying-long : (length qs ≡ length (y .parents)) × (length (y .depths) ≡ length (y .parents))
+  obeying-long = let f = facts _ (o .left .0) in (f .pebbles-size, f .depths-size)
+
+  pub obeying-last : length (movesOf plan) ≡ i → (none ≡ movesFault 0 y (movesOf plan)) × (qs ≡ after y (movesOf plan))
+  obeying-last e = left-none y (movesOf plan) i qs (o .left) e
+
+  module _ (l : i < length (movesOf plan)) where
+    here : getD (movesOf plan) i (push 0 0) ≡ moveIn plan i
+    here = move-at plan i (omega (arith, movesOf-half plan))
+
+    pub obeying-lt : 2 * i + 1 < length plan
+    obeying-lt = omega (arith, movesOf-half plan)
+
+    pub obeying-refused : (f : Fault) → moveFault (yardOf (y .parents) qs [] (y .depths)) (moveIn plan i) i ≡ some f → some f ≡ movesFault 0 y (movesOf plan)
+    obeying-refused f e = left-refused y (movesOf plan) i qs (o .left) (moveIn plan i) l here f i e refl .0
+
+    module _ (e : moveFault (yardOf (y .parents) qs [] (y .depths)) (moveIn plan i) i ≡ none) where
+      crosses : Crossed y (getD (movesOf plan) i (push 0 0))
+      unfolding moveFault
+      crosses =
+          let z = holding y qs in
+          let c = step-crossed z (moveIn plan i) (step z (moveIn plan i) (moveFault-legal z (o .left .0) (moveIn plan i) i .0 e)) in
+          rw here (record { from-lt = c .from-lt; edge-lt = c .edge-lt; off-root = c .off-root; once = c .once })
+
+      pub obeying-next : {new : List ℕ} → new ≡ Push.shifted qs (moveIn plan i) → Obeying y plan (i + 1) new
+      obeying-next n = record { left = rw n (left-next y (movesOf plan) i qs (o .left) (moveIn plan i) l here e); crossed = λ j k. go j k (ℕ-discrete j i) }
+        where
+          go : (j : ℕ) → j < i + 1 → Dec (j ≡ i) → Crossed y (getD (movesOf plan) j (push 0 0))
+          go j k (yes q) = rw q crosses
+          go j k (no d) = o .crossed j (omega arith)
+
+-- a move that was obeyed, and its edge
+module _ {y : Yard} {plan qs : List ℕ} {k : ℕ} (o : Obeying y plan k qs) (i : ℕ) (l : i < k) (m : i < length (movesOf plan)) where
+  that : getD (movesOf plan) i (push 0 0) ≡ moveIn plan i
+  that = move-at plan i (omega (arith, movesOf-half plan))
+
+  pub edge-asked : (2 * i + 1 < length plan) × (getD plan (2 * i) 0 < length (y .parents))
+  edge-asked = (omega (arith, movesOf-half plan), rw that at (o .crossed i l .from-lt))
+
+  pub edge-is : edgeIn (y .parents) plan i ≡ edgeOf y (getD (movesOf plan) i (push 0 0))
+  edge-is = rw that
+
+  pub edge-lt : edgeIn (y .parents) plan i < size y
+  edge-lt = rw edge-is (o .crossed i l .edge-lt)
+
+  pub edge-small : edgeIn (y .parents) plan i < 256
+  edge-small = omega (arith, edge-lt, facts _ (o .left .0) .few)
+
+-- the crossings of each edge within the stretch of w moves from move i on
+pub record Entries (y : Yard) (plan : List ℕ) (w i : ℕ) (counts : List ℕ) : Type 0 where
+  pub long : length counts ≡ 256
+  pub entries : (v : ℕ) → v < size y → getD counts v 0 ≡ wearAt y w (movesOf plan) i v
+
+pub entry-small : {y : Yard} {plan : List ℕ} {k i : ℕ} {counts : List ℕ} → length (movesOf plan) ≤ 131_072 → Entries y plan k i counts → (v : ℕ) → v < size y → getD counts v 0 ≤ 262_144
+entry-small {y} {plan} {k} {i} f e v l = omega (arith, e .entries v l, wearAt-le y k (movesOf plan) i v)
 
 -- one more, and one less, at an entry
 module _ (list : List ℕ) (u : ℕ) (l : u < length list) where
@@ -64,150 +133,172 @@ module _ (parents plan : List ℕ) (i : ℕ) {f t u : ℕ} (p : f ≡ getD plan 
   pub edge-down : u ≢ t → t ≡ edgeIn parents plan i
   edge-down d = rw (ne-eqb (up parents (getD plan (2 * i) 0)) (getD plan (2 * i + 1) 0) (λ e. d (sym parent-is ∙ e ∙ sym q))) q
 
-module _ {y : Yard} {parents plan : List ℕ} {w : ℕ} (a : AskedWear y parents plan w) where
-  -- a move of the plan, and its edge
-  module _ (i : ℕ) (l : i < length (movesOf plan)) where
-    at : getD (movesOf plan) i (push 0 0) ≡ push (getD plan (2 * i) 0) (getD plan (2 * i + 1) 0)
-    at = move-at plan i (omega (arith, movesOf-half plan))
+-- the first stretch, one move longer
+pub count-more : {y : Yard} {plan qs counts : List ℕ} {k e : ℕ} → Obeying y plan (k + 1) qs → Entries y plan k 0 counts → k < length (movesOf plan) → e ≡ edgeIn (y .parents) plan k
+    → Entries y plan (k + 1) 0 (added counts e)
+count-more {y} {plan} {counts = counts} {k} {e} o c l q = record {
+  long = length-set counts e (getD counts e 0 + 1) ∙ c .long;
+  entries = λ v m. omega (
+    arith,
+    one-more counts e (omega (arith, q, edge-small o k (omega arith) l, c .long)) v,
+    c .entries v m,
+    ap (λ (n : ℕ). wearAt y n (movesOf plan) 0 v) (k-next k),
+    wearAt-more y k (movesOf plan) (push 0 0) v l,
+    o .crossed k (omega arith) .once v,
+    ap (λ (x : ℕ). one (eqb v x)) (q ∙ edge-is o k (omega arith) l),
+  );
+}
+  where
+    k-next : (k : ℕ) → k + 1 ≡ suc k
+    k-next k = omega arith
 
-    pub move-in : (2 * i + 1 < length plan) × (getD plan (2 * i) 0 < length parents)
-    move-in = (omega (arith, movesOf-half plan), rw (a .parents-are) (rw at at (crossed y (a .tree) w (movesOf plan) (a .obeyed) (push 0 0) i l .from-lt)))
-
-    pub edge-is : edgeIn parents plan i ≡ edgeOf y (getD (movesOf plan) i (push 0 0))
-    edge-is = rw (a .parents-are, at)
-
-    pub edge-lt : edgeIn parents plan i < size y
-    edge-lt = rw edge-is (crossed y (a .tree) w (movesOf plan) (a .obeyed) (push 0 0) i l .edge-lt)
-
-  pub edge-small : (i : ℕ) → i < length (movesOf plan) → edgeIn parents plan i < 256
-  edge-small i l = omega (arith, edge-lt i l, facts y (a .tree) .few)
-
-  pub entry-small : {k i : ℕ} {counts : List ℕ} → Entries y plan k i counts → (v : ℕ) → v < size y → getD counts v 0 ≤ 262_144
-  entry-small {k} {i} e v l = omega (arith, e .entries v l, wearAt-le y k (movesOf plan) i v, a .few)
-
-  -- the first stretch, one move longer
-  pub count-more : {k e : ℕ} {counts : List ℕ} → Entries y plan k 0 counts → k < length (movesOf plan) → e ≡ edgeIn parents plan k → Entries y plan (k + 1) 0 (added counts e)
-  count-more {k} {e} {counts} c l q = record {
-    long = length-set counts e (getD counts e 0 + 1) ∙ c .long;
-    entries = λ v m. omega (
-      arith,
-      one-more counts e (omega (arith, q, edge-small k l, c .long)) v,
-      c .entries v m,
-      ap (λ (n : ℕ). wearAt y n (movesOf plan) 0 v) (k-next k),
-      wearAt-more y k (movesOf plan) (push 0 0) v l,
-      crossed y (a .tree) w (movesOf plan) (a .obeyed) (push 0 0) k l .once v,
-      ap (λ (x : ℕ). one (eqb v x)) (q ∙ edge-is k l),
-    );
-  }
-    where
-      k-next : (k : ℕ) → k + 1 ≡ suc k
-      k-next k = omega arith
-
-  -- and the next one
-  module _ {i e g : ℕ} {counts : List ℕ} (c : Entries y plan w i counts) (l : i + w < length (movesOf plan)) (p : e ≡ edgeIn parents plan (i + w)) (q : g ≡ edgeIn parents plan i) where
-    come-in : e < length counts
-    come-in = omega (arith, p, edge-small (i + w) l, c .long)
-
-    gone-in : g < length (added counts e)
-    gone-in = omega (arith, q, edge-small i (omega arith), c .long, length-set counts e (getD counts e 0 + 1))
-
-    slides : (v : ℕ) → wearAt y w (movesOf plan) (suc i) v + one (eqb v g) ≡ wearAt y w (movesOf plan) i v + one (eqb v e)
-    slides v = rw (q ∙ edge-is i (omega arith), p ∙ edge-is (i + w) l) (wearAt-slides y (a .tree) w (movesOf plan) (a .obeyed) (push 0 0) i l v)
-
-    left : 0 < getD (added counts e) g 0
-    left = omega (arith, one-more counts e come-in g, slides g, ap one (eq-eqb g g refl), c .entries g (omega (arith, q, edge-lt i (omega arith))))
-
-    pub shift-asked : AskedShift counts e g
-    shift-asked = record {
-      come-lt = omega (arith, p, edge-small (i + w) l);
-      gone-lt = omega (arith, q, edge-small i (omega arith));
-      small = entry-small c e (omega (arith, p, edge-lt (i + w) l));
-      some = left;
-    }
-
-    pub shift-entries : Entries y plan w (i + 1) (shifted counts e g)
-    shift-entries = record {
-      long = length-set (added counts e) g _ ∙ length-set counts e (getD counts e 0 + 1) ∙ c .long;
-      entries = λ v m. omega (arith, one-less (added counts e) g gone-in left v, one-more counts e come-in v, slides v, c .entries v m, ap (λ (n : ℕ). wearAt y w (movesOf plan) n v) i-next);
-    }
-      where
-        i-next : i + 1 ≡ suc i
-        i-next = omega arith
-
--- sliding has come to the stretch from move i on
-pub record Sliding (y : Yard) (plan : List ℕ) (w : ℕ) (counts : List ℕ) (crossings first edge i : ℕ) : Type 0 where
+-- the stretch from move i on is counted, and the worst so far is known
+pub record Sliding (y : Yard) (plan : List ℕ) (w : ℕ) (qs counts : List ℕ) (crossings first edge i : ℕ) : Type 0 where
   pub few : i + w ≤ length (movesOf plan)
+  pub obeying : Obeying y plan (i + w) qs
   pub entries : Entries y plan w i counts
   pub best : record { crossings = crossings; first = first; edge = edge } ≡ wearOver y w (movesOf plan) (suc i)
 
-module _ {y : Yard} {parents plan counts₀ : List ℕ} {w edge₀ : ℕ} (a : AskedSlide y parents plan counts₀ w edge₀) where
-  pub edge-first : edge₀ < 256
+module _ {y : Yard} {plan qs counts : List ℕ} {w edge : ℕ} (t : Tree y) (a : AskedWear plan w) (o : Obeying y plan w qs) (c : Entries y plan w 0 counts) (b : Busiest counts (size y) edge) where
+  pub edge-first : edge < 256
   edge-first =
-      let f : ℕ → ℕ = λ v. getD counts₀ v 0 in
-      let m = most-met f (size y) (omega (arith, wood y (a .asked .tree) .root-lt)) in
-      omega (arith, a .busiest .is, lowest-met (size y) f (most (size y) f) (m .0) (m .1) (m .2) .0, facts y (a .asked .tree) .few)
+      let f : ℕ → ℕ = λ v. getD counts v 0 in
+      let m = most-met f (size y) (omega (arith, wood y t .root-lt)) in
+      omega (arith, b .is, lowest-met (size y) f (most (size y) f) (m .0) (m .1) (m .2) .0, facts y t .few)
 
-  pub slide-first : Sliding y plan w counts₀ (getD counts₀ edge₀ 0) 0 edge₀ 0
+  pub slide-first : Sliding y plan w qs counts (getD counts edge 0) 0 edge 0
   slide-first = record {
-    few = omega (arith, a .asked .wide);
-    entries = a .entries;
+    few = omega (arith, a .wide);
+    obeying = let e : 0 + w ≡ w = omega arith in rw e o;
+    entries = c;
     best =
-        ap (λ (c : ℕ). record { crossings = c; first = 0; edge = edge₀ }) (a .busiest .greatest ∙ same)
-        ∙ ap (λ (x : ℕ). record { crossings = most (size y) g; first = 0; edge = x }) (a .busiest .is ∙ ap (headOr (size y)) (below-same (size y) _ _ (λ v l. rw (a .entries .entries v l, same))))
+        ap (λ (x : ℕ). record { crossings = x; first = 0; edge = edge }) (b .greatest ∙ same)
+        ∙ ap (λ (x : ℕ). record { crossings = most (size y) g; first = 0; edge = x }) (b .is ∙ ap (headOr (size y)) (below-same (size y) _ _ (λ v l. rw (c .entries v l, same))))
         ∙ sym (wear-start y w (movesOf plan) (push 0 0));
   }
     where
       g : ℕ → ℕ
       g = wearAt y w (movesOf plan) 0
 
-      same : most (size y) (λ v. getD counts₀ v 0) ≡ most (size y) g
-      same = most-cong (size y) (λ v. getD counts₀ v 0) g (a .entries .entries)
+      same : most (size y) (λ v. getD counts v 0) ≡ most (size y) g
+      same = most-cong (size y) (λ v. getD counts v 0) g (c .entries)
 
-  module _ {counts new : List ℕ} {crossings first edge i e g c : ℕ} (s : Sliding y plan w counts crossings first edge i) (l : i + w < length (movesOf plan)) (p : e ≡ edgeIn parents plan (i + w)) (q : g ≡ edgeIn parents plan i)
-      (n : new ≡ shifted counts e g) (k : c ≡ getD new e 0) where
-    entries-next : Entries y plan w (i + 1) new
-    entries-next = subst (Entries y plan w (i + 1)) (sym n) (shift-entries (a .asked) (s .entries) l p q)
+-- the next stretch, once its last move is obeyed
+module _ {y : Yard} {plan qs counts : List ℕ} {w i e g : ℕ} (t : Tree y) (a : AskedWear plan w) (o : Obeying y plan (i + w + 1) qs) (c : Entries y plan w i counts) (l : i + w < length (movesOf plan))
+    (p : e ≡ edgeIn (y .parents) plan (i + w)) (q : g ≡ edgeIn (y .parents) plan i) where
+  come-lt : e < size y
+  come-lt = omega (arith, p, edge-lt o (i + w) (omega arith) l)
 
-    next : i + 1 ≡ suc i
-    next = omega arith
+  gone-lt : g < size y
+  gone-lt = omega (arith, q, edge-lt o i (omega arith) (omega arith))
 
-    here : c ≡ wearAt y w (movesOf plan) (suc i) (edgeOf y (getD (movesOf plan) (i + w) (push 0 0)))
-    here =
-        k
-        ∙ entries-next .entries e (omega (arith, p, edge-lt (a .asked) (i + w) l))
+  nodes : size y ≤ length counts
+  nodes = omega (arith, facts y t .few, c .long)
+
+  come-is : e ≡ edgeOf y (getD (movesOf plan) (i + w) (push 0 0))
+  come-is = p ∙ edge-is o (i + w) (omega arith) l
+
+  gone-is : g ≡ edgeOf y (getD (movesOf plan) i (push 0 0))
+  gone-is = q ∙ edge-is o i (omega arith) (omega arith)
+
+  pub slides : (v : ℕ) → wearAt y w (movesOf plan) (suc i) v + one (eqb v g) ≡ wearAt y w (movesOf plan) i v + one (eqb v e)
+  slides v = rw (gone-is, come-is) (wearAt-slides y t w (movesOf plan) (push 0 0) i l (o .crossed i (omega arith)) (o .crossed (i + w) (omega arith)) v)
+
+  left : 0 < getD counts g 0
+  left = omega (
+    arith,
+    c .entries g gone-lt,
+    wearAt-front y w (movesOf plan) (push 0 0) i g (a .some) (omega arith),
+    o .crossed i (omega arith) .once g,
+    ap one (eq-eqb g (edgeOf y (getD (movesOf plan) i (push 0 0))) gone-is),
+  )
+
+  less : (v : ℕ) → getD (taken counts g) v 0 + one (eqb v g) ≡ getD counts v 0
+  less = one-less counts g (omega (arith, gone-lt, nodes)) left
+
+  more : (v : ℕ) → getD (added (taken counts g) e) v 0 ≡ getD (taken counts g) v 0 + one (eqb v e)
+  more = one-more (taken counts g) e (omega (arith, come-lt, nodes, length-set counts g (getD counts g 0 - 1)))
+
+  pub shift-asked : AskedShift counts e g
+  shift-asked = record {
+    come-lt = omega (arith, come-lt, nodes, c .long);
+    gone-lt = omega (arith, gone-lt, nodes, c .long);
+    some = left;
+    small = omega (arith, less e, entry-small (a .few) c e come-lt);
+  }
+
+  next : i + 1 ≡ suc i
+  next = omega arith
+
+  entries-next : Entries y plan w (i + 1) (added (taken counts g) e)
+  entries-next = record {
+    long = length-set (taken counts g) e _ ∙ length-set counts g _ ∙ c .long;
+    entries = λ v m. omega (arith, more v, less v, slides v, c .entries v m, ap (λ (n : ℕ). wearAt y w (movesOf plan) n v) next);
+  }
+
+  module _ {new : List ℕ} {crossings first edge k : ℕ} (b : record { crossings = crossings; first = first; edge = edge } ≡ wearOver y w (movesOf plan) (suc i))
+      (n : new ≡ added (taken counts g) e) (r : k ≡ getD (taken counts g) e 0 + 1) where
+    worst : ℕ
+    worst = wearAt y w (movesOf plan) (suc i) (edgeOf y (getD (movesOf plan) (i + w) (push 0 0)))
+
+    is-worst : k ≡ worst
+    unfolding worst
+    is-worst =
+        let at : k ≡ getD (added (taken counts g) e) e 0 = omega (arith, more e, ap one (eq-eqb e e refl)) in
+        at
+        ∙ entries-next .entries e come-lt
         ∙ ap (λ (n : ℕ). wearAt y w (movesOf plan) n e) next
-        ∙ ap (wearAt y w (movesOf plan) (suc i)) (p ∙ edge-is (a .asked) (i + w) l)
+        ∙ ap (wearAt y w (movesOf plan) (suc i)) come-is
 
     so-far : wearOver y w (movesOf plan) (suc i) .crossings ≡ crossings
-    so-far = sym (ap (λ (r : Wear). r .crossings) (s .best))
+    so-far = sym (ap (λ (r : Wear). r .crossings) b)
 
-    pub slide-stays : c ≤ crossings → Sliding y plan w new crossings first edge (i + 1)
+    obeying-on : Obeying y plan (i + 1 + w) qs
+    obeying-on = let e : i + 1 + w ≡ i + w + 1 = omega arith in rw e o
+
+    pub slide-stays : k ≤ crossings → Sliding y plan w qs new crossings first edge (i + 1)
+    unfolding worst
     slide-stays h = record {
       few = omega arith;
-      entries = entries-next;
-      best = s .best ∙ sym (wear-stays y (a .asked .tree) w (movesOf plan) (a .asked .obeyed) (push 0 0) i l (omega (arith, here, so-far))) ∙ ap (λ (n : ℕ). wearOver y w (movesOf plan) (suc n)) (sym next);
-    }
-
-    pub slide-rises : crossings < c → Sliding y plan w new c (i + 1) e (i + 1)
-    slide-rises h = record {
-      few = omega arith;
-      entries = entries-next;
+      obeying = obeying-on;
+      entries = rw n entries-next;
       best =
-          ap (λ (c : ℕ). record { crossings = c; first = i + 1; edge = e }) here
-          ∙ ap (λ (n : ℕ). record { crossings = worst; first = n; edge = e }) next
-          ∙ ap (λ (x : ℕ). record { crossings = worst; first = suc i; edge = x }) (p ∙ edge-is (a .asked) (i + w) l)
-          ∙ sym (wear-rises y (a .asked .tree) w (movesOf plan) (a .asked .obeyed) (push 0 0) i l (omega (arith, here, so-far)))
+          b
+          ∙ sym (wear-stays y t w (movesOf plan) (push 0 0) i l (o .crossed i (omega arith)) (o .crossed (i + w) (omega arith)) (omega (arith, is-worst, so-far)))
           ∙ ap (λ (n : ℕ). wearOver y w (movesOf plan) (suc n)) (sym next);
     }
-      where
-        worst : ℕ
-        worst = wearAt y w (movesOf plan) (suc i) (edgeOf y (getD (movesOf plan) (i + w) (push 0 0)))
 
-pub slide-last : {y : Yard} {plan counts : List ℕ} {w crossings first edge i : ℕ} → Sliding y plan w counts crossings first edge i → length (movesOf plan) ≤ i + w → Slid y plan w crossings first edge
-slide-last {y} {plan} {w = w} {i = i} s l = record { is = s .best ∙ ap (wearOver y w (movesOf plan)) last }
-  where
-    last : suc i ≡ stretches w (movesOf plan)
-    last = omega (arith, s .few)
+    pub slide-rises : crossings < k → Sliding y plan w qs new k (i + 1) e (i + 1)
+    unfolding worst
+    slide-rises h = record {
+      few = omega arith;
+      obeying = obeying-on;
+      entries = rw n entries-next;
+      best =
+          ap (λ (c : ℕ). record { crossings = c; first = i + 1; edge = e }) is-worst
+          ∙ ap (λ (n : ℕ). record { crossings = worst; first = n; edge = e }) next
+          ∙ ap (λ (x : ℕ). record { crossings = worst; first = suc i; edge = x }) come-is
+          ∙ sym (wear-rises y t w (movesOf plan) (push 0 0) i l (o .crossed i (omega arith)) (o .crossed (i + w) (omega arith)) (omega (arith, is-worst, so-far)))
+          ∙ ap (λ (n : ℕ). wearOver y w (movesOf plan) (suc n)) (sym next);
+    }
+
+slide-last : {y : Yard} {plan qs counts : List ℕ} {w crossings first edge i : ℕ} → Sliding y plan w qs counts crossings first edge i → length (movesOf plan) ≤ i + w
+    → (record { crossings = crossings; first = first; edge = edge } ≡ wear y w (movesOf plan)) × (none ≡ movesFault 0 y (movesOf plan)) × (qs ≡ after y (movesOf plan))
+slide-last {y} {plan} {w = w} {i = i} s l =
+    let last : suc i ≡ stretches w (movesOf plan) = omega (arith, s .few) in
+    let r = obeying-last (s .obeying) (omega (arith, s .few)) in
+    (s .best ∙ ap (wearOver y w (movesOf plan)) last, r .0, r .1)
+
+-- what obeying and counting answer, by a refused move or at the end
+module _ (y : Yard) (plan : List ℕ) (w : ℕ) {qs : List ℕ} where
+  pub worn-move : {f : Fault} → some f ≡ movesFault 0 y (movesOf plan)
+      → (refused f ≡ answer (movesFault 0 y (movesOf plan)) (wear y w (movesOf plan))) × (movesFault 0 y (movesOf plan) ≡ none → qs ≡ after y (movesOf plan))
+  worn-move e = (rw (← e), λ n. some-not (e ∙ n))
+
+  pub worn-end : {counts : List ℕ} {crossings first edge i : ℕ} → Sliding y plan w qs counts crossings first edge i → length (movesOf plan) ≤ i + w
+      → (answered (record { crossings = crossings; first = first; edge = edge }) ≡ answer (movesFault 0 y (movesOf plan)) (wear y w (movesOf plan)))
+      × (movesFault 0 y (movesOf plan) ≡ none → qs ≡ after y (movesOf plan))
+  worn-end s l = let r = slide-last s l in (rw (← (r .1)) (ap answered (r .0)), λ n. r .2)
 
 -- the scan for the busiest edge
 module _ (counts : List ℕ) where
@@ -234,27 +325,22 @@ module _ (counts : List ℕ) where
         next = omega arith
 
 -- the call: what decides its answer
+pub has-some : (bs : List ℕ) (w : ℕ) → (ltb 0 w) && (leb w (length (movesOf bs))) ≡ true → (0 < w) × (w ≤ length (movesOf bs))
+has-some bs w e = let b = and-eq-true-iff (ltb 0 w) (leb w (length (movesOf bs))) .0 e in (ltb-true 0 w (b .0), leb-true w (length (movesOf bs)) (b .1))
+
 module _ (y : Yard) (bs : List ℕ) (w : ℕ) where
+  pub worn-none : (ltb 0 w) && (leb w (length (movesOf bs))) ≡ false → checkFault y bs ≡ none → refused (row 28 0) ≡ wearAnswer y bs w
+  unfolding wearFault
+  worn-none b e = rw (e, b)
+
   pub worn-refused : (f : Fault) → checkFault y bs ≡ some f → refused f ≡ wearAnswer y bs w
   unfolding wearFault
   worn-refused f e = rw e
 
-  module _ (e : checkFault y bs ≡ none) where
-    pub worn-none : w ≡ 0 → refused (row 28 0) ≡ wearAnswer y bs w
-    unfolding wearFault
-    worn-none q = rw (e, le-ltb 0 w (omega arith))
-
-    pub worn-wide : length (movesOf bs) < w → refused (row 28 0) ≡ wearAnswer y bs w
-    unfolding wearFault
-    worn-wide l = rw (e, lt-ltb 0 w (omega arith), lt-leb w (length (movesOf bs)) l)
-
-    pub worn-is : 0 < w → w ≤ length (movesOf bs) → (r : Wear) → r ≡ wear y w (movesOf bs) → answered r ≡ wearAnswer y bs w
-    unfolding wearFault
-    worn-is h l r q = rw (e, lt-ltb 0 w h, le-leb w (length (movesOf bs)) l) (ap answered q)
-
-    pub asked-wear : w ≤ length (movesOf bs) → AskedWear y (y .parents) bs w
-    unfolding checkFault
-    asked-wear l =
-        let q = none-all (checkTests y bs) e in
-        let h = checkFault-none y (q .0) (totals-none y .0 (q .1 .0)) bs .0 e in
-        record { tree = q .0; parents-are = refl; obeyed = h .1; few = few-moves bs (h .0); wide = l }
+  pub worn-moves : 0 < w → w ≤ length (movesOf bs) → answer (checkFault y bs) (wear y w (movesOf bs)) ≡ wearAnswer y bs w
+  unfolding wearFault
+  worn-moves h l = rw (lt-ltb 0 w h, le-leb w (length (movesOf bs)) l) (go (checkFault y bs))
+    where
+      go : (f : Option Fault) → answer f (wear y w (movesOf bs)) ≡ answer (firstOf (f ∷ none ∷ [])) (wear y w (movesOf bs))
+      go none = refl
+      go (some f) = refl

@@ -1,17 +1,33 @@
-// How often edges are crossed within a stretch of a plan's moves.
+// How often edges are crossed within a stretch of a plan's moves, counted while the moves are obeyed.
 ghost use mathlib.Core.Path.{_≡_};
+ghost use mathlib.Core.Option.{none};
 ghost use Prim.Native.Nat.{_+_, _*_, _≤_, _<_};
 ghost use lib.ListN.{length, getD};
-ghost use Rattle.model.specs.Yard.{Yard};
-ghost use Rattle.model.specs.Given.{was, became};
-ghost use Rattle.wear.specs.Wearing.{edgeIn, shifted, AskedWear, Entries, Busiest, AskedShift, AskedSlide, Slid};
+ghost use Rattle.model.specs.Given.{given, handed, was, became};
+ghost use Rattle.model.specs.Judge.{Tree};
+ghost use Rattle.model.specs.Push.{moveFault, shifted, after};
+ghost use Rattle.model.specs.Wear as Wear;
+ghost use Rattle.model.specs.Calls.Answers.{answer, lent};
+ghost use Rattle.model.specs.Calls.Plans.{movesOf};
+ghost use Rattle.model.specs.Calls.Checks.{movesFault};
+ghost use Rattle.model.specs.Paper.{paperDone, paperWorn};
+ghost use Rattle.yard.specs.Given.{givenBare, Alike};
+ghost use Rattle.wear.specs.Wearing.{moveIn, edgeIn, taken, added, AskedWear, AskedShift, Busiest};
+use lists::copy::copy;
+use model::Done;
+use model::Worn;
 use serve::choose::wide;
+use yard::step::step;
 
-// The wear so far: the crossings, the first move of the stretch, and the edge.
-pub struct Worst {
-    pub crossings: usize,
-    pub first: usize,
-    pub edge: usize,
+// Makes move i of a plan, or refuses it.
+fn obey_move(parents: &[u8], pebbles: &mut [u8], depths: &[u8], plan: &[u8], i: usize) -> Done
+    requires { ⌜ Alike parents pebbles depths × (2 * i + 1 < length (now plan)) ⌝ }
+    ensures { λ r. ⌜ paperDone r ≡ moveFault (givenBare parents pebbles depths) (moveIn (was plan) i) i ⌝ }
+    ensures { λ r. ⌜ became pebbles ≡ lent (paperDone r) (shifted (was pebbles) (moveIn (was plan) i)) (was pebbles) ⌝ }
+{
+    let from = wide(plan[2 * i]);
+    let to = wide(plan[2 * i + 1]);
+    step(parents, pebbles, depths, from, to, i)
 }
 
 // The edge that move i crosses: that of the lower of its nodes.
@@ -27,79 +43,98 @@ fn edge_at(parents: &[u8], plan: &[u8], i: usize) -> usize
     to
 }
 
-// The crossings of each edge within the first moves, so many.
-pub fn count_first(parents: &[u8], plan: &[u8], width: usize) -> [usize; 256]
-    requires { ⌜ ((y : Yard) × AskedWear y (now parents) (now plan) width) ⌝ }
-    ensures { λ r. ⌜ ((y : Yard) → AskedWear y (was parents) (was plan) width → Entries y (was plan) width 0 r) ⌝ }
-{
-    let mut counts = [0usize; 256];
-    let mut i = 0;
-    while i < width {
-        let e = edge_at(parents, plan, i);
-        counts[e] += 1;
-        i += 1;
-    }
-    counts
-}
-
 // The lowest of the first n entries that are the greatest.
-pub fn busiest_edge(counts: &[usize; 256], n: usize) -> usize
+fn busiest_edge(counts: &[usize; 256], n: usize) -> usize
     requires { ⌜ (0 < n) × (n ≤ 256) ⌝ }
     ensures { λ r. ⌜ Busiest (was counts) n r ⌝ }
 {
     let mut best = 0;
+    let mut greatest = counts[0];
     let mut v = 1;
     while v < n {
         let w = v;
         v += 1;
-        if counts[best] < counts[w] {
+        if greatest < counts[w] {
             best = w;
+            greatest = counts[w];
         }
     }
     best
 }
 
-// One crossing more of the edge of the move that comes in, and one less of that of the move that goes. Answers how often the first is crossed then.
+// One crossing less of the edge of the move that goes, and one more of that of the move that comes in. Answers how often the latter is crossed then.
 fn shift(counts: &mut [usize; 256], come: usize, gone: usize) -> usize
     requires { ⌜ AskedShift (now counts) come gone ⌝ }
-    ensures { λ r. ⌜ (became counts ≡ shifted (was counts) come gone) × (r ≡ getD (became counts) come 0) ⌝ }
+    ensures { λ r. ⌜ (became counts ≡ added (taken (was counts) gone) come) × (r ≡ getD (taken (was counts) gone) come 0 + 1) ⌝ }
 {
-    counts[come] += 1;
     counts[gone] -= 1;
-    counts[come]
+    let crossings = counts[come] + 1;
+    counts[come] = crossings;
+    crossings
 }
 
-// Moves the stretch on by one move at a time, to the end of the plan. The edge of the move that comes in alone can be crossed more often than before, so only that
-// one is compared with the worst so far.
-pub fn slide(
+// Obeys a plan on the pebbles of a tree, and counts the crossings: those of the first stretch, then from stretch to stretch to the end of the plan. The edge of the move that
+// comes in alone can be crossed more often than before, so only that one is compared with the worst so far. A refusal is that of the first move that is refused.
+fn obey_and_count(
     parents: &[u8],
+    pebbles: &mut [u8],
+    targets: &[u8],
+    depths: &[u8],
     plan: &[u8],
-    counts: &mut [usize; 256],
     width: usize,
-    edge: usize,
-) -> Worst
-    requires { ⌜ ((y : Yard) × AskedSlide y (now parents) (now plan) (now counts) width edge) ⌝ }
-    ensures { λ r. ⌜ ((y : Yard) → AskedSlide y (was parents) (was plan) (was counts) width edge → Slid y (was plan) width (r .crossings) (r .first) (r .edge)) ⌝ }
+) -> Worn
+    requires { ⌜ Tree (handed parents pebbles targets depths) × AskedWear (now plan) width ⌝ }
+    ensures { λ r. ⌜ paperWorn r ≡ answer (movesFault 0 (given parents pebbles targets depths) (movesOf (was plan))) (Wear.wear (given parents pebbles targets depths) width (movesOf (was plan))) ⌝ }
+    ensures { λ r. ⌜ (movesFault 0 (given parents pebbles targets depths) (movesOf (was plan)) ≡ none → became pebbles ≡ after (given parents pebbles targets depths) (movesOf (was plan))) ⌝ }
 {
-    let moves = plan.len() / 2;
-    let mut most = counts[edge];
-    let mut first = 0;
-    let mut worst = edge;
+    let mut counts = [0usize; 256];
     let mut i = 0;
-    while i + width < moves {
-        let gone = edge_at(parents, plan, i);
-        let come = edge_at(parents, plan, i + width);
-        let crossings = shift(counts, come, gone);
+    while i < width {
+        let done = obey_move(parents, pebbles, depths, plan, i);
+        if let Done::Refused(r) = done {
+            return Worn::Refused(r);
+        }
+        let come = edge_at(parents, plan, i);
+        counts[come] += 1;
         i += 1;
+    }
+    let mut worst = busiest_edge(&counts, parents.len());
+    let mut most = counts[worst];
+    let mut first = 0;
+    let moves = plan.len() / 2;
+    let mut gone = 0;
+    while gone + width < moves {
+        let done = obey_move(parents, pebbles, depths, plan, gone + width);
+        if let Done::Refused(r) = done {
+            return Worn::Refused(r);
+        }
+        let come = edge_at(parents, plan, gone + width);
+        let crossings = shift(&mut counts, come, edge_at(parents, plan, gone));
+        gone += 1;
         if most < crossings {
             most = crossings;
-            first = i;
+            first = gone;
             worst = come;
         }
     }
-    Worst {
-        crossings: most,
-        first,
-        edge: worst,
-    }
+    Worn::Most(most, first, worst)
+}
+
+// The same, on a copy of the pebbles: `counts` is written, whatever it held.
+pub fn count_copy(
+    parents: &[u8],
+    pebbles: &[u8],
+    counts: &mut [u8],
+    targets: &[u8],
+    depths: &[u8],
+    plan: &[u8],
+    width: usize,
+) -> Worn
+    requires { ⌜ Tree (handed parents pebbles targets depths) × AskedWear (now plan) width ⌝ }
+    requires { ⌜ length (now counts) ≡ length (now pebbles) ⌝ }
+    ensures { λ r. ⌜ paperWorn r ≡ answer (movesFault 0 (given parents pebbles targets depths) (movesOf (was plan))) (Wear.wear (given parents pebbles targets depths) width (movesOf (was plan))) ⌝ }
+    ensures { λ r. ⌜ (movesFault 0 (given parents pebbles targets depths) (movesOf (was plan)) ≡ none → became counts ≡ after (given parents pebbles targets depths) (movesOf (was plan))) ⌝ }
+{
+    copy(pebbles, counts);
+    obey_and_count(parents, counts, targets, depths, plan, width)
 }

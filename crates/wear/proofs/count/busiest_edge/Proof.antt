@@ -1,24 +1,28 @@
 -- `wear::count::busiest_edge` meets its contract: the best so far stays unless an entry is greater (the laws are in Wearing).
-use mathlib.Core.Path.{_≡_}
+use mathlib.Core.Path.{_≡_, refl}
 use Prim.Native.Nat.{_-_, _≤_, _<_}
 use native.Mathlib.Omega.{arith}
+use lib.ListN.{getD}
 use Rattle.wear.specs.Wearing.{Busiest}
 use Rattle.wear.proofs.Wearing.{busy-first, busy-stays, busy-rises}
 use Rattle.wear.proofs.count.busiest_edge.Statement.{statement}
 use Rattle.wear.proofs.count.busiest_edge.Tie as tie
 
 abbrev Inv-loop : tie.InvT-loop
-Inv-loop counts n best₀ v₀ best v = (0 < v) × (v ≤ n) × (best < v) × Busiest counts v best
+Inv-loop counts n best₀ greatest₀ v₀ best greatest v = (0 < v) × (v ≤ n) × (greatest ≡ getD counts best 0) × Busiest counts v best
 
 abbrev μ-loop : tie.MeasureT-loop
-μ-loop counts n best₀ v₀ best v = n - v
+μ-loop counts n best₀ greatest₀ v₀ best greatest v = n - v
+
+element-copy-out-greatest : tie.Need-element-copy-out-greatest Inv-loop μ-loop
+element-copy-out-greatest c = omega arith
 
 loop-holds : tie.Need-loop-holds Inv-loop μ-loop
-loop-holds c = (omega arith, omega (arith, c .pre .0), omega arith, busy-first _)
+loop-holds c = (omega arith, omega (arith, c .before .pre .0), refl, busy-first _)
 
 -- the node at hand
-few : (c : tie.In-loop Inv-loop μ-loop) → (c .before .loop .v < c .before .before .args .n) × (c .before .before .args .n ≤ 256) × (c .before .loop .best < c .before .loop .v)
-few c = (c .loop-test .taken, c .before .before .pre .1, c .before .loop .inv .2)
+few : (c : tie.In-loop Inv-loop μ-loop) → (c .before .loop .v < c .before .before .before .args .n) × (c .before .before .before .args .n ≤ 256)
+few c = (c .loop-test .taken, c .before .before .before .pre .1)
 
 add-v : tie.Need-add-v Inv-loop μ-loop
 add-v c = omega (arith, few c)
@@ -29,28 +33,34 @@ mul-if1 c = omega (arith, few c)
 element-copy-out-if1 : tie.Need-element-copy-out-if1 Inv-loop μ-loop
 element-copy-out-if1 c = omega (arith, few c)
 
-mul-if1-2 : tie.Need-mul-if1-2 Inv-loop μ-loop
-mul-if1-2 c = omega (arith, few (c .before))
+mul-greatest : tie.Need-mul-greatest Inv-loop μ-loop
+mul-greatest c = omega (arith, few (c .before .before))
 
-element-copy-out-if1-2 : tie.Need-element-copy-out-if1-2 Inv-loop μ-loop
-element-copy-out-if1-2 c = omega (arith, few (c .before))
+element-copy-out-greatest-2 : tie.Need-element-copy-out-greatest-2 Inv-loop μ-loop
+element-copy-out-greatest-2 c = omega (arith, few (c .before .before))
 
 loop-less : tie.Need-loop-less Inv-loop μ-loop
 loop-less c = omega (arith, few (c .before .before .before))
 
 loop-again : tie.Need-loop-again Inv-loop μ-loop
-loop-again c = let i = c .before .before .before in (omega arith, omega (arith, few i), omega arith, busy-rises _ (i .before .loop .inv .3) (omega (arith, c .if1 .taken)))
+loop-again c =
+    let i = c .before .before .before in
+    let v = i .before .loop .inv in
+    (omega arith, omega (arith, few i), refl, busy-rises _ (v .3) (omega (arith, v .2, c .before .if1 .taken)))
 
 loop-less-2 : tie.Need-loop-less-2 Inv-loop μ-loop
-loop-less-2 c = omega (arith, few (c .before .before .before))
+loop-less-2 c = omega (arith, few (c .before .before))
 
 loop-again-2 : tie.Need-loop-again-2 Inv-loop μ-loop
-loop-again-2 c = let i = c .before .before .before in (omega arith, omega (arith, few i), omega (arith, few i), busy-stays _ (i .before .loop .inv .3) (i .before .loop .inv .0) (omega (arith, c .if1 .left)))
+loop-again-2 c =
+    let i = c .before .before in
+    let v = i .before .loop .inv in
+    (omega arith, omega (arith, few i), v .2, busy-stays _ (v .3) (v .0) (omega (arith, v .2, c .if1 .left)))
 
 returns : tie.Need-returns Inv-loop μ-loop
 returns c =
     let l = c .before .loop in
-    let e : l .v ≡ c .before .before .args .n = omega (arith, c .loop-test .left, l .inv .1) in
+    let e : l .v ≡ c .before .before .before .args .n = omega (arith, c .loop-test .left, l .inv .1) in
     rw e at (l .inv .3)
 
 pub busiest-edge-spec : {M : Type 1} → statement M
@@ -59,12 +69,13 @@ busiest-edge-spec =
     (tie.spec
     Inv-loop
     μ-loop
+    element-copy-out-greatest
     loop-holds
     add-v
     mul-if1
     element-copy-out-if1
-    mul-if1-2
-    element-copy-out-if1-2
+    mul-greatest
+    element-copy-out-greatest-2
     loop-less
     loop-again
     loop-less-2
