@@ -35,7 +35,7 @@ use Rattle.laws.proofs.Demand3.{plan-optimal}
 use Rattle.laws.proofs.Demand2.{checkFault-none}
 
 -- most
-pub most-met : (f : ℕ → ℕ) (n : ℕ) → 0 < n → (i : ℕ) × (i < n) × (f i ≡ most n f)
+most-met : (f : ℕ → ℕ) (n : ℕ) → 0 < n → (i : ℕ) × (i < n) × (f i ≡ most n f)
 unfolding most
 most-met f zero l = absurd (omega arith)
 most-met f (suc zero) l = (0, omega arith, omega arith)
@@ -51,7 +51,7 @@ most-is f n i c l e h = let r = most-met f n (omega arith) in omega (arith, most
 most-lt : (f : ℕ → ℕ) (n c : ℕ) → 0 < n → ((v : ℕ) → v < n → f v < c) → most n f < c
 most-lt f n c l h = let r = most-met f n l in omega (arith, r .2, h (r .0) (r .1))
 
-pub most-one : (f : ℕ → ℕ) → most 1 f ≡ f 0
+most-one : (f : ℕ → ℕ) → most 1 f ≡ f 0
 unfolding most
 most-one f = omega arith
 
@@ -59,7 +59,7 @@ most-one f = omega arith
 abbrev pub lowestAt : ℕ → (ℕ → ℕ) → ℕ → ℕ
 lowestAt n f k = lowest n (λ v. eqb (f v) k)
 
-pub lowest-met : (n : ℕ) (f : ℕ → ℕ) (k i : ℕ) → i < n → f i ≡ k → (lowestAt n f k < n) × (f (lowestAt n f k) ≡ k) × ((v : ℕ) → v < lowestAt n f k → f v ≢ k)
+lowest-met : (n : ℕ) (f : ℕ → ℕ) (k i : ℕ) → i < n → f i ≡ k → (lowestAt n f k < n) × (f (lowestAt n f k) ≡ k) × ((v : ℕ) → v < lowestAt n f k → f v ≢ k)
 lowest-met n f k i l e = go (decLt (lowestAt n f k) n)
   where
     p : ℕ → Bool
@@ -69,21 +69,8 @@ lowest-met n f k i l e = go (decLt (lowestAt n f k) n)
     go (yes h) = let a = lowest-is n n (lowestAt n f k) p refl (omega arith) in (h, eqb-true (f (lowestAt n f k)) k (a .1), λ v m. eqb-false (f v) k (a .2 v m))
     go (no h) = absurd (eqb-false (f i) k (below-none n p (lowest-none n p (lowestAt n f k) refl (omega arith)) i l) e)
 
-pub lowest-is-it : (n : ℕ) (f : ℕ → ℕ) (k i : ℕ) → i < n → f i ≡ k → ((v : ℕ) → v < i → f v ≢ k) → i ≡ lowestAt n f k
+lowest-is-it : (n : ℕ) (f : ℕ → ℕ) (k i : ℕ) → i < n → f i ≡ k → ((v : ℕ) → v < i → f v ≢ k) → i ≡ lowestAt n f k
 lowest-is-it n f k i l e h = found n n i (λ v. eqb (f v) k) l (λ v m. ne-eqb (f v) k (h v m)) (eq-eqb (f i) k e)
-
--- a scan of f at 0, 1 and so on keeps what it has unless f is larger than all before
-module _ (f : ℕ → ℕ) (n : ℕ) where
-  pub most-stays : 0 < n → f n ≤ most n f → (most (suc n) f ≡ most n f) × (lowestAt (suc n) f (most n f) ≡ lowestAt n f (most n f))
-  unfolding most
-  most-stays l h =
-      let m = most-met f n l in
-      let a = lowest-met n f (most n f) (m .0) (m .1) (m .2) in
-      (omega arith, sym (lowest-is-it (suc n) f (most n f) (lowestAt n f (most n f)) (omega (arith, a .0)) (a .1) (a .2)))
-
-  pub most-rises : most n f < f n → (most (suc n) f ≡ f n) × (lowestAt (suc n) f (f n) ≡ n)
-  unfolding most
-  most-rises h = (omega arith, sym (lowest-is-it (suc n) f (f n) n (omega arith) refl (λ v l. omega (arith, most-le f n v l))))
 
 -- the answer, and that it is the only one
 module _ (y : Yard) (w : ℕ) (ms : List Move) where

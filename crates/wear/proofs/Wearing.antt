@@ -2,7 +2,7 @@
 -- comes in can be the worst (`wear-stays`, `wear-rises`).
 use mathlib.Core.Path.{_≡_, refl, sym, ap, _∙_}
 use mathlib.Core.Logic.{_≢_}
-use mathlib.Core.Bool.{true, false, _&&_, and-eq-true-iff}
+use mathlib.Core.Bool.{true, false, cond, _&&_, and-eq-true-iff}
 use mathlib.Core.List.{List, [], _∷_}
 use mathlib.Core.Option.{Option, none, some}
 use Prim.Native.Nat.{ℕ, zero, suc, _+_, _-_, _*_, _≤_, _<_}
@@ -12,7 +12,7 @@ use lib.ListN.{length, getD, set, replicate, length-set, length-replicate}
 use lib.Seq.{getD-set-same, getD-set-other}
 use lib.Dec.{eqb, leb, ltb}
 use borrow.Author.Tests.{ltb-true, leb-true, lt-ltb, le-leb, eq-eqb, ne-eqb}
-use Rattle.model.specs.Yard.{Yard, yardOf, size, up, one, most, headOr, holding}
+use Rattle.model.specs.Yard.{Yard, yardOf, size, up, one, lowest, most, headOr, holding}
 use Rattle.model.specs.Judge.{Fault, row, firstOf, Tree}
 use Rattle.model.specs.Push.{push, count, moveFault, after}
 use Rattle.model.specs.Push as Push
@@ -21,14 +21,15 @@ use Rattle.model.specs.Calls.Answers.{answer, answered, refused}
 use Rattle.model.specs.Calls.Plans.{movesOf}
 use Rattle.model.specs.Calls.Checks.{movesFault, checkFault}
 use Rattle.model.specs.Calls.Wear.{wearFault, wearAnswer}
+use Rattle.laws.specs.Wear.{Worst}
 use Rattle.laws.proofs.Basics.{below-same}
 use Rattle.laws.proofs.Judged.{facts, wood}
 use Rattle.laws.proofs.Calls.{movesOf-half, move-at}
 use Rattle.laws.proofs.Step.{step}
 use Rattle.laws.proofs.Moves.{moveFault-legal}
-use Rattle.laws.proofs.Wear.{Crossed, step-crossed, edgeOf, wearAt-le, wearAt-front, wearAt-more, wearAt-slides, wear-start, wear-stays, wear-rises, most-cong, most-one, most-met, most-stays, most-rises, lowest-met, lowest-is-it}
+use Rattle.laws.proofs.Wear.{Crossed, step-crossed, edgeOf, wearAt-le, wearAt-front, wearAt-more, wearAt-slides, wear-worst, wear-start, wear-stays, wear-rises, most-cong}
 use Rattle.checker.proofs.Laws.{some-not, Left, left-none, left-refused, left-next}
-use Rattle.wear.specs.Wearing.{moveIn, edgeIn, taken, added, AskedWear, AskedShift, Busiest}
+use Rattle.wear.specs.Wearing.{moveIn, edgeIn, taken, added, AskedWear, AskedShift}
 
 -- the first i moves of a plan are obeyed, they have left the pebbles, and each crossed an edge
 pub record Obeying (y : Yard) (plan : List ℕ) (i : ℕ) (qs : List ℕ) : Type 0 where
@@ -159,21 +160,16 @@ pub record Sliding (y : Yard) (plan : List ℕ) (w : ℕ) (qs counts : List ℕ)
   pub entries : Entries y plan w i counts
   pub best : record { crossings = crossings; first = first; edge = edge } ≡ wearOver y w (movesOf plan) (suc i)
 
-module _ {y : Yard} {plan qs counts : List ℕ} {w edge : ℕ} (t : Tree y) (a : AskedWear plan w) (o : Obeying y plan w qs) (c : Entries y plan w 0 counts) (b : Busiest counts (size y) edge) where
-  pub edge-first : edge < 256
-  edge-first =
-      let f : ℕ → ℕ = λ v. getD counts v 0 in
-      let m = most-met f (size y) (omega (arith, wood y t .root-lt)) in
-      omega (arith, b .is, lowest-met (size y) f (most (size y) f) (m .0) (m .1) (m .2) .0, facts y t .few)
-
-  pub slide-first : Sliding y plan w qs counts (getD counts edge 0) 0 edge 0
+module _ {y : Yard} {plan qs counts : List ℕ} {w crossings edge : ℕ} (t : Tree y) (a : AskedWear plan w) (o : Obeying y plan w qs) (c : Entries y plan w 0 counts) (m : crossings ≡ most (size y) (λ v. getD counts v 0))
+    (b : edge ≡ lowest (size y) (λ v. eqb (getD counts v 0) crossings)) where
+  pub slide-first : Sliding y plan w qs counts crossings 0 edge 0
   slide-first = record {
     few = omega (arith, a .wide);
     obeying = let e : 0 + w ≡ w = omega arith in rw e o;
     entries = c;
     best =
-        ap (λ (x : ℕ). record { crossings = x; first = 0; edge = edge }) (b .greatest ∙ same)
-        ∙ ap (λ (x : ℕ). record { crossings = most (size y) g; first = 0; edge = x }) (b .is ∙ ap (headOr (size y)) (below-same (size y) _ _ (λ v l. rw (c .entries v l, same))))
+        ap (λ (x : ℕ). record { crossings = x; first = 0; edge = edge }) (m ∙ same)
+        ∙ ap (λ (x : ℕ). record { crossings = most (size y) g; first = 0; edge = x }) (b ∙ ap (headOr (size y)) (below-same (size y) _ _ (λ v l. rw (c .entries v l, m, same))))
         ∙ sym (wear-start y w (movesOf plan) (push 0 0));
   }
     where
@@ -182,6 +178,30 @@ module _ {y : Yard} {plan qs counts : List ℕ} {w edge : ℕ} (t : Tree y) (a :
 
       same : most (size y) (λ v. getD counts v 0) ≡ most (size y) g
       same = most-cong (size y) (λ v. getD counts v 0) g (c .entries)
+
+-- the edge of the worst stretch so far: that of its last move, but for the first stretch
+abbrev pub edgeSince : (parents plan : List ℕ) (w worst first : ℕ) → ℕ
+edgeSince parents plan w worst first = cond (eqb first 0) worst (edgeIn parents plan (first + w - 1))
+
+-- what is known of the worst so far
+module _ {y : Yard} {plan qs counts : List ℕ} {w crossings first edge i : ℕ} (t : Tree y) (s : Sliding y plan w qs counts crossings first edge i) where
+  so : Worst y w (movesOf plan) (suc i) (wearOver y w (movesOf plan) (suc i))
+  so = wear-worst y w (movesOf plan) (suc i) (omega arith) (omega (arith, wood y t .root-lt))
+
+  pub slide-past : first ≤ i
+  slide-past = omega (arith, ap (λ (r : Wear). r .first) (s .best), so .first-lt)
+
+  -- two crossings for each move at most
+  pub slide-small : length (movesOf plan) ≤ 131_072 → crossings ≤ 262_144
+  slide-small f = let r = wearOver y w (movesOf plan) (suc i) in omega (arith, ap (λ (r : Wear). r .crossings) (s .best), so .attained, wearAt-le y w (movesOf plan) (r .first) (r .edge))
+
+-- its edge, told at the end
+module _ {y : Yard} {plan qs counts : List ℕ} {w crossings first i : ℕ} (worst : ℕ) (s : Sliding y plan w qs counts crossings first (edgeSince (y .parents) plan w worst first) i) where
+  pub edge-of-first : first ≡ 0 → Sliding y plan w qs counts crossings 0 worst i
+  edge-of-first e = rw e at s
+
+  pub edge-of-last : first ≢ 0 → {edge : ℕ} → edge ≡ edgeIn (y .parents) plan (first + w - 1) → Sliding y plan w qs counts crossings first edge i
+  edge-of-last d e = rw e (rw (ne-eqb first 0 d) at s)
 
 -- the next stretch, once its last move is obeyed
 module _ {y : Yard} {plan qs counts : List ℕ} {w i e g : ℕ} (t : Tree y) (a : AskedWear plan w) (o : Obeying y plan (i + w + 1) qs) (c : Entries y plan w i counts) (l : i + w < length (movesOf plan))
@@ -268,14 +288,18 @@ module _ {y : Yard} {plan qs counts : List ℕ} {w i e g : ℕ} (t : Tree y) (a 
           ∙ ap (λ (n : ℕ). wearOver y w (movesOf plan) (suc n)) (sym next);
     }
 
-    pub slide-rises : crossings < k → Sliding y plan w qs new k (i + 1) e (i + 1)
+    came : (x : ℕ) → edgeSince (y .parents) plan w x (i + 1) ≡ e
+    came x = let s : i + 1 + w - 1 ≡ i + w = omega arith in rw (ne-eqb (i + 1) 0 (omega arith), s) (sym p)
+
+    pub slide-rises : (x : ℕ) → crossings < k → Sliding y plan w qs new k (i + 1) (edgeSince (y .parents) plan w x (i + 1)) (i + 1)
     unfolding worst
-    slide-rises h = record {
+    slide-rises x h = record {
       few = omega arith;
       obeying = obeying-on;
       entries = rw n entries-next;
       best =
-          ap (λ (c : ℕ). record { crossings = c; first = i + 1; edge = e }) is-worst
+          ap (λ (v : ℕ). record { crossings = k; first = i + 1; edge = v }) (came x)
+          ∙ ap (λ (c : ℕ). record { crossings = c; first = i + 1; edge = e }) is-worst
           ∙ ap (λ (n : ℕ). record { crossings = worst; first = n; edge = e }) next
           ∙ ap (λ (x : ℕ). record { crossings = worst; first = suc i; edge = x }) come-is
           ∙ sym (wear-rises y t w (movesOf plan) (push 0 0) i l (o .crossed i (omega arith)) (o .crossed (i + w) (omega arith)) (omega (arith, is-worst, so-far)))
@@ -299,30 +323,6 @@ module _ (y : Yard) (plan : List ℕ) (w : ℕ) {qs : List ℕ} where
       → (answered (record { crossings = crossings; first = first; edge = edge }) ≡ answer (movesFault 0 y (movesOf plan)) (wear y w (movesOf plan)))
       × (movesFault 0 y (movesOf plan) ≡ none → qs ≡ after y (movesOf plan))
   worn-end s l = let r = slide-last s l in (rw (← (r .1)) (ap answered (r .0)), λ n. r .2)
-
--- the scan for the busiest edge
-module _ (counts : List ℕ) where
-  pub busy-first : Busiest counts 1 0
-  busy-first =
-      let e = most-one (λ v. getD counts v 0) in
-      record { greatest = sym e; is = lowest-is-it 1 (λ v. getD counts v 0) (most 1 (λ v. getD counts v 0)) 0 (omega arith) (sym e) (λ v l. absurd (omega arith)) }
-
-  module _ {v b : ℕ} (h : Busiest counts v b) where
-    pub busy-stays : 0 < v → getD counts v 0 ≤ getD counts b 0 → Busiest counts (v + 1) b
-    busy-stays l m =
-        let r = most-stays (λ v. getD counts v 0) v l (omega (arith, h .greatest)) in
-        rw next (record { greatest = h .greatest ∙ sym (r .0); is = rw (r .0) (h .is ∙ sym (r .1)) })
-      where
-        next : v + 1 ≡ suc v
-        next = omega arith
-
-    pub busy-rises : getD counts b 0 < getD counts v 0 → Busiest counts (v + 1) v
-    busy-rises m =
-        let r = most-rises (λ v. getD counts v 0) v (omega (arith, h .greatest)) in
-        rw next (record { greatest = sym (r .0); is = rw (r .0) (sym (r .1)) })
-      where
-        next : v + 1 ≡ suc v
-        next = omega arith
 
 -- the call: what decides its answer
 pub has-some : (bs : List ℕ) (w : ℕ) → (ltb 0 w) && (leb w (length (movesOf bs))) ≡ true → (0 < w) × (w ≤ length (movesOf bs))

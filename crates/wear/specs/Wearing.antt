@@ -5,7 +5,7 @@ use mathlib.Core.List.{List}
 use Prim.Native.Nat.{ℕ, _+_, _-_, _*_, _≤_, _<_}
 use lib.ListN.{length, getD, set}
 use lib.Dec.{eqb}
-use Rattle.model.specs.Yard.{up, lowest, most}
+use Rattle.model.specs.Yard.{up}
 use Rattle.model.specs.Push.{Move, push}
 use Rattle.model.specs.Calls.Plans.{movesOf}
 
@@ -34,8 +34,3 @@ pub record AskedShift (counts : List ℕ) (come gone : ℕ) : Type 0 where
   pub gone-lt : gone < 256
   pub some : 0 < getD counts gone 0
   pub small : getD (taken counts gone) come 0 ≤ 262_144
-
--- r is the lowest of the first n entries that are the greatest
-pub record Busiest (counts : List ℕ) (n r : ℕ) : Type 0 where
-  pub greatest : getD counts r 0 ≡ most n (λ v. getD counts v 0)
-  pub is : r ≡ lowest n (λ v. eqb (getD counts v 0) (most n (λ v. getD counts v 0)))

@@ -3,6 +3,9 @@ ghost use mathlib.Core.Path.{_≡_};
 ghost use mathlib.Core.Option.{none};
 ghost use Prim.Native.Nat.{_+_, _*_, _≤_, _<_};
 ghost use lib.ListN.{length, getD};
+ghost use lib.Dec.{eqb};
+ghost use Rattle.model.specs.Yard as Yard;
+ghost use Rattle.model.specs.Yard.{lowest};
 ghost use Rattle.model.specs.Given.{given, handed, was, became};
 ghost use Rattle.model.specs.Judge.{Tree};
 ghost use Rattle.model.specs.Push.{moveFault, shifted, after};
@@ -12,7 +15,7 @@ ghost use Rattle.model.specs.Calls.Plans.{movesOf};
 ghost use Rattle.model.specs.Calls.Checks.{movesFault};
 ghost use Rattle.model.specs.Paper.{paperDone, paperWorn};
 ghost use Rattle.yard.specs.Given.{givenBare, Alike};
-ghost use Rattle.wear.specs.Wearing.{moveIn, edgeIn, taken, added, AskedWear, AskedShift, Busiest};
+ghost use Rattle.wear.specs.Wearing.{moveIn, edgeIn, taken, added, AskedWear, AskedShift};
 use lists::copy::copy;
 use model::Done;
 use model::Worn;
@@ -43,27 +46,40 @@ fn edge_at(parents: &[u8], plan: &[u8], i: usize) -> usize
     to
 }
 
-// The lowest of the first n entries that are the greatest.
-fn busiest_edge(counts: &[usize; 256], n: usize) -> usize
-    requires { ⌜ (0 < n) × (n ≤ 256) ⌝ }
-    ensures { λ r. ⌜ Busiest (was counts) n r ⌝ }
+// The greatest of the first n entries, each of which is looked at, so that many can be at once.
+fn most_crossings(counts: &[u32; 256], n: usize) -> u32
+    requires { ⌜ n ≤ 256 ⌝ }
+    ensures { λ r. ⌜ r ≡ Yard.most n (λ v. getD (was counts) v 0) ⌝ }
 {
-    let mut best = 0;
-    let mut greatest = counts[0];
-    let mut v = 1;
+    let mut most = 0;
+    let mut v = 0;
     while v < n {
-        let w = v;
+        let entry = counts[v];
         v += 1;
-        if greatest < counts[w] {
-            best = w;
-            greatest = counts[w];
+        if most < entry {
+            most = entry;
         }
     }
-    best
+    most
+}
+
+// The lowest of the first n entries that has so many, or n.
+fn lowest_edge(counts: &[u32; 256], n: usize, crossings: u32) -> usize
+    requires { ⌜ n ≤ 256 ⌝ }
+    ensures { λ r. ⌜ r ≡ lowest n (λ v. eqb (getD (was counts) v 0) crossings) ⌝ }
+{
+    let mut v = 0;
+    while v < n {
+        if counts[v] == crossings {
+            return v;
+        }
+        v += 1;
+    }
+    n
 }
 
 // One crossing less of the edge of the move that goes, and one more of that of the move that comes in. Answers how often the latter is crossed then.
-fn shift(counts: &mut [usize; 256], come: usize, gone: usize) -> usize
+fn shift(counts: &mut [u32; 256], come: usize, gone: usize) -> u32
     requires { ⌜ AskedShift (now counts) come gone ⌝ }
     ensures { λ r. ⌜ (became counts ≡ added (taken (was counts) gone) come) × (r ≡ getD (taken (was counts) gone) come 0 + 1) ⌝ }
 {
@@ -74,7 +90,7 @@ fn shift(counts: &mut [usize; 256], come: usize, gone: usize) -> usize
 }
 
 // Obeys a plan on the pebbles of a tree, and counts the crossings: those of the first stretch, then from stretch to stretch to the end of the plan. The edge of the move that
-// comes in alone can be crossed more often than before, so only that one is compared with the worst so far. A refusal is that of the first move that is refused.
+// comes in alone can be crossed more often than before, so only that one is compared with the most so far, and the last move of the worst stretch tells its edge. A refusal is that of the first move that is refused.
 fn obey_and_count(
     parents: &[u8],
     pebbles: &mut [u8],
@@ -87,7 +103,7 @@ fn obey_and_count(
     ensures { λ r. ⌜ paperWorn r ≡ answer (movesFault 0 (given parents pebbles targets depths) (movesOf (was plan))) (Wear.wear (given parents pebbles targets depths) width (movesOf (was plan))) ⌝ }
     ensures { λ r. ⌜ (movesFault 0 (given parents pebbles targets depths) (movesOf (was plan)) ≡ none → became pebbles ≡ after (given parents pebbles targets depths) (movesOf (was plan))) ⌝ }
 {
-    let mut counts = [0usize; 256];
+    let mut counts = [0u32; 256];
     let mut i = 0;
     while i < width {
         let done = obey_move(parents, pebbles, depths, plan, i);
@@ -98,8 +114,8 @@ fn obey_and_count(
         counts[come] += 1;
         i += 1;
     }
-    let mut worst = busiest_edge(&counts, parents.len());
-    let mut most = counts[worst];
+    let mut most = most_crossings(&counts, parents.len());
+    let worst = lowest_edge(&counts, parents.len(), most);
     let mut first = 0;
     let moves = plan.len() / 2;
     let mut gone = 0;
@@ -114,10 +130,16 @@ fn obey_and_count(
         if most < crossings {
             most = crossings;
             first = gone;
-            worst = come;
         }
     }
-    Worn::Most(most, first, worst)
+    if first == 0 {
+        return Worn::Most(most as usize, 0, worst);
+    }
+    Worn::Most(
+        most as usize,
+        first,
+        edge_at(parents, plan, first + width - 1),
+    )
 }
 
 // The same, on a copy of the pebbles: `counts` is written, whatever it held.

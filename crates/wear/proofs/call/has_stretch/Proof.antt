@@ -9,7 +9,7 @@ returns : tie.Need-returns
 returns c = rw (le-ltb 0 (c .before .args .width) (omega (arith, c .if1 .taken)))
 
 returns-2 : tie.Need-returns-2
-returns-2 c = rw (lt-ltb 0 (c .before .args .width) (omega (arith, c .if1 .left)), moves-half (c .before .args .plan .now))
+returns-2 c = rw (lt-ltb 0 (c .before .args .width) (omega (arith, c .if1 .left)), ← moves-half (c .before .args .plan .now))
 
 pub has-stretch-spec : {M : Type 1} → statement M
 has-stretch-spec = tie.close (tie.spec returns returns-2)

@@ -11,7 +11,7 @@ use Rattle.model.specs.Judge.{Tree}
 use Rattle.model.specs.Calls.Plans.{movesOf}
 use Rattle.laws.proofs.Judged.{facts, wood}
 use Rattle.laws.proofs.Calls.{sees, moves-half}
-use Rattle.wear.proofs.Wearing.{Obeying, Entries, Sliding, obeying-first, obeying-long, obeying-lt, obeying-refused, obeying-next, edge-asked, edge-lt, edge-small, entry-small, count-none, count-more, edge-first, slide-first, shift-asked, slide-stays, slide-rises, worn-move, worn-end}
+use Rattle.wear.proofs.Wearing.{Obeying, Entries, Sliding, obeying-first, obeying-long, obeying-lt, obeying-refused, obeying-next, edge-asked, edge-lt, edge-small, entry-small, count-none, count-more, edgeSince, slide-first, slide-past, slide-small, edge-of-first, edge-of-last, shift-asked, slide-stays, slide-rises, worn-move, worn-end}
 use Rattle.wear.proofs.count.obey_and_count.Statement.{statement}
 use Rattle.wear.proofs.count.obey_and_count.Tie as tie
 
@@ -24,11 +24,12 @@ abbrev μ-loop : tie.MeasureT-loop
 
 -- for whichever pebbles the moves began with, as the second loop does not see them
 abbrev Inv-loop2 : tie.InvT-loop2
-Inv-loop2 parents pebbles₀ targets depths plan width counts₀ i worst₀ most₀ first₀ moves gone₀ pebbles counts worst most first gone =
-    (qs : List ℕ) → let y = yardOf parents qs targets depths in Tree y → Sliding y plan width pebbles₀ counts₀ most₀ first₀ worst₀ gone₀ → Sliding y plan width pebbles counts most first worst gone
+Inv-loop2 parents pebbles₀ targets depths plan width counts₀ i most₀ worst first₀ moves gone₀ pebbles counts most first gone =
+    (qs : List ℕ) → let y = yardOf parents qs targets depths in
+    Tree y → Sliding y plan width pebbles₀ counts₀ most₀ first₀ (edgeSince parents plan width worst first₀) gone₀ → Sliding y plan width pebbles counts most first (edgeSince parents plan width worst first) gone
 
 abbrev μ-loop2 : tie.MeasureT-loop2
-μ-loop2 parents pebbles₀ targets depths plan width counts₀ i worst₀ most₀ first₀ moves gone₀ pebbles counts worst most first gone = moves - gone
+μ-loop2 parents pebbles₀ targets depths plan width counts₀ i most₀ worst first₀ moves gone₀ pebbles counts most first gone = moves - gone
 
 abbrev yard : tie.Start Inv-loop μ-loop Inv-loop2 μ-loop2 → Yard
 yard s = yardOf (s .args .parents .now) (s .args .pebbles .now) (s .args .targets .now) (s .args .depths .now)
@@ -101,37 +102,36 @@ loop-again : tie.Need-loop-again Inv-loop μ-loop Inv-loop2 μ-loop2
 loop-again c = let l = c .before .before .before .before .before .before .before in (omega (arith, l .loop-test .taken), moved (c .before), count-more (moved (c .before)) (l .before .loop .inv .2) (here l) (c .edge-at .ensures))
 
 -- the first stretch is counted
-busiest-edge-requires : tie.Need-busiest-edge-requires Inv-loop μ-loop Inv-loop2 μ-loop2
-busiest-edge-requires c κs = let t = call (c .before .before) .pre .0 in omega (arith, facts _ t .few, wood _ t .root-lt)
+nodes : (c : tie.After-loop Inv-loop μ-loop Inv-loop2 μ-loop2) → length (call (c .before) .args .parents .now) ≤ 256
+nodes c = facts _ (call (c .before) .pre .0) .few .1
 
-whole : (c : tie.After-busiest-edge Inv-loop μ-loop Inv-loop2 μ-loop2) → let l = c .before .before .before in let s = call l in
+most-crossings-requires : tie.Need-most-crossings-requires Inv-loop μ-loop Inv-loop2 μ-loop2
+most-crossings-requires c κs = nodes (c .before)
+
+lowest-edge-requires : tie.Need-lowest-edge-requires Inv-loop μ-loop Inv-loop2 μ-loop2
+lowest-edge-requires c κs = nodes (c .before .before .before)
+
+whole : (c : tie.After-loop Inv-loop μ-loop Inv-loop2 μ-loop2) → let l = c .before in let s = call l in
     Obeying (yard s) (s .args .plan .now) (s .args .width) (l .loop .pebbles) × Entries (yard s) (s .args .plan .now) (s .args .width) 0 (l .loop .counts)
 whole c =
-    let l = c .before .before .before in
-    let e : l .loop .i ≡ call l .args .width = omega (arith, c .before .before .loop-test .left, l .loop .inv .0) in
+    let l = c .before in
+    let e : l .loop .i ≡ call l .args .width = omega (arith, c .loop-test .left, l .loop .inv .0) in
     (rw e at (l .loop .inv .1), rw e at (l .loop .inv .2))
-
-small-first : (c : tie.After-busiest-edge Inv-loop μ-loop Inv-loop2 μ-loop2) → c .busiest-edge .result < 256
-small-first c = let p = call (c .before .before .before) .pre in edge-first (p .0) (p .1) (whole c .0) (whole c .1) (c .busiest-edge .ensures)
-
-mul-most : tie.Need-mul-most Inv-loop μ-loop Inv-loop2 μ-loop2
-mul-most c = omega (arith, small-first c)
-
-array-read-most : tie.Need-array-read-most Inv-loop μ-loop Inv-loop2 μ-loop2
-array-read-most c = small-first c
 
 loop2-holds : tie.Need-loop2-holds Inv-loop μ-loop Inv-loop2 μ-loop2
 loop2-holds c qs t s = s
 
 -- from stretch to stretch
 abbrev call2 : tie.At-loop2 Inv-loop μ-loop Inv-loop2 μ-loop2 → tie.Start Inv-loop μ-loop Inv-loop2 μ-loop2
-call2 c = c .before .before .before .before .before .before .before .before .before .before
+call2 c = c .before .before .before .before .before .before .before .before .before .before .before .before
 
-slid : (c : tie.At-loop2 Inv-loop μ-loop Inv-loop2 μ-loop2) → let s = call2 c in Sliding (yard s) (s .args .plan .now) (s .args .width) (c .loop2 .pebbles) (c .loop2 .counts) (c .loop2 .most) (c .loop2 .first) (c .loop2 .worst) (c .loop2 .gone)
+slid : (c : tie.At-loop2 Inv-loop μ-loop Inv-loop2 μ-loop2) → let s = call2 c in Sliding (yard s) (s .args .plan .now) (s .args .width) (c .loop2 .pebbles) (c .loop2 .counts) (c .loop2 .most) (c .loop2 .first) (edgeSince (s .args .parents .now) (s .args .plan .now) (s .args .width) (c .before .lowest-edge .result) (c .loop2 .first)) (c .loop2 .gone)
 slid c =
-    let b = c .before in
+    let e = c .before in
+    let m = e .before .before in
+    let w = whole (m .before .before) in
     let p = call2 c .pre in
-    c .loop2 .inv _ (p .0) (slide-first (p .0) (p .1) (whole b .0) (whole b .1) (b .busiest-edge .ensures))
+    c .loop2 .inv _ (p .0) (slide-first (p .0) (p .1) (w .0) (w .1) (m .most-crossings .ensures) (e .lowest-edge .ensures))
 
 few : (c : tie.At-loop2 Inv-loop μ-loop Inv-loop2 μ-loop2) → (c .loop2 .gone + call2 c .args .width ≤ length (movesOf (call2 c .args .plan .now))) × (length (movesOf (call2 c .args .plan .now)) ≤ 131_072)
 few c = (slid c .few, call2 c .pre .1 .few)
@@ -204,7 +204,7 @@ loop2-again c qs t b =
     let e = f .before .before .before .before in
     let l = e .before .before .before .before .before .before .before in
     let s = l .loop2 .inv qs t b in
-    slide-rises t (call2 l .pre .1) (on e qs (s .obeying)) (s .entries) (comes (e .before .before .before .before .before .before)) (f .before .before .before .edge-at2 .ensures) (f .before .edge-at3 .ensures) (s .best) (f .shift .ensures .0) (f .shift .ensures .1) (c .if1 .taken)
+    slide-rises t (call2 l .pre .1) (on e qs (s .obeying)) (s .entries) (comes (e .before .before .before .before .before .before)) (f .before .before .before .edge-at2 .ensures) (f .before .edge-at3 .ensures) (s .best) (f .shift .ensures .0) (f .shift .ensures .1) _ (c .if1 .taken)
 
 loop2-less-2 : tie.Need-loop2-less-2 Inv-loop μ-loop Inv-loop2 μ-loop2
 loop2-less-2 c = let l = c .before .before .before .before .before .before .before .before .before .before .before in omega (arith, comes l, moves-half (call2 (l .before) .args .plan .now))
@@ -217,11 +217,44 @@ loop2-again-2 c qs t b =
     let s = l .loop2 .inv qs t b in
     slide-stays t (call2 l .pre .1) (on e qs (s .obeying)) (s .entries) (comes (e .before .before .before .before .before .before)) (f .before .before .before .edge-at2 .ensures) (f .before .edge-at3 .ensures) (s .best) (f .shift .ensures .0) (f .shift .ensures .1) (c .if1 .left)
 
+-- the end
+past : (c : tie.At-loop2 Inv-loop μ-loop Inv-loop2 μ-loop2) → (c .loop2 .first ≤ c .loop2 .gone) × (c .loop2 .most ≤ 262_144)
+past c = let p = call2 c .pre in (slide-past (p .0) (slid c), slide-small (p .0) (slid c) (p .1 .few))
+
+cast-t38 : tie.Need-cast-t38 Inv-loop μ-loop Inv-loop2 μ-loop2
+cast-t38 c = omega (arith, past (c .before .before))
+
 same-length-3 : tie.Need-same-length-3 Inv-loop μ-loop Inv-loop2 μ-loop2
-same-length-3 c = omega (arith, obeying-long (slid (c .before) .obeying), facts _ (call2 (c .before) .pre .0) .pebbles-size)
+same-length-3 c = let l = c .before .before in omega (arith, obeying-long (slid l .obeying), facts _ (call2 l .pre .0) .pebbles-size)
+
+-- every move is made
+all : (c : tie.After-loop2 Inv-loop μ-loop Inv-loop2 μ-loop2) → length (movesOf (call2 (c .before) .args .plan .now)) ≤ c .before .loop2 .gone + call2 (c .before) .args .width
+all c = omega (arith, c .loop2-test .left, moves-half (call2 (c .before) .args .plan .now))
 
 returns-3 : tie.Need-returns-3 Inv-loop μ-loop Inv-loop2 μ-loop2
-returns-3 c = let l = c .before in worn-end _ _ _ (slid l) (omega (arith, c .loop2-test .left, moves-half (call2 l .args .plan .now)))
+returns-3 c = worn-end _ _ _ (edge-of-first _ (slid (c .before .before)) (c .if2 .taken)) (all (c .before))
+
+cast-t30 : tie.Need-cast-t30 Inv-loop μ-loop Inv-loop2 μ-loop2
+cast-t30 c = omega (arith, past (c .before .before))
+
+add-edge-at-2 : tie.Need-add-edge-at-2 Inv-loop μ-loop Inv-loop2 μ-loop2
+add-edge-at-2 c = let l = c .before .before in omega (arith, past l, few l)
+
+sub-edge-at : tie.Need-sub-edge-at Inv-loop μ-loop Inv-loop2 μ-loop2
+sub-edge-at c = omega (arith, c .if2 .left)
+
+edge-at-requires-4 : tie.Need-edge-at-requires-4 Inv-loop μ-loop Inv-loop2 μ-loop2
+edge-at-requires-4 c κs =
+    let l = c .before .before in
+    edge-asked (slid l .obeying) _ (omega (arith, past l, c .if2 .left)) (omega (arith, past l, few l, c .if2 .left))
+
+same-length-4 : tie.Need-same-length-4 Inv-loop μ-loop Inv-loop2 μ-loop2
+same-length-4 c = let l = c .before .before .before in omega (arith, obeying-long (slid l .obeying), facts _ (call2 l .pre .0) .pebbles-size)
+
+returns-4 : tie.Need-returns-4 Inv-loop μ-loop Inv-loop2 μ-loop2
+returns-4 c =
+    let e = c .before in
+    worn-end _ _ _ (edge-of-last _ (slid (e .before .before)) (e .if2 .left) (c .edge-at4 .ensures)) (all (e .before))
 
 pub obey-and-count-spec : {M : Type 1} → statement M
 obey-and-count-spec =
@@ -245,9 +278,8 @@ obey-and-count-spec =
     add-i
     loop-less
     loop-again
-    busiest-edge-requires
-    mul-most
-    array-read-most
+    most-crossings-requires
+    lowest-edge-requires
     loop2-holds
     add-loop2
     add-obey-move
@@ -265,5 +297,12 @@ obey-and-count-spec =
     loop2-again
     loop2-less-2
     loop2-again-2
+    cast-t38
     same-length-3
-    returns-3)
+    returns-3
+    cast-t30
+    add-edge-at-2
+    sub-edge-at
+    edge-at-requires-4
+    same-length-4
+    returns-4)
