@@ -45,7 +45,7 @@ extern "C" {
 
 /* The version of these calls, which the library answers too. It is raised whenever a call is added, or gets further arguments or another
  * meaning under the same name, which requests to come will do: a program built with another header would still link. So compare the two once, before any other call. */
-#define JAVENDRIKY_VERSION 11
+#define JAVENDRIKY_VERSION 12
 
 /* The most nodes that a yard can have. */
 #define JAVENDRIKY_MAX_NODES 256
@@ -192,6 +192,17 @@ uint32_t javendriky_plan_parts(const uint8_t *parents, size_t parents_len,
                                const uint8_t *depths, size_t depths_len,
                                uint8_t *plan, size_t plan_len,
                                uint8_t *parts, size_t parts_len);
+
+/* Openings: every move with which some shortest plan starts, for a keeper who likes to choose the first push.
+ * Answers their number k, which is below n, and 0 exactly if each node holds as many pebbles as its target count already. Writes them, ordered by the node that a pebble leaves
+ * and then by the one that it goes to, each once, into the first 2 * k bytes of `list`, and leaves the bytes behind them. No other move is the first of a shortest plan. After
+ * any of them a shortest plan has one move less (proved, as every-opening in crates/laws/proofs).
+ * Refused with a yard's refusals, then 7, then 8 with k as place if `list` has fewer than 2 * k bytes. */
+uint32_t javendriky_openings(const uint8_t *parents, size_t parents_len,
+                             const uint8_t *pebbles, size_t pebbles_len,
+                             const uint8_t *targets, size_t targets_len,
+                             const uint8_t *depths, size_t depths_len,
+                             uint8_t *list, size_t list_len);
 
 /* Test: whether the four lists are a yard. Writes nothing.
  * Answers 0, or is refused with a yard's refusals. The totals of pebbles and targets are not compared. */

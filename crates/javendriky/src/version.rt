@@ -4,7 +4,7 @@ ghost use Rattle.model.specs.Calls.Answers.{version};
 
 // JAVENDRIKY_VERSION of include/javendriky.h. It is raised whenever a call gets further arguments or another meaning under the same name: a caller
 // built for the earlier one would still link, and then read or write wrong lists.
-pub const VERSION: u32 = 11;
+pub const VERSION: u32 = 12;
 
 // The version of this library.
 #[no_mangle]

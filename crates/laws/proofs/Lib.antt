@@ -45,6 +45,8 @@ pub mod Mingling
 pub mod PartTurns
 pub mod PartsCall
 pub mod Wear
+pub mod Listed
+pub mod Openings
 pub mod Lines
 pub mod Sheets
 pub mod Report

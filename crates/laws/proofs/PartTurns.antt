@@ -17,6 +17,7 @@ use Rattle.model.specs.Plan.{plan, choice, fills}
 use Rattle.model.specs.Parts.{isCut, topmost, inPart, tops, masked, partYard, partsPlan}
 use Rattle.laws.specs.Parts.{Top, liesIn, liesInOne, kept, Mingling}
 use Rattle.laws.proofs.Basics.{All, all-map, all-both, all-append}
+use Rattle.laws.proofs.Ranges.{flatten-last}
 use Rattle.laws.proofs.Trees.{Child, inside-split, inside-trans, child-above}
 use Rattle.laws.proofs.Judged.{wood}
 use Rattle.laws.proofs.Shortest.{Good, good-append, good-tree, keeps}
@@ -29,12 +30,6 @@ use Rattle.laws.proofs.Striking.{Sided, sided-one, sided-kept, closed-r
 use Rattle.laws.proofs.Own.{Only, plan-below, below-plan, BalancesIn, balancesIn-same, balancesIn-good, Whole, own-balances}
 use Rattle.laws.proofs.Parts.{part-ind, topmost-top, topmost-cut, topmost-uncut, topmost-inside, top-cut, part-closed, part-tree, part-matched, part-imbalance, part-plan}
 use Rattle.laws.proofs.Mingling.{lies-same, obeys-in, mingled-length}
-
-flatten-last : (f : ℕ → List Move) (ss : List ℕ) (i : ℕ) (b : Bool) → flatten (map f (ss ++ cond b (i ∷ []) [])) ≡ flatten (map f ss) ++ cond b (f i) []
-unfolding flatten
-flatten-last f [] i true = append-nil (f i)
-flatten-last f [] i false = refl
-flatten-last f (s ∷ ss) i b = ap (λ (l : List Move). f s ++ l) (flatten-last f ss i b) ∙ sym (append-assoc (f s) (flatten (map f ss)) (cond b (f i) []))
 
 -- The loop over the parts: the plans of those whose topmost nodes are below i
 module _ (y : Yard) where

@@ -27,7 +27,9 @@ use Rattle.model.specs.Parts.{partsPlan}
 use Rattle.model.specs.Calls.Parts.{partsTests, partsFault, partsAnswer}
 use Rattle.model.specs.Calls.Checks.{maxPlanBytes, bytesFault, movesFault, Verdict, checkTests, checkFault, checkAnswer, within, trialTests, trialFault, trialAnswer, trialInC}
 use Rattle.model.specs.Wear.{stretches, Wear, wear}
+use Rattle.model.specs.Openings.{openings}
 use Rattle.model.specs.Calls.Wear.{wearTests, wearFault, wearAnswer}
+use Rattle.model.specs.Calls.Openings.{openingsTests, openingsFault}
 use Rattle.laws.specs.Wear.{Worst}
 use Rattle.model.specs.Sheets.{maxSheetBytes, yardSheet, readYard, reader, readAnswer, writeTests, writeFault, writeAnswer}
 use Rattle.laws.proofs.Basics.{All, one-le, all-below, none-all, unless-none}
@@ -42,6 +44,7 @@ use Rattle.laws.proofs.Demand3.{plan-length}
 use Rattle.laws.proofs.Displaced.{displaced-le}
 use Rattle.laws.proofs.PartTurns.{partsPlan-length}
 use Rattle.laws.proofs.Wear.{wearAt-le, wear-answer}
+use Rattle.laws.proofs.Openings.{openings-few}
 use Rattle.laws.proofs.Sheets.{YardBytes, yardSheet-short, read-sizes, read-places}
 
 -- a refusal, if there is one, is of the table and has a small place
@@ -278,6 +281,20 @@ module _ (y : Yard) where
             once (eqb (length parts) (size y)) 2 0 (omega arith) (omega arith),
             (once (leb (2 * length (partsPlan y)) (length list)) 8 (length (partsPlan y)) (omega arith) (short t (totals-none y .0 e)), tt),
           )))
+
+  -- the openings, fewer than nodes
+  pub openings-small : (room : ℕ) → Small (answer (openingsFault y room) (length (openings y)))
+  unfolding openingsFault
+  openings-small room = small _ low (λ e. let a = none-all (openingsTests y room) e in short (a .0) (totals-none y .0 (a .1 .0)))
+    where
+      short : Tree y → Matched y → length (openings y) < rowUnit
+      short t m = omega (arith, openings-few y t m, facts y t .few)
+
+      low : Low (firstOf (openingsTests y room))
+      low =
+          first (drop 1 (openingsTests y room)) (judge-low y) (λ t.
+          first (drop 2 (openingsTests y room)) totals-low (λ e.
+          all (drop 2 (openingsTests y room)) (once (leb (2 * length (openings y)) room) 8 (length (openings y)) (omega arith) (short t (totals-none y .0 e)), tt)))
 
   -- the bound's two values
   pub moves-small : Small (mapAnswer (λ l. l .moves) (boundAnswer y))

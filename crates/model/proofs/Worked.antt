@@ -28,6 +28,8 @@ use Rattle.model.specs.Calls.Parts.{partsFault, partsAnswer, partsPlanLi
 use Rattle.model.specs.Calls.Checks.{movesFault, Verdict, checkFault, checkAnswer, Trial, trialFault, trialAnswer, trialPebbles}
 use Rattle.model.specs.Wear.{wearAt, Wear, wearOver}
 use Rattle.model.specs.Calls.Wear.{wearFault, wearAnswer}
+use Rattle.model.specs.Openings.{opening, openings}
+use Rattle.model.specs.Calls.Openings.{openingsFault, openingsAnswer, openingsList}
 use Rattle.model.specs.Calls.Registers.{blockOf, registersOf, bit, setBit, raised, registerFault, taskFault, stepFault, registersThen, pebblesThen, stepped}
 use Rattle.model.specs.Cabinet.{steps}
 use Rattle.model.specs.Sheets.{text, digits, decimal, stopBefore, line, lines, header, yardSheet, maxSheetBytes, judgedBytes, cut, same, value, field, readLine, readNodes, readYard, moveLines, edges, report, moveSheet, refusalSheet, program}
@@ -39,9 +41,9 @@ data Input : Type 0 where
   testOf : Yard → Input
   -- the plan, and its first move alone
   planOf : Yard → Input
-  openingOf : Yard → Input
+  firstMoveOf : Yard → Input
   -- the same with the lowest child first
-  lowestOpeningOf : Yard → Input
+  lowestFirstMoveOf : Yard → Input
   -- the planner with a list of so many bytes, all 9
   planInto : ℕ → Yard → Input
   -- the call that plans part by part, with a plan list and a part list of so many bytes, all 9
@@ -50,6 +52,8 @@ data Input : Type 0 where
   trialOf : List ℕ → ℕ → Yard → Input
   -- the wear of a plan, within so many moves
   wearOf : List ℕ → ℕ → Yard → Input
+  -- the openings, into a list of so many bytes, all 9
+  openingsInto : ℕ → Yard → Input
   -- pushes, one after another, each on the yard that the one before gave back
   pushesOf : List Move → Yard → Input
   printOf : String → Input
@@ -98,13 +102,14 @@ outcome (demandsOf y) = demands (demandsList y (map (λ (_ : ℕ). pos 0) (y .pa
 outcome (lengthOf y) = number (shortest y)
 outcome (testOf y) = refusal (judge y)
 outcome (planOf y) = moves (plan y)
-outcome (openingOf y) = moves (take 1 (plan y))
-outcome (lowestOpeningOf y) = moves (take 1 (planBy fills lowestChild y))
+outcome (firstMoveOf y) = moves (take 1 (plan y))
+outcome (lowestFirstMoveOf y) = moves (take 1 (planBy fills lowestChild y))
 outcome (planInto n y) = planned (planAnswer y (replicate n 9)) (planList y (replicate n 9))
 outcome (partsInto n k y) = let list : List ℕ = replicate n 9 in let parts : List ℕ = replicate k 9 in parted (partsAnswer y list parts) (partsPlanList y list parts) (partsList y list parts)
 outcome (checkOf bs y) = checked (checkAnswer y bs)
 outcome (trialOf bs budget y) = tried (trialAnswer y bs budget) (trialPebbles y bs budget)
 outcome (wearOf bs w y) = worn (wearAnswer y bs w)
+outcome (openingsInto n y) = planned (openingsAnswer y (replicate n 9)) (openingsList y (replicate n 9))
 outcome (pushesOf ms y) = left (after y ms)
 outcome (printOf sheet) = printed (program (text sheet))
 outcome (boundOf y) = measured (boundAnswer y)
@@ -328,11 +333,11 @@ cases =
     ∷ (planOf (yard (0 ∷ 0 ∷ 0 ∷ 2 ∷ 0 ∷ 4 ∷ 5 ∷ []) (1 ∷ 2 ∷ 3 ∷ []) (4 ∷ 5 ∷ 6 ∷ [])) gives moves (push 2 0 ∷ push 0 4 ∷ push 1 0 ∷ push 4 5 ∷ push 0 4 ∷ push 3 2 ∷ push 2 0 ∷ push 5 6 ∷ push 4 5 ∷ push 0 4 ∷ []))
     ∷ (planOf (yard (0 ∷ 0 ∷ 0 ∷ 2 ∷ 0 ∷ 4 ∷ 5 ∷ []) (4 ∷ 5 ∷ 6 ∷ []) (1 ∷ 2 ∷ 3 ∷ [])) gives moves (push 4 0 ∷ push 0 2 ∷ push 5 4 ∷ push 4 0 ∷ push 0 1 ∷ push 6 5 ∷ push 5 4 ∷ push 4 0 ∷ push 2 3 ∷ push 0 2 ∷ []))
     -- clearing fills the child that lacks most, drawing draws from the one with most too many; of two equals behind one with less the lower
-    ∷ (openingOf (yard (0 ∷ 0 ∷ 1 ∷ 1 ∷ 3 ∷ 0 ∷ []) (0 ∷ 1 ∷ 5 ∷ []) (2 ∷ 3 ∷ 4 ∷ [])) gives moves (push 1 3 ∷ []))
-    ∷ (openingOf (yard (0 ∷ 0 ∷ 1 ∷ 1 ∷ 3 ∷ 0 ∷ []) (2 ∷ 3 ∷ 4 ∷ []) (0 ∷ 1 ∷ 5 ∷ [])) gives moves (push 3 1 ∷ []))
-    ∷ (openingOf (yard (0 ∷ 0 ∷ 0 ∷ 2 ∷ 0 ∷ 4 ∷ 0 ∷ 6 ∷ 7 ∷ 8 ∷ []) (1 ∷ 2 ∷ 3 ∷ 4 ∷ 5 ∷ []) (0 ∷ 6 ∷ 7 ∷ 8 ∷ 9 ∷ [])) gives moves (push 2 0 ∷ []))
+    ∷ (firstMoveOf (yard (0 ∷ 0 ∷ 1 ∷ 1 ∷ 3 ∷ 0 ∷ []) (0 ∷ 1 ∷ 5 ∷ []) (2 ∷ 3 ∷ 4 ∷ [])) gives moves (push 1 3 ∷ []))
+    ∷ (firstMoveOf (yard (0 ∷ 0 ∷ 1 ∷ 1 ∷ 3 ∷ 0 ∷ []) (2 ∷ 3 ∷ 4 ∷ []) (0 ∷ 1 ∷ 5 ∷ [])) gives moves (push 3 1 ∷ []))
+    ∷ (firstMoveOf (yard (0 ∷ 0 ∷ 0 ∷ 2 ∷ 0 ∷ 4 ∷ 0 ∷ 6 ∷ 7 ∷ 8 ∷ []) (1 ∷ 2 ∷ 3 ∷ 4 ∷ 5 ∷ []) (0 ∷ 6 ∷ 7 ∷ 8 ∷ 9 ∷ [])) gives moves (push 2 0 ∷ []))
     -- by the earlier rule, the lowest child
-    ∷ (lowestOpeningOf (yard (0 ∷ 0 ∷ 0 ∷ 2 ∷ 0 ∷ 4 ∷ 5 ∷ []) (1 ∷ 2 ∷ 3 ∷ []) (4 ∷ 5 ∷ 6 ∷ [])) gives moves (push 1 0 ∷ []))
+    ∷ (lowestFirstMoveOf (yard (0 ∷ 0 ∷ 0 ∷ 2 ∷ 0 ∷ 4 ∷ 5 ∷ []) (1 ∷ 2 ∷ 3 ∷ []) (4 ∷ 5 ∷ 6 ∷ [])) gives moves (push 1 0 ∷ []))
     -- the root is not 0, and parents have higher numbers than their children
     ∷ (planOf (yard (3 ∷ 3 ∷ 3 ∷ 4 ∷ 4 ∷ []) (0 ∷ 1 ∷ []) (2 ∷ 4 ∷ [])) gives moves (push 0 3 ∷ push 3 4 ∷ push 1 3 ∷ push 3 2 ∷ []))
     -- request 2.9. yard B driven to its end: start, the two moves, and an idle step behind them; mask 1 raises the line at the end
@@ -464,10 +469,22 @@ cases =
     ∷ (wearOf thereAndBack 3 star gives wears 3 2 2)
     ∷ (wearOf thereAndBack 4 star gives wears 3 1 2)
     ∷ (wearOf thereAndBack 5 star gives wears 3 0 2)
+    -- request 2.13. Yard A, with a byte behind, and after its plan's first move; yard B, whose root may not fill the held node below it, but may if it is 2 deep
+    ∷ (openingsInto 5 yardA gives planned (answered 2) (1 ∷ 0 ∷ 1 ∷ 4 ∷ 9 ∷ []))
+    ∷ (openingsInto 4 (yard (0 ∷ 0 ∷ 0 ∷ 1 ∷ 1 ∷ []) (0 ∷ 3 ∷ []) (2 ∷ 4 ∷ [])) gives planned (answered 2) (0 ∷ 2 ∷ 3 ∷ 1 ∷ []))
+    ∷ (openingsInto 2 yardB gives planned (answered 1) (1 ∷ 2 ∷ []))
+    ∷ (openingsInto 4 (yardOf (0 ∷ 0 ∷ 1 ∷ []) (1 ∷ 1 ∷ 0 ∷ []) (0 ∷ 1 ∷ 1 ∷ []) (1 ∷ 2 ∷ 1 ∷ [])) gives planned (answered 2) (0 ∷ 1 ∷ 1 ∷ 2 ∷ []))
+    -- a root with two children that lack a pebble, and one that has too many and must wait for a place; a node whose parent stands between its children
+    ∷ (openingsInto 4 (yard (0 ∷ 0 ∷ 0 ∷ 0 ∷ []) (0 ∷ 3 ∷ []) (1 ∷ 2 ∷ [])) gives planned (answered 2) (0 ∷ 1 ∷ 0 ∷ 2 ∷ []))
+    ∷ (openingsInto 6 (yardOf (2 ∷ 1 ∷ 1 ∷ 2 ∷ []) (0 ∷ 0 ∷ 3 ∷ 0 ∷ []) (1 ∷ 1 ∷ 0 ∷ 1 ∷ []) (1 ∷ 1 ∷ 3 ∷ 1 ∷ [])) gives planned (answered 3) (2 ∷ 0 ∷ 2 ∷ 1 ∷ 2 ∷ 3 ∷ []))
+    -- none where all is done; 8 with the moves needed, and 7 before it
+    ∷ (openingsInto 2 (yard (0 ∷ 0 ∷ []) (0 ∷ []) (0 ∷ [])) gives planned (answered 0) (9 ∷ 9 ∷ []))
+    ∷ (openingsInto 3 yardA gives planned (refused (row 8 2)) (9 ∷ 9 ∷ 9 ∷ []))
+    ∷ (openingsInto 0 (yard (0 ∷ 0 ∷ []) (0 ∷ []) (0 ∷ 1 ∷ [])) gives planned (refused (row 7 0)) [])
     ∷ []
 
 worked : map (λ (c : Case). outcome (c .input)) cases ≡ map (λ (c : Case). c .expected) cases
-unfolding wearFault wearOver wearAt most star thereAndBack wears twoParts between flatten climbed topmost tops masked partsPlan partsFault stepB refusesStep refusesB rounds blockOf registersOf bit setBit raised registerFault taskFault stepFault registersThen pebblesThen stepped steps near highRoot zeros nines anyOf reaches distance nearest nearestFault inReach reachFault demandsA siding placed occurs firstAt lastIn displaced demandsAfter eventFault leaves runLeaves keeps cases _gives_ outcome yard marks yardA yardB planB sum below roots climbs inside subtotal shortest judge moveFault pushFault legal shifted after accepted count needy lowestChild greatest neediestChild choice fills inject extract turn settle each balance planWithin planBy plan range demandsFault bytes movesOf planFault movesFault checkFault trialFault matchedFault text digits decimal stopBefore line lines header cut same value field readLine readNodes readYard moveLines edges report moveSheet refusalSheet program
+unfolding wearFault wearOver wearAt most star thereAndBack wears twoParts between flatten climbed topmost tops masked partsPlan partsFault stepB refusesStep refusesB rounds blockOf registersOf bit setBit raised registerFault taskFault stepFault registersThen pebblesThen stepped steps near highRoot zeros nines anyOf reaches distance nearest nearestFault inReach reachFault demandsA siding placed occurs firstAt lastIn displaced demandsAfter eventFault leaves runLeaves keeps cases _gives_ outcome yard marks yardA yardB planB sum below roots climbs inside subtotal shortest judge moveFault pushFault legal shifted after accepted count needy lowestChild greatest neediestChild choice fills inject extract turn settle each balance planWithin planBy plan range demandsFault bytes movesOf planFault movesFault checkFault trialFault matchedFault text digits decimal stopBefore line lines header cut same value field readLine readNodes readYard moveLines edges report moveSheet refusalSheet program opening openings openingsFault
 worked = refl
 
 -- two pebbles start at node 1, and one at node 2: whichever is taken, pebble 1 may go the second time, and each has its own route

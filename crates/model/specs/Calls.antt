@@ -7,4 +7,5 @@ pub mod Plans
 pub mod Parts
 pub mod Checks
 pub mod Wear
+pub mod Openings
 pub mod Registers

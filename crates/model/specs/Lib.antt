@@ -7,6 +7,7 @@ pub mod Follow
 pub mod Distance
 pub mod Parts
 pub mod Wear
+pub mod Openings
 pub mod Calls
 pub mod Sheets
 pub mod Paper

@@ -31,7 +31,7 @@ fn count_pebble(s: &mut [i16; 1280], v: usize, less: bool)
 }
 
 // Algorithm 4: writes the move of a pebble over the edge of v, whose parent is p, away from the root or towards it, at place k of the list.
-fn record_move(plan: &mut [u8], k: usize, p: usize, v: usize, away: bool)
+pub fn record_move(plan: &mut [u8], k: usize, p: usize, v: usize, away: bool)
     requires { ⌜ (p < 256) × (v < 256) × (2 * k + 2 ≤ length (now plan)) ⌝ }
     ensures { λ _. ⌜ became plan ≡ recorded away p v k (was plan) ⌝ }
 {

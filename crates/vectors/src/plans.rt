@@ -1,4 +1,4 @@
-// A yard planned into a list, whole or part by part.
+// A yard planned into a list, whole or part by part, and the moves that a plan can start with.
 use cases::kinds::kind;
 use cases::lines::field;
 use cases::lists::entries;
@@ -8,6 +8,7 @@ use cases::print::digest;
 use cases::print::first;
 use cases::print::last;
 use cases::print::list;
+use openings::call::openings;
 use parts::plan::plan_parts;
 use planner::plan::plan;
 
@@ -62,12 +63,30 @@ fn parts_long(line: &[u8], parents: &[u8], pebbles: &[u8], targets: &[u8], depth
     ends(b", parts", parts);
 }
 
+// The answer, and the whole list.
+fn openings_short(line: &[u8], parents: &[u8], pebbles: &[u8], targets: &[u8], depths: &[u8]) {
+    let mut moves = [0u8; 600];
+    let moves = entries(field(line, 6), &mut moves);
+    counted(openings(parents, pebbles, targets, depths, moves));
+    list(b", list", moves);
+}
+
+// The answer, and the ends of the list.
+fn openings_long(line: &[u8], parents: &[u8], pebbles: &[u8], targets: &[u8], depths: &[u8]) {
+    let mut moves = [0u8; 600];
+    let moves = entries(field(line, 6), &mut moves);
+    counted(openings(parents, pebbles, targets, depths, moves));
+    ends(b", first", moves);
+}
+
 pub fn case(line: &[u8], parents: &[u8], pebbles: &[u8], targets: &[u8], depths: &[u8]) -> bool {
-    match kind(line, b"plan 6 | long-plan 7 | parts 7 | long-parts 7") {
+    match kind(line, b"plan 6 | long-plan 7 | parts 7 | long-parts 7 | openings 6 | long-openings 6") {
         0 => plan_short(line, parents, pebbles, targets, depths),
         1 => plan_long(line, parents, pebbles, targets, depths),
         2 => parts_short(line, parents, pebbles, targets, depths),
         3 => parts_long(line, parents, pebbles, targets, depths),
+        4 => openings_short(line, parents, pebbles, targets, depths),
+        5 => openings_long(line, parents, pebbles, targets, depths),
         _ => return false,
     }
     true

@@ -71,4 +71,4 @@ Small (refused f) = Row f
 
 -- the version of the calls for C: raised whenever one is added, or gets further arguments or another meaning under its name
 abbrev pub version : ℕ
-version = 11
+version = 12

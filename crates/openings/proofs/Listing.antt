@@ -1,0 +1,282 @@
+-- Listing the openings from a node to its children in rising number: between two children lies none but that to the parent. Each is written behind those before.
+use mathlib.Core.Path.{_≡_, refl, sym, ap, _∙_}
+use mathlib.Core.Logic.{_≢_, _⊎_, inl, inr}
+use mathlib.Core.Bool.{Bool, true, false, cond, _&&_, and-false, and-eq-true-iff, false≢true}
+use mathlib.Core.List.{List, [], _∷_, _++_, append-nil, append-assoc, map, map-append}
+use Prim.Native.Nat.{ℕ, zero, suc, _+_, _-_, _*_, _≤_, _<_}
+use native.Mathlib.Omega.{arith}
+use native.Mathlib.Numerals.{add-one}
+use native.Mathlib.Decide.{ℕ-discrete, decLt}
+use lib.ListN.{length, getD, set, length-set, length-append, length-map}
+use lib.Dec.{eqb, leb}
+use borrow.Author.Tests.{leb-true, le-leb, lt-leb}
+use Rattle.model.specs.Yard.{Yard, size, parent, one, sum, below, headOr, isChild, Matched}
+use Rattle.model.specs.Judge.{Tree}
+use Rattle.model.specs.Push.{Move, push}
+use Rattle.model.specs.Openings.{opening, openingsFrom, openings}
+use Rattle.model.specs.Calls.Answers.{overwrite}
+use Rattle.model.specs.Calls.Plans.{bytes}
+use Rattle.laws.proofs.Basics.{not-so, below-none}
+use Rattle.laws.proofs.Sums.{length-below, sum-split}
+use Rattle.laws.proofs.Ranges.{collect, collect-none, collect-next}
+use Rattle.laws.proofs.Trees.{Child, is-child, child-is, no-pair}
+use Rattle.laws.proofs.Found.{found, missed, below-cong}
+use Rattle.laws.proofs.Judged.{facts, wood}
+use Rattle.laws.proofs.Step.{Step, ends}
+use Rattle.laws.proofs.Listed.{length-collect}
+use Rattle.laws.proofs.Openings.{opening-step, openings-few}
+use Rattle.serve.specs.Serving.{Lowest, isChildFrom}
+use Rattle.serve.proofs.Siblings.{none-from, none-between, child-from, next-is}
+use Rattle.serve.proofs.Moving.{write-move}
+use Rattle.openings.specs.Listing.{wayOf, Sees, Holds, upTo, AskedChildren, ListedChildren, AskedFrom, ListedFrom, AskedAll, ListedAll}
+use Rattle.openings.proofs.Marking.{marked-down, unmarked-down, marked-up, unmarked-up}
+
+-- an opening from a goes to a child or to the parent
+goes : (y : Yard) (a b : ℕ) → opening y (push a b) ≡ true → Child (y .parents) a b ⊎ (b ≡ parent y a)
+goes y a b e = go (s .away) refl
+  where
+    s : Step y (push a b)
+    s = opening-step y (push a b) e .0
+
+    from : (m : Move) → push a b ≡ m → (a ≡ m .from) × (b ≡ m .to)
+    from m q = (ap (λ (m : Move). m .from) q, ap (λ (m : Move). m .to) q)
+
+    go : (w : Bool) → s .away ≡ w → Child (y .parents) a b ⊎ (b ≡ parent y a)
+    go true q = let r = from _ (rw q at (s .is)) in inl (record { lt = rw (r .1) (s .node-lt); up = ap (parent y) (r .1) ∙ sym (r .0); other = λ x. ends y (push a b) s .2 (sym x) })
+    go false q = let r = from _ (rw q at (s .is)) in inr (r .1 ∙ ap (parent y) (sym (r .0)))
+
+-- numbers that pass a test, up to a higher number
+below-skip : (p : ℕ → Bool) (i j : ℕ) → i ≤ j → ((b : ℕ) → i ≤ b → b < j → p b ≡ false) → below j p ≡ below i p
+unfolding below
+below-skip p i zero l h = let e : i ≡ 0 = omega arith in rw e
+below-skip p i (suc j) l h = go (ℕ-discrete i (suc j)) (below-skip p i j)
+  where
+    go : Dec (i ≡ suc j) → (i ≤ j → ((b : ℕ) → i ≤ b → b < j → p b ≡ false) → below j p ≡ below i p) → below j p ++ cond (p j) (j ∷ []) [] ≡ below i p
+    go (yes e) ih = rw e
+    go (no d) ih = rw (h j (omega arith) (omega arith), ih (omega arith) (λ b k m. h b k (omega arith))) (append-nil (below i p))
+
+below-le : (p : ℕ → Bool) (i n : ℕ) → i ≤ n → length (below i p) ≤ length (below n p)
+below-le p i n l =
+    let e : n ≡ i + (n - i) = omega arith in
+    omega (arith, length-below i p, length-below n p, ap (λ (k : ℕ). sum k (λ v. one (p v))) e, sum-split i (n - i) (λ v. one (p v)))
+
+collect-le : {A : Type 0} (f : ℕ → List A) (a n : ℕ) → a ≤ n → length (collect a f) ≤ length (collect n f)
+collect-le f a n l =
+    let e : n ≡ a + (n - a) = omega arith in
+    omega (arith, length-collect f a, length-collect f n, ap (λ (k : ℕ). sum k (λ v. length (f v))) e, sum-split a (n - a) (λ v. length (f v)))
+
+module _ (y : Yard) (a : ℕ) where
+  to : ℕ → Bool
+  to b = opening y (push a b)
+
+  pub up-to-none : upTo y a 0 ≡ collect a (openingsFrom y)
+  unfolding below
+  up-to-none = append-nil (collect a (openingsFrom y))
+
+  pub up-to-all : upTo y a (size y) ≡ collect (suc a) (openingsFrom y)
+  up-to-all = sym (collect-next (openingsFrom y) a)
+
+  up-to-skip : (i j : ℕ) → i ≤ j → ((b : ℕ) → i ≤ b → b < j → opening y (push a b) ≡ false) → upTo y a j ≡ upTo y a i
+  up-to-skip i j l h = ap (λ (l : List ℕ). collect a (openingsFrom y) ++ map (push a) l) (below-skip (λ b. opening y (push a b)) i j l h)
+
+  up-to-more : (c : ℕ) → opening y (push a c) ≡ true → upTo y a (c + 1) ≡ upTo y a c ++ (push a c ∷ [])
+  unfolding below
+  up-to-more c e =
+      rw (add-one, e, map-append (push a) (below c (λ b. opening y (push a b))) (c ∷ []))
+      (sym (append-assoc (collect a (openingsFrom y)) (map (push a) (below c (λ b. opening y (push a b)))) (push a c ∷ [])))
+
+  -- so many are fewer than nodes
+  few : Tree y → Matched y → a < size y → (i : ℕ) → i ≤ size y → length (upTo y a i) < 256
+  unfolding openings
+  few t m l i h = omega (
+    arith,
+    length-append (collect a (openingsFrom y)) (map (push a) (below i (λ b. opening y (push a b)))),
+    length-map (below i (λ b. opening y (push a b))) (push a),
+    below-le (λ b. opening y (push a b)) i (size y) h,
+    length-map (below (size y) (λ b. opening y (push a b))) (push a),
+    ap length (collect-next (openingsFrom y) a),
+    length-append (collect a (openingsFrom y)) (openingsFrom y a),
+    collect-le (openingsFrom y) (suc a) (size y) l,
+    openings-few y t m,
+    facts y t .few,
+  )
+
+-- one move more
+holds-more : {ms : List Move} {before list : List ℕ} {k : ℕ} → Holds ms before list k → k < 256 → (a b : ℕ) → Holds (ms ++ (push a b ∷ [])) before (set (set list (2 * k) a) (2 * k + 1) b) (k + 1)
+holds-more {ms} {before} {list} {k} h l a b = record {
+  long = h .long;
+  room = length-set (set list (2 * k) a) (2 * k + 1) b ∙ length-set list (2 * k) a ∙ h .room;
+  written = rw (h .written, h .counted) (write-move ms before a b (omega (arith, h .long, h .counted)));
+  counted = rw (h .counted, length-append ms (push a b ∷ []));
+}
+
+-- the walk over the children: c is the lowest from some number on, and the openings to the nodes below it are listed
+pub record Walking (y : Yard) (before list : List ℕ) (a c end k : ℕ) : Type 0 where
+  pub at : ℕ
+  pub at-le : at ≤ end
+  pub lowest : Lowest (y .parents) a at c
+  pub only : (b : ℕ) → at ≤ b → b < end → opening y (push a b) ≡ true → Child (y .parents) a b
+  pub holds : Holds (upTo y a at) before list k
+
+pub walk-first : {y : Yard} {t e list before : List ℕ} {a i c end k : ℕ} → AskedChildren y t e list before a i c end k → Walking y before list a c end k
+walk-first {i = i} h = record { at = i; at-le = h .low; lowest = h .at; only = h .only; holds = h .holds }
+
+-- the lowest child from i on, where i is none
+lowest-on : {ps : List ℕ} {u i c : ℕ} → Lowest ps u i c → isChild ps u i ≡ false → Lowest ps u (i + 1) c
+lowest-on {ps} {u} {i} h e = record { is = h .is ∙ ap (headOr u) (below-cong (length ps) (isChildFrom ps u i) (isChildFrom ps u (i + 1)) (λ v _. go v (ℕ-discrete v i))) }
+  where
+    go : (v : ℕ) → Dec (v ≡ i) → isChildFrom ps u i v ≡ isChildFrom ps u (i + 1) v
+    go v (yes q) = rw (q, e, and-false (leb i i), and-false (leb (i + 1) i))
+    go v (no d) = ap (λ (b : Bool). b && (isChild ps u v)) (side (decLt v i))
+      where
+        side : Dec (v < i) → leb i v ≡ leb (i + 1) v
+        side (yes l) = rw (lt-leb i v l, lt-leb (i + 1) v (omega arith))
+        side (no l) = rw (le-leb i v (omega arith), le-leb (i + 1) v (omega arith))
+
+module _ {y : Yard} {before list : List ℕ} {a c end k : ℕ} (w : Walking y before list a c end k) where
+  -- no child lies between
+  between : (j : ℕ) → ((b : ℕ) → Child (y .parents) a b → w .at ≤ b → j ≤ b) → (w .at) ≤ j → j ≤ end → Holds (upTo y a j) before list k
+  between j h l m = rw (up-to-skip y a (w .at) j l (λ b p q. not-so _ (λ e. let r = h b (w .only b p (omega arith) e) p in omega (arith, r)))) (w .holds)
+
+  -- behind the last child
+  module _ (e : c ≡ a) where
+    none-left : (b : ℕ) → Child (y .parents) a b → (w .at) ≤ b → ⊥
+    none-left b r p = false≢true (sym (below-none (length (y .parents)) (isChildFrom (y .parents) a (w .at)) (none-from (w .lowest) e) b (r .lt)) ∙ rw (le-leb (w .at) b p) (child-is (y .parents) a b r))
+
+    pub walk-end : ListedChildren y before list a a end k
+    walk-end = record {
+      at = record {
+        is = missed (length (y .parents)) a (isChildFrom (y .parents) a end) (λ v l. not-so _ (λ q.
+            let r = and-eq-true-iff (leb end v) (isChild (y .parents) a v) .0 q in
+            none-left v (is-child (y .parents) a v l (r .1)) (omega (arith, leb-true end v (r .0), w .at-le))));
+      };
+      holds = between end (λ b r p. absurd (none-left b r p)) (w .at-le) (omega arith);
+    }
+
+  module _ (d : c ≢ a) where
+    pub walk-child : Child (y .parents) a c
+    walk-child = child-from (w .lowest) d .0
+
+    past : (w .at) ≤ c
+    past = child-from (w .lowest) d .1
+
+    from-c : (b : ℕ) → Child (y .parents) a b → (w .at) ≤ b → c ≤ b
+    from-c b r p = go (decLt b c)
+      where
+        go : Dec (b < c) → c ≤ b
+        go (yes l) = absurd (false≢true (sym (none-between (w .lowest) d b l) ∙ rw (le-leb (w .at) b p) (child-is (y .parents) a b r)))
+        go (no l) = omega arith
+
+    -- at a child with a higher number than the end
+    pub walk-past : end ≤ c → ListedChildren y before list a c end k
+    walk-past l = record {
+      at = record {
+        is = found (length (y .parents)) a c (isChildFrom (y .parents) a end) (walk-child .lt) (λ v m. not-so _ (λ q.
+            let r = and-eq-true-iff (leb end v) (isChild (y .parents) a v) .0 q in
+            let s = from-c v (is-child (y .parents) a v (omega (arith, m, walk-child .lt)) (r .1)) (omega (arith, leb-true end v (r .0), w .at-le)) in
+            omega (arith, m, s))) (rw (le-leb end c l) (child-is (y .parents) a c walk-child));
+      };
+      holds = between end (λ b r p. omega (arith, l, from-c b r p)) (w .at-le) (omega arith);
+    }
+
+    -- on to the next
+    module _ {t e : List ℕ} (s : Sees y t e) (l : a < size y) (m : c < end) (n : end ≤ size y) where
+      here : Holds (upTo y a c) before list k
+      here = between c from-c past (omega arith)
+
+      mark : getD e c 0 ≡ wayOf y c
+      mark = s .marks .1 c (walk-child .lt)
+
+      goes-on : {new : List ℕ} {k′ : ℕ} → Holds (upTo y a (c + 1)) before new k′ → Walking y before new a (getD t (512 + c) 0) end k′
+      goes-on h = record { at = c + 1; at-le = omega arith; lowest = next-is (s .tables) walk-child; only = λ b p q o. w .only b (omega (arith, past)) q o; holds = h }
+
+      pub walk-room : k < 256
+      walk-room = omega (arith, here .counted, few y a (s .tree) (s .matched) l c (omega arith))
+
+      pub walk-listed : getD e c 0 ≡ 1 → Walking y before (set (set list (2 * k) a) (2 * k + 1) c) a (getD t (512 + c) 0) end (k + 1)
+      walk-listed q = goes-on (rw (up-to-more y a c (rw (walk-child .up) at (marked-down y (s .tree) (s .matched) c (walk-child .lt) mark q))) (holds-more here walk-room a c))
+
+      pub walk-passed : getD e c 0 ≢ 1 → Walking y before list a (getD t (512 + c) 0) end k
+      walk-passed q = goes-on (rw (up-to-skip y a c (c + 1) (omega arith) (λ b p o. let x : b ≡ c = omega arith in rw x (rw (walk-child .up) at (unmarked-down y (s .tree) (s .matched) c (walk-child .lt) mark q)))) here)
+
+-- from one node: all children at once, or those below the parent, the parent and the others
+module _ {y : Yard} {t e list before : List ℕ} {a n k : ℕ} (h : AskedFrom y t e list before a n k) where
+  lt : a < size y
+  lt = h .node
+
+  mark-of : getD e a 0 ≡ wayOf y a
+  mark-of = h .sees .marks .1 a lt
+
+  start : (end : ℕ) → end ≤ size y → ((b : ℕ) → b < end → opening y (push a b) ≡ true → b ≢ parent y a) → AskedChildren y t e list before a 0 (getD t (256 + a) 0) end k
+  start end l d = record {
+    sees = h .sees;
+    node = lt;
+    at = h .sees .tables .first a lt;
+    low = omega arith;
+    high = l;
+    only = λ b _ q o. child b (goes y a b o) (d b q o);
+    holds = rw (up-to-none y a) (h .holds);
+  }
+    where
+      child : (b : ℕ) → Child (y .parents) a b ⊎ (b ≡ parent y a) → b ≢ parent y a → Child (y .parents) a b
+      child b (inl r) d = r
+      child b (inr q) d = absurd (d q)
+
+  pub asked-all : getD e a 0 ≢ 2 → AskedChildren y t e list before a 0 (getD t (256 + a) 0) n k
+  asked-all d = rw (h .all) (start (size y) (omega arith) (λ b _ o q. false≢true (sym (unmarked-up y (h .sees .tree) (h .sees .matched) a lt mark-of d) ∙ rw q at o)))
+
+  pub listed-all : {new : List ℕ} {c k′ : ℕ} → ListedChildren y before new a c n k′ → ListedFrom y before new a k′
+  listed-all r = rw (← (up-to-all y a), ← (h .all)) (r .holds)
+
+  -- an opening goes to the parent
+  module _ (u : getD e a 0 ≡ 2) where
+    above : getD t a 0 ≡ parent y a
+    above = h .sees .tables .parent a lt
+
+    above-lt : parent y a < size y
+    above-lt = wood y (h .sees .tree) .parent-lt a lt
+
+    pub asked-lower : AskedChildren y t e list before a 0 (getD t (256 + a) 0) (getD t a 0) k
+    asked-lower = rw above (start (parent y a) (omega (arith, above-lt)) (λ b l _ q. omega (arith, l, q)))
+
+    opens : opening y (push a (parent y a)) ≡ true
+    opens = marked-up y (h .sees .tree) (h .sees .matched) a lt mark-of u
+
+    module _ {new : List ℕ} {c k′ : ℕ} (r : ListedChildren y before new a c (getD t a 0) k′) where
+      pub upper-room : k′ < 256
+      upper-room = omega (arith, r .holds .counted, few y a (h .sees .tree) (h .sees .matched) lt (getD t a 0) (omega (arith, above, above-lt)))
+
+      -- the parent is no child
+      not-below : isChild (y .parents) a (getD t a 0) ≡ false
+      not-below = not-so _ (λ q.
+          let r = is-child (y .parents) a (getD t a 0) (omega (arith, above, above-lt)) q in
+          let w = wood y (h .sees .tree) in
+          no-pair w a (getD t a 0) lt (λ e. r .other (above ∙ ap (parent y) e ∙ w .root-parent ∙ sym e)) (sym above) (sym (r .up)))
+
+      pub asked-higher : {p : ℕ} {newer : List ℕ} → p ≡ getD t a 0 → newer ≡ set (set new (2 * k′) a) (2 * k′ + 1) p → AskedChildren y t e newer before a (getD t a 0 + 1) c n (k′ + 1)
+      asked-higher p-is is = rw (h .all) (record {
+        sees = h .sees;
+        node = lt;
+        at = lowest-on (r .at) not-below;
+        low = omega (arith, above, above-lt);
+        high = omega arith;
+        only = λ b l q o. child b l (goes y a b o);
+        holds = rw (is, p-is, up-to-more y a (getD t a 0) (rw above opens)) (holds-more (r .holds) upper-room a (getD t a 0));
+      })
+        where
+          child : (b : ℕ) → getD t a 0 + 1 ≤ b → Child (y .parents) a b ⊎ (b ≡ parent y a) → Child (y .parents) a b
+          child b l (inl r) = r
+          child b l (inr q) = absurd (omega (arith, l, q, above))
+
+-- node by node
+module _ {y : Yard} {t e before : List ℕ} {n : ℕ} (h : AskedAll y t e before n) where
+  pub list-none : Holds (collect 0 (openingsFrom y)) before before 0
+  unfolding bytes
+  list-none = rw (collect-none (openingsFrom y)) (record { long = h .long; room = h .long; written = refl; counted = refl })
+
+  pub asked-from : {list : List ℕ} {a k : ℕ} → a < n → Holds (collect a (openingsFrom y)) before list k → AskedFrom y t e list before a n k
+  asked-from l s = record { sees = h .sees; node = omega (arith, h .all); all = h .all; holds = s }
+
+  pub list-whole : {list : List ℕ} {a k : ℕ} → a ≡ n → Holds (collect a (openingsFrom y)) before list k → ListedAll y before list k
+  unfolding openings
+  list-whole q s = rw (q ∙ h .all) at s

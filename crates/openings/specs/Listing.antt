@@ -1,0 +1,87 @@
+-- What marking the edges and listing the openings ask and give. In the lists the yard itself is not at hand: a helper asks that there is one, and says what it did for each.
+use mathlib.Core.Path.{_≡_}
+use mathlib.Core.Bool.{true, cond}
+use mathlib.Core.List.{List, _++_, map}
+use mathlib.Core.Option.{Option}
+use Prim.Native.Nat.{ℕ, suc, _*_, _≤_, _<_}
+use lib.ListN.{length, getD}
+use lib.Dec.{leb, ltb}
+use lib.IntN.{ℤ, pos}
+use lib.Signed.{ltZ}
+use Rattle.model.specs.Yard.{Yard, size, parent, below, demand, Matched}
+use Rattle.model.specs.Judge.{Fault, fault, unless, Tree}
+use Rattle.model.specs.Push.{Move, push}
+use Rattle.model.specs.Openings.{opening, openingsFrom, openings}
+use Rattle.model.specs.Calls.Answers.{overwrite}
+use Rattle.model.specs.Calls.Plans.{bytes}
+use Rattle.laws.proofs.Ranges.{collect}
+use Rattle.laws.proofs.Trees.{Child}
+use Rattle.serve.specs.Serving.{Lowest, Tables}
+
+-- the front of a list holds the demands
+abbrev pub Demands : Yard → List ℤ → Type 0
+Demands y list = (length list ≡ 256) × ((v : ℕ) → v < size y → getD list v (pos 0) ≡ demand y v)
+
+-- which opening goes over an edge, by numbers: 1 for one that comes down, 2 for one that goes up, 0 for none
+abbrev pub wayOver : ℤ → ℕ → ℕ → ℕ → ℕ → ℕ
+wayOver demand pebbles depth above limit = cond (ltZ (pos 0) demand) (cond (ltb 0 above) (cond (ltb pebbles depth) 1 0) 0) (cond (ltZ demand (pos 0)) (cond (ltb 0 pebbles) (cond (ltb above limit) 2 0) 0) 0)
+
+-- and by the openings themselves
+abbrev pub wayOf : Yard → ℕ → ℕ
+wayOf y v = cond (opening y (push (parent y v) v)) 1 (cond (opening y (push v (parent y v))) 2 0)
+
+abbrev pub Marks : Yard → List ℕ → Type 0
+Marks y e = (length e ≡ 256) × ((v : ℕ) → v < size y → getD e v 0 ≡ wayOf y v)
+
+-- what the walks look at
+pub record Sees (y : Yard) (t e : List ℕ) : Type 0 where
+  pub tree : Tree y
+  pub matched : Matched y
+  pub tables : Tables (y .parents) t
+  pub marks : Marks y e
+
+-- moves at the front of a list that held others before, and their number
+pub record Holds (ms : List Move) (before list : List ℕ) (k : ℕ) : Type 0 where
+  pub long : length before ≡ 512
+  pub room : length list ≡ 512
+  pub written : list ≡ overwrite (bytes ms) before
+  pub counted : k ≡ length ms
+
+-- the openings from the nodes below a, and those from a to the nodes below i
+abbrev pub upTo : Yard → ℕ → ℕ → List Move
+upTo y a i = collect a (openingsFrom y) ++ map (push a) (below i (λ b. opening y (push a b)))
+
+-- c is the lowest child of a from number i on; from there to the end every opening from a goes to a child
+pub record AskedChildren (y : Yard) (t e list before : List ℕ) (a i c end k : ℕ) : Type 0 where
+  pub sees : Sees y t e
+  pub node : a < size y
+  pub at : Lowest (y .parents) a i c
+  pub low : i ≤ end
+  pub high : end ≤ size y
+  pub only : (b : ℕ) → i ≤ b → b < end → opening y (push a b) ≡ true → Child (y .parents) a b
+  pub holds : Holds (upTo y a i) before list k
+
+pub record ListedChildren (y : Yard) (before list : List ℕ) (a c end k : ℕ) : Type 0 where
+  pub at : Lowest (y .parents) a end c
+  pub holds : Holds (upTo y a end) before list k
+
+pub record AskedFrom (y : Yard) (t e list before : List ℕ) (a n k : ℕ) : Type 0 where
+  pub sees : Sees y t e
+  pub node : a < size y
+  pub all : n ≡ size y
+  pub holds : Holds (collect a (openingsFrom y)) before list k
+
+abbrev pub ListedFrom : Yard → List ℕ → List ℕ → ℕ → ℕ → Type 0
+ListedFrom y before list a k = Holds (collect (suc a) (openingsFrom y)) before list k
+
+pub record AskedAll (y : Yard) (t e list : List ℕ) (n : ℕ) : Type 0 where
+  pub sees : Sees y t e
+  pub all : n ≡ size y
+  pub long : length list ≡ 512
+
+abbrev pub ListedAll : Yard → List ℕ → List ℕ → ℕ → Type 0
+ListedAll y before list k = Holds (openings y) before list k
+
+-- refusal 8, of a list with fewer than two bytes for each of so many moves
+abbrev pub roomFault : ℕ → ℕ → Option Fault
+roomFault count room = unless (leb (2 * count) room) (fault 8 count)

@@ -1,0 +1,83 @@
+// The openings in their order: node by node in rising number, and of each its children in rising number, with its parent among them at its place.
+ghost use mathlib.Core.Path.{_≡_};
+ghost use mathlib.Core.List.{List};
+ghost use Prim.Native.Nat.{ℕ, _<_};
+ghost use Rattle.model.specs.Yard.{Yard};
+ghost use Rattle.model.specs.Given.{was, became};
+ghost use Rattle.openings.specs.Listing.{AskedChildren, ListedChildren, AskedFrom, ListedFrom, AskedAll, ListedAll};
+use serve::choose::wide;
+use serve::pebble::record_move;
+
+// The next child to look at, or the node itself behind the last, and the number of moves listed.
+pub struct Walk {
+    pub child: usize,
+    pub count: usize,
+}
+
+// Lists the openings from a to its children, from one on, with numbers below `end`.
+fn list_children(
+    t: &[u8; 768],
+    e: &[u8; 256],
+    list: &mut [u8],
+    a: usize,
+    from: usize,
+    end: usize,
+    count: usize,
+) -> Walk
+    requires { ⌜ ((y : Yard) × (before : List ℕ) × (i : ℕ) × AskedChildren y (now t) (now e) (now list) before a i from end count) ⌝ }
+    ensures { λ r. ⌜ ((y : Yard) (before : List ℕ) (i : ℕ) → AskedChildren y (was t) (was e) (was list) before a i from end count → ListedChildren y before (became list) a (r .child) end (r .count)) ⌝ }
+{
+    let mut c = from;
+    let mut k = count;
+    while c != a {
+        if c >= end {
+            return Walk { child: c, count: k };
+        }
+        let v = c;
+        c = wide(t[512 + v]);
+        if e[v] == 1 {
+            record_move(list, k, a, v, true);
+            k += 1;
+        }
+    }
+    Walk { child: a, count: k }
+}
+
+// Lists the openings from a: those to the children with lower numbers than the parent's, that to the parent, and those to the other children.
+fn list_from(
+    t: &[u8; 768],
+    e: &[u8; 256],
+    list: &mut [u8],
+    a: usize,
+    n: usize,
+    count: usize,
+) -> usize
+    requires { ⌜ ((y : Yard) × (before : List ℕ) × AskedFrom y (now t) (now e) (now list) before a n count) ⌝ }
+    ensures { λ r. ⌜ ((y : Yard) (before : List ℕ) → AskedFrom y (was t) (was e) (was list) before a n count → ListedFrom y before (became list) a r) ⌝ }
+{
+    let first = wide(t[256 + a]);
+    if e[a] != 2 {
+        let all = list_children(t, e, list, a, first, n, count);
+        return all.count;
+    }
+    let p = wide(t[a]);
+    let lower = list_children(t, e, list, a, first, p, count);
+    let k = lower.count;
+    record_move(list, k, p, a, false);
+    let higher = list_children(t, e, list, a, lower.child, n, k + 1);
+    higher.count
+}
+
+// Lists them all, and answers how many they are.
+pub fn list_openings(t: &[u8; 768], e: &[u8; 256], list: &mut [u8], n: usize) -> usize
+    requires { ⌜ ((y : Yard) × AskedAll y (now t) (now e) (now list) n) ⌝ }
+    ensures { λ r. ⌜ ((y : Yard) → AskedAll y (was t) (was e) (was list) n → ListedAll y (was list) (became list) r) ⌝ }
+{
+    let mut k = 0;
+    let mut a = 0;
+    while a < n {
+        k = list_from(t, e, list, a, n, k);
+        a += 1;
+    }
+    k
+}
