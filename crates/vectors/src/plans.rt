@@ -80,7 +80,10 @@ fn openings_long(line: &[u8], parents: &[u8], pebbles: &[u8], targets: &[u8], de
 }
 
 pub fn case(line: &[u8], parents: &[u8], pebbles: &[u8], targets: &[u8], depths: &[u8]) -> bool {
-    match kind(line, b"plan 6 | long-plan 7 | parts 7 | long-parts 7 | openings 6 | long-openings 6") {
+    match kind(
+        line,
+        b"plan 6 | long-plan 7 | parts 7 | long-parts 7 | openings 6 | long-openings 6",
+    ) {
         0 => plan_short(line, parents, pebbles, targets, depths),
         1 => plan_long(line, parents, pebbles, targets, depths),
         2 => parts_short(line, parents, pebbles, targets, depths),
