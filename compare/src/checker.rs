@@ -69,7 +69,7 @@ fn obey(yard: &Yard, pebbles: &mut [u8], plan: &[u8]) -> Answer<()> {
 }
 
 /// A legal move is made; of any other the refusal's number is told.
-fn step(yard: &Yard, pebbles: &mut [u8], from: usize, to: usize) -> Result<(), u32> {
+pub fn step(yard: &Yard, pebbles: &mut [u8], from: usize, to: usize) -> Result<(), u32> {
     let n = yard.nodes();
     if from >= n || to >= n {
         return Err(10);

@@ -1,5 +1,5 @@
-//! Test, bound, displaced, events, nearest, reach, planner, plans of parts, checker, wear, trial and the cabinet's step once more, written for speed: no list is
-//! asked for from the heap, each child names its next sibling, and each node keeps whose turn it is among its children. The benchmark sets the library beside these.
+//! Test, bound, displaced, events, nearest, reach, planner, plans of parts, openings, checker, wear, trial and the cabinet's step once more, written for speed: no list
+//! is asked for from the heap, each child names its next sibling, and each node keeps whose turn it is among its children. The benchmark sets the library beside these.
 
 use crate::cabinet::{command, flag, status, BLOCK_BYTES};
 use crate::checker::{Tried, MAX_PLAN_BYTES};
@@ -159,6 +159,59 @@ pub fn plan_parts(parents: &[u8], pebbles: &[u8], targets: &[u8], depths: &[u8],
         state.balance::<true>(top as u8);
     }
     Ok(moves)
+}
+
+/// The refusals of a yard, 7 and 8; the openings go to the front of the list, and how many they are is answered.
+///
+/// A move is one exactly if it is legal and goes over its edge the way that the demand asks. So each edge has one at most, and each node has its openings in order:
+/// those to its children, chained in rising number, and the one to its parent at its place among them. Nothing is sorted.
+pub fn openings(parents: &[u8], pebbles: &[u8], targets: &[u8], depths: &[u8], list: &mut [u8]) -> Answer<u32> {
+    let (demand, root) = demands(parents, pebbles, targets, depths)?;
+    let n = parents.len();
+    let (parent_of, pebbles, depths) = (copy(parents), copy(pebbles), copy(depths));
+    // The children that their parents can give to, as siblings: the root, which is no child, says that none follows.
+    let none = root as u8;
+    let (mut first, mut next) = ([none; MAX_NODES], [none; MAX_NODES]);
+    let mut to_parent = [false; MAX_NODES];
+    let mut count = 0;
+    for node in (0..n).rev() {
+        let parent = usize::from(parent_of[node]);
+        if demand[node] > 0 {
+            if pebbles[parent] > 0 && pebbles[node] < depths[node] {
+                next[node] = first[parent];
+                first[parent] = node as u8;
+                count += 1;
+            }
+        } else if demand[node] < 0 && pebbles[node] > 0 && pebbles[parent] < depths[parent] {
+            to_parent[node] = true;
+            count += 1;
+        }
+    }
+    if list.len() < 2 * count {
+        return refuse(8, count);
+    }
+    let mut moves = list.chunks_exact_mut(2);
+    let mut write = |from: u8, to: u8| {
+        if let Some(ends) = moves.next() {
+            ends.copy_from_slice(&[from, to]);
+        }
+    };
+    for node in 0..n {
+        let (u, parent) = (node as u8, parent_of[node]);
+        let mut v = first[node];
+        if to_parent[node] {
+            while v != none && v < parent {
+                write(u, v);
+                v = next[usize::from(v)];
+            }
+            write(u, parent);
+        }
+        while v != none {
+            write(u, v);
+            v = next[usize::from(v)];
+        }
+    }
+    Ok(count as u32)
 }
 
 /// The refusals of a yard, 7, 9, 10 to 13 for each move, 14.

@@ -17,6 +17,7 @@ pub mod follow;
 #[cfg(feature = "library")]
 #[rustfmt::skip]
 pub mod library;
+pub mod openings;
 pub mod parts;
 pub mod planner;
 pub mod random;

@@ -8,7 +8,7 @@ use crate::wear::Wear;
 use crate::yard::{Answer, Refusal};
 
 /// The version of the calls that are declared here: JAVENDRIKY_VERSION of the header. A library of another version must not be called.
-pub const VERSION: u32 = 11;
+pub const VERSION: u32 = 12;
 
 /// What an accepted trial adds to the moves taken where the budget ended it.
 const BUDGET_ENDED: u32 = 500_000;
@@ -24,6 +24,10 @@ pub mod raw {
         pub fn javendriky_plan_parts(
             parents: *const u8, parents_len: usize, pebbles: *const u8, pebbles_len: usize, targets: *const u8, targets_len: usize,
             depths: *const u8, depths_len: usize, plan: *mut u8, plan_len: usize, parts: *mut u8, parts_len: usize,
+        ) -> u32;
+        pub fn javendriky_openings(
+            parents: *const u8, parents_len: usize, pebbles: *const u8, pebbles_len: usize, targets: *const u8, targets_len: usize,
+            depths: *const u8, depths_len: usize, list: *mut u8, list_len: usize,
         ) -> u32;
         pub fn javendriky_test_yard(
             parents: *const u8, parents_len: usize, pebbles: *const u8, pebbles_len: usize, targets: *const u8, targets_len: usize,
@@ -137,6 +141,15 @@ pub fn plan_parts(parents: &[u8], pebbles: &[u8], targets: &[u8], depths: &[u8],
         raw::javendriky_plan_parts(
             parents.as_ptr(), parents.len(), pebbles.as_ptr(), pebbles.len(), targets.as_ptr(), targets.len(),
             depths.as_ptr(), depths.len(), plan.as_mut_ptr(), plan.len(), parts.as_mut_ptr(), parts.len(),
+        )
+    })
+}
+
+pub fn openings(parents: &[u8], pebbles: &[u8], targets: &[u8], depths: &[u8], list: &mut [u8]) -> Answer<u32> {
+    answer(unsafe {
+        raw::javendriky_openings(
+            parents.as_ptr(), parents.len(), pebbles.as_ptr(), pebbles.len(), targets.as_ptr(), targets.len(),
+            depths.as_ptr(), depths.len(), list.as_mut_ptr(), list.len(),
         )
     })
 }

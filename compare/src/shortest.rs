@@ -79,6 +79,18 @@ pub fn any_plan(yard: &Yard, least: &[Option<u32>], random: &mut Random) -> Opti
     Some(moves.concat())
 }
 
+/// Every move with which a plan that has the least number of moves starts, ordered by the node that is left and then by the one that is entered; none where there is
+/// no plan. `left` has for each list of counts, in that order, the least number of moves from it to the targets.
+pub fn openings(yard: &Yard, left: &[Option<u32>]) -> Option<Vec<u8>> {
+    let places = Places::of(yard);
+    let at = places.place(&yard.pebbles);
+    let moves = left[at]?;
+    let nearer = |&way: &(usize, usize)| places.moved(at, way).is_some_and(|next| left[next].is_some_and(|less| less + 1 == moves));
+    let mut openings: Vec<(usize, usize)> = places.ways.iter().copied().filter(nearer).collect();
+    openings.sort();
+    Some(openings.into_iter().flat_map(|(from, to)| [from as u8, to as u8]).collect())
+}
+
 /// The least sum of distances when each pebble gets a target of its own. Asks for a tree with equal totals.
 pub fn by_matching(yard: &Yard) -> u32 {
     let targets = each(&yard.targets);

@@ -95,6 +95,20 @@ fn parts(yard: &Yard) -> Option<(usize, Times)> {
     Some((answer.ok()? as usize, times))
 }
 
+/// The times of the openings, or nothing if they differ. The list has room for one over each edge, and there are no more.
+fn openings(yard: &Yard) -> Option<Times> {
+    let Yard { parents, pebbles, targets, depths } = yard;
+    type Call = fn(&[u8], &[u8], &[u8], &[u8], &mut [u8]) -> Answer<u32>;
+    let call = |call: Call, list: &mut [u8]| call(black_box(parents), black_box(pebbles), black_box(targets), black_box(depths), black_box(list));
+    let bytes = 2 * (yard.nodes() - 1);
+    let (mut list, mut plain_list) = (vec![0; bytes], vec![0; bytes]);
+    let answer = call(library::openings, &mut list);
+    if answer.is_err() || answer != call(fast::openings, &mut plain_list) || list != plain_list {
+        return None;
+    }
+    Some(measure(|| call(library::openings, &mut list), || call(fast::openings, &mut plain_list)))
+}
+
 fn checks(yard: &Yard, plan: &[u8]) -> Option<Times> {
     let Yard { parents, pebbles, targets, depths } = yard;
     type Checker = fn(&[u8], &[u8], &[u8], &[u8], &[u8]) -> Answer<()>;
@@ -286,6 +300,7 @@ fn all_calls(depth: u8) -> Option<f64> {
         let rows = [
             ("plan", planned),
             ("plan_parts", parts(&yard)?.1),
+            ("openings", openings(&yard)?),
             ("check", checks(&yard, &plan)?),
             ("wear", wears(&yard, &plan)?),
             ("trial", trials(&yard, &plan)?),
@@ -309,7 +324,7 @@ fn all_calls(depth: u8) -> Option<f64> {
 
 /// The highest ratio of the first table, or nothing if answers differ.
 fn run() -> Option<f64> {
-    println!("Medians of {SAMPLES} samples in turn. Plan lists are not cleared before a call. A trial's pebbles are set anew before each one,");
+    println!("Medians of {SAMPLES} samples in turn. Written lists are not cleared before a call. A trial's pebbles are set anew before each one,");
     println!("on both sides and within the time (256 bytes copied); its budget is 65,535 moves, fewer than the longest plans have. An event is");
     println!("a pebble's arrival at the node farthest from the root that has a place, or its leaving it. Nearest and reach are asked from the");
     println!("farthest node; the reach ends halfway between its nearest and its farthest pebble. A step obeys the plan's first move or takes it");

@@ -8,10 +8,11 @@ use std::sync::atomic::{AtomicPtr, Ordering};
 use unrelated::cabinet::{self, Stepped};
 use unrelated::distance::Nearest;
 use unrelated::event::{happen, Event, Kept};
+use unrelated::figures::Length;
 use unrelated::parts::{self, Parted};
 use unrelated::wear::{wear_by, Count, Wear};
 use unrelated::yard::{total, Answer, Yard};
-use unrelated::{checker, demands, distance, fast, figures, library, planner, sheet, yard};
+use unrelated::{checker, demands, distance, fast, figures, library, openings, planner, sheet, yard};
 
 /// Nothing, or the difference found.
 pub type Same<T = ()> = Result<T, String>;
@@ -196,6 +197,13 @@ impl Caller {
         self.same(&inputs, got, expected, lent.wrong(yard).or_else(|| bytes.wrong("bytes", &after)))
     }
 
+    /// The library's length of a yard that needs so many moves, for what must follow from it. What it is lent is compared by `length_bound`.
+    pub fn library_length(&self, yard: &Yard, moves: u32) -> Same {
+        let inputs = Inputs::of("length_bound", yard);
+        let got = during(&inputs, || library::length_bound(&yard.parents, &yard.pebbles, &yard.targets, &yard.depths, &mut 0));
+        self.same(&inputs, got, Ok(Length { moves, bytes: 2 * moves }), None)
+    }
+
     pub fn longest_plan(&self, n: usize) -> Same {
         let nothing = Yard::default();
         let inputs = Inputs { numbers: &[n], ..Inputs::of("longest_plan", &nothing) };
@@ -270,6 +278,24 @@ impl Caller {
         Ok(expected)
     }
 
+    /// The openings, with a list of `room` bytes. Gives back what both sides answer, with what they write if they accept.
+    pub fn openings(&self, yard: &Yard, room: usize) -> Same<Answer<Vec<u8>>> {
+        let inputs = Inputs { numbers: &[room], ..Inputs::of("openings", yard) };
+        let before = unwritten(room);
+        let lent = self.lend(yard);
+        let mut list = self.lender.lend(&before);
+        let got =
+            during(&inputs, || library::openings(lent.parents.list(), lent.pebbles.list(), lent.targets.list(), lent.depths.list(), list.list_mut()));
+        let expected = openings::openings(yard, room);
+        let after = written(&before, &expected);
+        let count = expected.as_ref().map(|openings| openings.len() as u32 / 2).map_err(|refusal| *refusal);
+        let mut quick_list = before.clone();
+        quick(&inputs, fast::openings(&yard.parents, &yard.pebbles, &yard.targets, &yard.depths, &mut quick_list), &count)?;
+        quick(&inputs, Ok(&quick_list), &Ok(&after))?;
+        self.same(&inputs, got, count, lent.wrong(yard).or_else(|| list.wrong("openings", &after)))?;
+        Ok(expected)
+    }
+
     /// An event on a yard and a list of demands, its own or not. Gives back what both sides answer, with what they leave if they accept.
     pub fn event(&self, kept: &Kept, event: Event, node: usize) -> Same<Answer<Kept>> {
         let Kept { yard, demands } = kept;
@@ -331,16 +357,19 @@ impl Caller {
         Ok(expected)
     }
 
-    pub fn push(&self, yard: &Yard, from: usize, to: usize) -> Same {
+    /// One push. Gives back what both sides answer, with the pebbles after it if they accept.
+    pub fn push(&self, yard: &Yard, from: usize, to: usize) -> Same<Answer<Vec<u8>>> {
         let inputs = Inputs { numbers: &[from, to], ..Inputs::of("push", yard) };
         let mut lent = self.lend(yard);
         let got = during(&inputs, || library::push(lent.parents.list(), lent.pebbles.list_mut(), lent.targets.list(), lent.depths.list(), from, to));
         let expected = checker::push(yard, from, to);
         let after = Yard { pebbles: written(&yard.pebbles, &expected), ..yard.clone() };
-        self.same(&inputs, got, expected.map(|_| ()), lent.wrong(&after))
+        let accepted = expected.as_ref().map(|_| ()).map_err(|refusal| *refusal);
+        self.same(&inputs, got, accepted, lent.wrong(&after))?;
+        Ok(expected)
     }
 
-    /// The checker, and the excess, which refuses as it does.
+    /// The checker, and the excess, which refuses as it does and is even where it does not (request 2.13).
     pub fn check(&self, yard: &Yard, plan: &[u8]) -> Same {
         let inputs = Inputs { bytes: plan, ..Inputs::of("check", yard) };
         let lent = self.lend(yard);
@@ -353,6 +382,9 @@ impl Caller {
 
         let inputs = Inputs { call: "excess", ..inputs };
         let got = during(&inputs, || library::excess(lent.parents.list(), lent.pebbles.list(), lent.targets.list(), lent.depths.list(), list.list()));
+        if got.is_ok_and(|excess| !excess.is_multiple_of(2)) {
+            return Err(format!("{inputs}the library answers {got:?}, which is odd"));
+        }
         self.same(&inputs, got, expected.map(|checked| checked.excess), lent.wrong(yard).or_else(|| list.wrong("plan", plan)))
     }
 

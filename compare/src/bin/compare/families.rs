@@ -2,7 +2,7 @@
 
 use crate::calls::{Caller, Same};
 use crate::worked::worked;
-use crate::{distances, events, parts, sheets, steps, wear};
+use crate::{distances, events, openings, parts, sheets, steps, wear};
 use unrelated::planner::{Choice, Turn};
 use unrelated::random::Random;
 use unrelated::shapes::{self, Shape};
@@ -13,7 +13,7 @@ use unrelated::{checker, damage, demands, figures, follow, library, planner, rep
 /// A family tries its cases and tells how many there were.
 pub type Family = fn(&Caller, Thin) -> Same<u64>;
 
-pub const FAMILIES: [(&str, Family); 44] = [
+pub const FAMILIES: [(&str, Family); 49] = [
     ("yards and examples of documents 01 and 02", |caller, _| worked(caller)),
     ("every tree up to 5 nodes of depth 1, all counts, by search", every_tree),
     ("every tree up to 4 nodes of small depths, all counts, by search", every_deep_tree),
@@ -47,6 +47,11 @@ pub const FAMILIES: [(&str, Family); 44] = [
     ("parts of every tree up to 5 nodes, small depths, all counts", parts::every_tree),
     ("parts of yards to 256 nodes, many, few and one, mingled", parts::all_shapes),
     ("parts of lists with faults, other part lists, any room", parts::damaged),
+    ("openings of every tree up to 5 nodes, all counts, by search", openings::every_tree),
+    ("openings of up to 7 nodes, against the search", openings::against_search),
+    ("openings of yards to 256 nodes, few and many", openings::all_shapes),
+    ("openings chosen by lot and obeyed until none is left", openings::runs),
+    ("openings of lists with faults, any room", openings::damaged),
     ("wear of the plan of every tree up to 5 nodes, every width", wear::every_tree),
     ("wear of every plan of few moves on small trees, every width", wear::every_plan),
     ("wear on up to 256 nodes, of the planner's plans and others", wear::all_shapes),
@@ -374,11 +379,12 @@ fn any_lists(caller: &Caller, yard: &Yard, random: &mut Random) -> Same {
     caller.check(yard, &plan)?;
     caller.trial(yard, &plan, random.below(4) as u16)?;
     let [from, to] = damage::any_move(yard, random);
-    caller.push(yard, usize::from(from), usize::from(to))?;
+    caller.push(yard, usize::from(from), usize::from(to)).map(drop)?;
     events::any_lists(caller, yard, random)?;
     distances::any_lists(caller, yard, random)?;
     steps::any_lists(caller, yard, &plan, random)?;
     parts::any_lists(caller, yard, random)?;
+    openings::any_lists(caller, yard, random)?;
     wear::any_lists(caller, yard, &plan, random)
 }
 
@@ -531,7 +537,7 @@ fn pushes(caller: &Caller, thin: Thin) -> Same<u64> {
             damage::lists(&mut yard, &mut random);
         }
         let [from, to] = damage::any_move(&yard, &mut random).map(|node| damage::number(node, &yard, &mut random));
-        caller.push(&yard, from, to)?;
+        caller.push(&yard, from, to).map(drop)?;
     }
     Ok(cases)
 }
@@ -550,6 +556,7 @@ fn no_address(_: &Caller, _: Thin) -> Same<u64> {
         [
             ("plan", javendriky_plan(null(), 0, null(), 0, null(), 0, null(), 0, null_mut(), 0), 1_000_000),
             ("plan_parts", javendriky_plan_parts(null(), 0, null(), 0, null(), 0, null(), 0, null_mut(), 0, null_mut(), 0), 1_000_000),
+            ("openings", javendriky_openings(null(), 0, null(), 0, null(), 0, null(), 0, null_mut(), 0), 1_000_000),
             ("test_yard", javendriky_test_yard(null(), 0, null(), 0, null(), 0, null(), 0), 1_000_000),
             ("demands", javendriky_demands(null(), 0, null(), 0, null(), 0, null(), 0, null_mut(), 0), 1_000_000),
             ("length_bound", javendriky_length_bound(null(), 0, null(), 0, null(), 0, null(), 0, &mut bytes), 1_000_000),
@@ -579,6 +586,7 @@ fn no_address(_: &Caller, _: Thin) -> Same<u64> {
                 javendriky_plan_parts(parents.as_ptr(), 1, one.as_ptr(), 1, one.as_ptr(), 1, one.as_ptr(), 1, null_mut(), 0, parts.as_mut_ptr(), 1),
                 0,
             ),
+            ("openings", javendriky_openings(parents.as_ptr(), 1, one.as_ptr(), 1, one.as_ptr(), 1, one.as_ptr(), 1, null_mut(), 0), 0),
             ("demands", javendriky_demands(parents.as_ptr(), 1, one.as_ptr(), 1, one.as_ptr(), 1, one.as_ptr(), 1, null_mut(), 0), 2_000_000),
             (
                 "target_set",

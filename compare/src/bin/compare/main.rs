@@ -9,6 +9,7 @@ mod distances;
 mod events;
 mod families;
 mod lent;
+mod openings;
 mod parts;
 mod sheets;
 mod steps;

@@ -68,8 +68,8 @@ fn parted(caller: &Caller, yard: &Yard, room: usize, length: usize, random: &mut
     Ok(Ok((groups.len(), moving)))
 }
 
-/// Rooms about the bytes of a plan: as many, more, a byte or a move too few, none.
-fn rooms(bytes: usize) -> [usize; 7] {
+/// Rooms about the bytes that are to be written: as many, more, a byte or a move too few, none.
+pub fn rooms(bytes: usize) -> [usize; 7] {
     [bytes, bytes + 1, bytes + 2, bytes + 77, bytes.saturating_sub(1), bytes.saturating_sub(2), 0]
 }
 
@@ -101,13 +101,18 @@ fn small(caller: &Caller, yard: &Yard, random: &mut Random) -> Same {
     caller.plan_parts(yard, room, length).map(drop)
 }
 
-/// Every tree up to 5 nodes of depth 1, up to 3 of depths 1 to 3, and of 4 of which one or two have depth 2, with all pebbles and targets.
+/// Up to 5 nodes of depth 1, up to 3 of depths 1 to 3, and 4 of which one or two have depth 2.
+pub fn small_depths() -> impl Iterator<Item = Vec<u8>> {
+    let shallow = (1..=5).map(|n| vec![1; n]);
+    let deep = (1..=3).flat_map(|n| shapes::every_depths(n, 3)).chain(shapes::every_depths(4, 2).filter(|depths| total(depths) <= 6));
+    shallow.chain(deep.filter(|depths| total(depths) > depths.len()))
+}
+
+/// Every tree on nodes of such depths, with all pebbles and targets.
 pub fn every_tree(caller: &Caller, thin: Thin) -> Same<u64> {
     let mut random = Random::new(44);
     let (mut number, mut cases) = (0, 0);
-    let shallow = (1..=5).map(|n| vec![1; n]);
-    let deep = (1..=3).flat_map(|n| shapes::every_depths(n, 3)).chain(shapes::every_depths(4, 2).filter(|depths| total(depths) <= 6));
-    for depths in shallow.chain(deep.filter(|depths| total(depths) > depths.len())) {
+    for depths in small_depths() {
         let counts = shapes::every_count(&depths);
         for parents in shapes::every_tree(depths.len()) {
             for (pebbles, targets) in counts.iter().flat_map(|pebbles| counts.iter().map(move |targets| (pebbles, targets))) {

@@ -7,6 +7,7 @@ use unrelated::cabinet::{self, Registers, Stepped, BLOCK_BYTES};
 use unrelated::checker::{check, push, trial, Checked, Tried, MAX_PLAN_BYTES};
 use unrelated::distance::{nearest, reach, Nearest};
 use unrelated::event::{happen, Event, Kept};
+use unrelated::openings::openings;
 use unrelated::parts::{plan_parts, Parted};
 use unrelated::planner::{plan, plan_by, Choice, Turn};
 use unrelated::random::Random;
@@ -71,7 +72,7 @@ impl Worked<'_> {
 
     fn push(&mut self, name: &str, yard: &Yard, from: usize, to: usize, expected: Answer<Vec<u8>>) -> Same {
         self.is(name, push(yard, from, to), expected)?;
-        self.caller.push(yard, from, to)
+        self.caller.push(yard, from, to).map(drop)
     }
 
     fn event(&mut self, name: &str, kept: &Kept, event: Event, node: usize, expected: Answer<Kept>) -> Same {
@@ -96,6 +97,12 @@ impl Worked<'_> {
         let written = expected.map(|(plan, parts)| Parted { plan: plan.to_vec(), parts: parts.to_vec() });
         self.is(name, plan_parts(yard, room, length), written)?;
         self.caller.plan_parts(yard, room.min(MAX_PLAN_BYTES), length).map(drop)
+    }
+
+    /// The openings that are written into a list of so many bytes.
+    fn openings(&mut self, name: &str, yard: &Yard, room: usize, expected: Answer<&[u8]>) -> Same {
+        self.is(&format!("{name}, openings"), openings(yard, room), expected.map(<[u8]>::to_vec))?;
+        self.caller.openings(yard, room.min(MAX_PLAN_BYTES)).map(drop)
     }
 
     /// The crossings, the first move and the edge that the wear call gives.
@@ -193,6 +200,8 @@ pub fn worked(caller: &Caller) -> Same<u64> {
     parts_by_hand(&mut w, &a, &a_plan)?;
     wear_by_hand(&mut w, (&a, &a_plan), (&b, &b_plan))?;
     order_of_28(&mut w)?;
+    openings_by_hand(&mut w, &a, &b)?;
+    most_openings(&mut w)?;
 
     // The table of refusals, with H among them.
     let two = |pebbles: &[u8], targets: &[u8]| yard(&[0, 0], pebbles, targets);
@@ -601,6 +610,9 @@ fn longest_of_all(w: &mut Worked) -> Same {
     // The edge amid the line is crossed by all pebbles.
     w.wear("the longest plan", &longest, &moves, 131_072, Ok((1_024, 0, 128)))?;
     w.wear("the longest plan", &longest, &moves, 131_073, refuse(28, 0))?;
+    // Only the pebbles amid the line can begin.
+    w.openings("the longest plan", &longest, 2, Ok(&[127, 128]))?;
+    w.openings("the longest plan", &longest, 1, refuse(8, 1))?;
     w.printed("too long for the program", &longest, &["refusal place", "8 131072"])?;
     w.printed("a little too long for it", &line(129), &["refusal place", "8 33280"])?;
     let printed = program(&sheet::unjudged(&line(128)));
@@ -700,4 +712,74 @@ fn order_of_28(w: &mut Worked) -> Same {
         w.wear("wear, 28 of no move", &home, &[], width, refuse(28, 0))?;
     }
     w.wear("wear, 28 of no move", &home, &[], 1, refuse(28, 0))
+}
+
+/// Request 2.13, each of its rules on a small yard.
+fn openings_by_hand(w: &mut Worked, a: &Yard, b: &Yard) -> Same {
+    // Before 0 2 there is nothing at 0, and before 3 1 there is no place at 1.
+    let of_a = [1, 0, 1, 4];
+    w.openings("A", a, ANY, Ok(&of_a))?;
+    w.check("A, the other opening", a, &[1, 4, 3, 1, 1, 0, 0, 2], Ok(Checked { moves: 4, excess: 0 }))?;
+    // The pebble leaves its own target.
+    w.openings("B", b, ANY, Ok(&[1, 2]))?;
+    w.openings("C", &yard(&[0], &[1], &[1]), 0, Ok(&[]))?;
+    w.openings("D", &yard(&[0, 0], &[1, 0], &[1, 0]), 0, Ok(&[]))?;
+
+    // Node 2 has openings to three children and to its parent, which has a number among theirs, above or below them.
+    let among = |parents: &[u8], targets: &[u8]| deep(parents, &[0, 0, 5, 0, 0, 0], targets, &[1, 1, 6, 2, 1, 2]);
+    w.openings("the parent among the children", &among(&[2, 2, 3, 3, 2, 3], &[1, 1, 0, 2, 1, 0]), ANY, Ok(&[2, 0, 2, 1, 2, 3, 2, 4]))?;
+    w.openings("the parent behind the children", &among(&[2, 2, 5, 5, 2, 5], &[1, 1, 0, 0, 1, 2]), ANY, Ok(&[2, 0, 2, 1, 2, 4, 2, 5]))?;
+    w.openings("the parent before the children", &among(&[0, 2, 0, 2, 2, 0], &[1, 1, 0, 2, 1, 0]), ANY, Ok(&[2, 0, 2, 1, 2, 3, 2, 4]))?;
+    // The node that is left goes before the one that is entered, and before up and down.
+    w.openings("by the node left", &deep(&[1, 1, 1], &[1, 1, 0], &[0, 1, 1], &[1, 2, 1]), ANY, Ok(&[0, 1, 1, 2]))?;
+    w.openings("by the node left, down first", &deep(&[0, 0, 0], &[1, 0, 1], &[1, 1, 0], &[2, 1, 1]), ANY, Ok(&[0, 1, 2, 0]))?;
+
+    // A legal move over an edge whose demand is 0, one against its demand, one out of a node that is empty, one into a full node.
+    w.openings("no demand", &yard(&[0, 0, 0], &[1, 0, 0], &[1, 0, 0]), ANY, Ok(&[]))?;
+    w.openings("against the demand", &deep(&[0, 0], &[2, 1], &[1, 2], &[3, 2]), ANY, Ok(&[0, 1]))?;
+    w.openings("up, against the demand", &deep(&[0, 0], &[1, 2], &[2, 1], &[3, 3]), ANY, Ok(&[1, 0]))?;
+    w.openings("an empty node and a full one", &yard(&[0, 0, 1, 2], &[0, 0, 1, 1], &[1, 1, 0, 0]), ANY, Ok(&[2, 1]))?;
+    // Of several pebbles that are to go over an edge it is one move, listed once.
+    w.openings("listed once", &deep(&[0, 0], &[3, 0], &[0, 3], &[3, 3]), ANY, Ok(&[0, 1]))?;
+
+    // Each refusal before the next: a circle, unequal totals, a list without room for all openings, which are fewer than the moves of the plan.
+    let circle = yard(&[0, 0, 0, 4, 3], &[0; 5], &a.targets);
+    let unequal = yard(&a.parents, &[0, 1, 0, 0, 0], &a.targets);
+    for room in [0, 3, ANY] {
+        w.openings("6 before 7", &circle, room, refuse(6, 3))?;
+        w.openings("7 before 8", &unequal, room, refuse(7, 0))?;
+    }
+    for room in 0..4 {
+        w.openings("A, 8 with their number", a, room, refuse(8, 2))?;
+    }
+    for room in 4..10 {
+        w.openings("A, room for all", a, room, Ok(&of_a))?;
+    }
+    Ok(())
+}
+
+/// As many openings as edges, which is the most that a list must hold: a star of 256 nodes, its leaves by turns held and wanted, its root with a place and a pebble
+/// for each.
+fn most_openings(w: &mut Worked) -> Same {
+    for root in [0, 100, 255] {
+        let held = |leaf: u8| (leaf - u8::from(leaf > root)).is_multiple_of(2);
+        let list = |of_root: u8, of_leaf: &dyn Fn(u8) -> u8| Vec::from_iter((0..=255).map(|node| if node == root { of_root } else { of_leaf(node) }));
+        // Held are 128 leaves, wanted 127.
+        let (pebbles, targets) = (list(4, &|leaf| u8::from(held(leaf))), list(5, &|leaf| u8::from(!held(leaf))));
+        let star = deep(&[root; 256], &pebbles, &targets, &list(8, &|_| 1));
+        let of_node = |node: u8| match node {
+            _ if node == root => (0..=255).filter(|&leaf| leaf != root && !held(leaf)).map(|leaf| [root, leaf]).collect(),
+            _ if held(node) => vec![[node, root]],
+            _ => vec![],
+        };
+        let due = (0..=255).flat_map(of_node).collect::<Vec<[u8; 2]>>().concat();
+        w.is("as many as edges", due.len(), 510)?;
+        for room in [510, 511, 600] {
+            w.openings("as many as edges", &star, room, Ok(&due))?;
+        }
+        for room in [0, 254, 255, 508, 509] {
+            w.openings("as many as edges, 8", &star, room, refuse(8, 255))?;
+        }
+    }
+    Ok(())
 }
