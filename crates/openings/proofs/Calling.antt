@@ -1,5 +1,5 @@
 -- The call: the openings, listed apart, and copied to a list that has room for them.
-use mathlib.Core.Path.{_≡_, refl, sym, ap, _∙_}
+use mathlib.Core.Path.{_≡_}
 use mathlib.Core.List.{List, _++_}
 use mathlib.Core.Option.{none}
 use Prim.Native.Nat.{ℕ, _*_, _/_, _≤_, _<_}
@@ -11,12 +11,11 @@ use Rattle.model.specs.Yard.{Yard, Matched}
 use Rattle.model.specs.Judge.{fault, Tree}
 use Rattle.model.specs.Openings.{openings}
 use Rattle.model.specs.Calls.Answers.{answer, lent, overwrite}
-use Rattle.model.specs.Calls.Plans.{bytes}
 use Rattle.model.specs.Calls.Openings.{openingsFault, openingsAnswer, openingsList}
 use Rattle.laws.proofs.Basics.{single}
 use Rattle.laws.proofs.Judged.{facts}
 use Rattle.laws.proofs.Openings.{openings-few}
-use Rattle.laws.proofs.Calls.{totals-none, length-bytes, take-overwrite}
+use Rattle.laws.proofs.Calls.{totals-none}
 use Rattle.openings.specs.Listing.{Holds, roomFault}
 
 -- a list that is too short, and one that is not
@@ -31,7 +30,7 @@ pub copied : (moves list new : List ℕ) (n : ℕ) → n ≤ length moves → ne
 copied moves list new n l e = rw (e, length-take-le n moves l)
 
 -- the answer and the list
-module _ (y : Yard) (t : Tree y) (m : Matched y) {before moves : List ℕ} {k : ℕ} (h : Holds (openings y) before moves k) where
+module _ (y : Yard) (t : Tree y) (m : Matched y) {moves : List ℕ} {k : ℕ} (h : Holds (openings y) moves k) where
   pub listed-fits : 2 * k ≤ length moves
   listed-fits = omega (arith, h .room, h .counted, openings-few y t m, facts y t .few)
 
@@ -43,4 +42,4 @@ module _ (y : Yard) (t : Tree y) (m : Matched y) {before moves : List ℕ} {k : 
   answer-is list = rw (fault-is (length list), ← (h .counted))
 
   pub list-is : (list : List ℕ) → lent (roomFault k (length list)) (overwrite (take (2 * k) moves) list) list ≡ openingsList y list
-  list-is list = rw (fault-is (length list), h .written, take-overwrite (bytes (openings y)) before (2 * k) (length-bytes (openings y) ∙ ap (λ (n : ℕ). 2 * n) (sym (h .counted))))
+  list-is list = rw (fault-is (length list), h .front)

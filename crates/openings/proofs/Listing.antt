@@ -7,14 +7,13 @@ use Prim.Native.Nat.{ℕ, zero, suc, _+_, _-_, _*_, _≤_, _<_}
 use native.Mathlib.Omega.{arith}
 use native.Mathlib.Numerals.{add-one}
 use native.Mathlib.Decide.{ℕ-discrete, decLt}
-use lib.ListN.{length, getD, set, length-set, length-append, length-map}
+use lib.ListN.{length, getD, set, take, length-set, length-append, length-map}
 use lib.Dec.{eqb, leb}
-use borrow.Author.Tests.{leb-true, le-leb, lt-leb}
+use borrow.Author.Tests.{leb-true, le-leb, lt-leb, eq-eqb, ne-eqb}
 use Rattle.model.specs.Yard.{Yard, size, parent, one, sum, below, headOr, isChild, Matched}
 use Rattle.model.specs.Judge.{Tree}
 use Rattle.model.specs.Push.{Move, push}
 use Rattle.model.specs.Openings.{opening, openingsFrom, openings}
-use Rattle.model.specs.Calls.Answers.{overwrite}
 use Rattle.model.specs.Calls.Plans.{bytes}
 use Rattle.laws.proofs.Basics.{not-so, below-none}
 use Rattle.laws.proofs.Sums.{length-below, sum-split}
@@ -27,7 +26,7 @@ use Rattle.laws.proofs.Listed.{length-collect}
 use Rattle.laws.proofs.Openings.{opening-step, openings-few}
 use Rattle.serve.specs.Serving.{Lowest, isChildFrom}
 use Rattle.serve.proofs.Siblings.{none-from, none-between, child-from, next-is}
-use Rattle.serve.proofs.Moving.{write-move}
+use Rattle.serve.proofs.Moving.{bytes-append}
 use Rattle.openings.specs.Listing.{wayOf, Sees, Holds, upTo, AskedChildren, ListedChildren, AskedFrom, ListedFrom, AskedAll, ListedAll}
 use Rattle.openings.proofs.Marking.{marked-down, unmarked-down, marked-up, unmarked-up}
 
@@ -101,24 +100,54 @@ module _ (y : Yard) (a : ℕ) where
     facts y t .few,
   )
 
--- one move more
-holds-more : {ms : List Move} {before list : List ℕ} {k : ℕ} → Holds ms before list k → k < 256 → (a b : ℕ) → Holds (ms ++ (push a b ∷ [])) before (set (set list (2 * k) a) (2 * k + 1) b) (k + 1)
-holds-more {ms} {before} {list} {k} h l a b = record {
-  long = h .long;
-  room = length-set (set list (2 * k) a) (2 * k + 1) b ∙ length-set list (2 * k) a ∙ h .room;
-  written = rw (h .written, h .counted) (write-move ms before a b (omega (arith, h .long, h .counted)));
-  counted = rw (h .counted, length-append ms (push a b ∷ []));
-}
+-- an entry written next to the front of a list, or behind it
+take-next : (n x : ℕ) (list : List ℕ) → n < length list → take (suc n) (set list n x) ≡ take n list ++ (x ∷ [])
+take-next n x [] l = absurd (omega arith)
+take-next zero x (z ∷ list) l = refl
+take-next (suc n) x (z ∷ list) l = ap (λ (l : List ℕ). z ∷ l) (take-next n x list (omega arith))
+
+take-behind : (n m x : ℕ) (list : List ℕ) → n ≤ m → take n (set list m x) ≡ take n list
+take-behind zero m x list l = refl
+take-behind (suc n) m x [] l = refl
+take-behind (suc n) zero x (z ∷ list) l = absurd (omega arith)
+take-behind (suc n) (suc m) x (z ∷ list) l = ap (λ (l : List ℕ). z ∷ l) (take-behind n m x list (omega arith))
+
+-- a move written behind those that are listed, and counted or not
+module _ {ms : List Move} {list : List ℕ} {k : ℕ} (h : Holds ms list k) (a b : ℕ) where
+  still : length (set (set list (2 * k) a) (2 * k + 1) b) ≡ 512
+  still = length-set (set list (2 * k) a) (2 * k + 1) b ∙ length-set list (2 * k) a ∙ h .room
+
+  pub holds-same : Holds ms (set (set list (2 * k) a) (2 * k + 1) b) k
+  holds-same = record {
+    room = still;
+    front = take-behind (2 * k) (2 * k + 1) b (set list (2 * k) a) (omega arith) ∙ take-behind (2 * k) (2 * k) a list (omega arith) ∙ h .front;
+    counted = h .counted;
+  }
+
+  pub holds-more : k < 256 → Holds (ms ++ (push a b ∷ [])) (set (set list (2 * k) a) (2 * k + 1) b) (k + 1)
+  unfolding bytes
+  holds-more l = record {
+    room = still;
+    front =
+        let e : 2 * (k + 1) ≡ suc (2 * k + 1) = omega arith in
+        let f : 2 * k + 1 ≡ suc (2 * k) = omega arith in
+        ap (λ (n : ℕ). take n (set (set list (2 * k) a) (2 * k + 1) b)) e
+        ∙ take-next (2 * k + 1) b (set list (2 * k) a) (omega (arith, h .room, length-set list (2 * k) a))
+        ∙ ap (λ (l : List ℕ). l ++ (b ∷ [])) (ap (λ (n : ℕ). take n (set list (2 * k) a)) f ∙ take-next (2 * k) a list (omega (arith, h .room)) ∙ ap (λ (l : List ℕ). l ++ (a ∷ [])) (h .front))
+        ∙ append-assoc (bytes ms) (a ∷ []) (b ∷ [])
+        ∙ sym (bytes-append ms (push a b ∷ []));
+    counted = rw (h .counted, length-append ms (push a b ∷ []));
+  }
 
 -- the walk over the children: c is the lowest from some number on, and the openings to the nodes below it are listed
-pub record Walking (y : Yard) (before list : List ℕ) (a c end k : ℕ) : Type 0 where
+pub record Walking (y : Yard) (list : List ℕ) (a c end k : ℕ) : Type 0 where
   pub at : ℕ
   pub at-le : at ≤ end
   pub lowest : Lowest (y .parents) a at c
   pub only : (b : ℕ) → at ≤ b → b < end → opening y (push a b) ≡ true → Child (y .parents) a b
-  pub holds : Holds (upTo y a at) before list k
+  pub holds : Holds (upTo y a at) list k
 
-pub walk-first : {y : Yard} {t e list before : List ℕ} {a i c end k : ℕ} → AskedChildren y t e list before a i c end k → Walking y before list a c end k
+pub walk-first : {y : Yard} {t e list : List ℕ} {a i c end k : ℕ} → AskedChildren y t e list a i c end k → Walking y list a c end k
 walk-first {i = i} h = record { at = i; at-le = h .low; lowest = h .at; only = h .only; holds = h .holds }
 
 -- the lowest child from i on, where i is none
@@ -133,9 +162,9 @@ lowest-on {ps} {u} {i} h e = record { is = h .is ∙ ap (headOr u) (below-cong (
         side (yes l) = rw (lt-leb i v l, lt-leb (i + 1) v (omega arith))
         side (no l) = rw (le-leb i v (omega arith), le-leb (i + 1) v (omega arith))
 
-module _ {y : Yard} {before list : List ℕ} {a c end k : ℕ} (w : Walking y before list a c end k) where
+module _ {y : Yard} {list : List ℕ} {a c end k : ℕ} (w : Walking y list a c end k) where
   -- no child lies between
-  between : (j : ℕ) → ((b : ℕ) → Child (y .parents) a b → w .at ≤ b → j ≤ b) → (w .at) ≤ j → j ≤ end → Holds (upTo y a j) before list k
+  between : (j : ℕ) → ((b : ℕ) → Child (y .parents) a b → w .at ≤ b → j ≤ b) → (w .at) ≤ j → j ≤ end → Holds (upTo y a j) list k
   between j h l m = rw (up-to-skip y a (w .at) j l (λ b p q. not-so _ (λ e. let r = h b (w .only b p (omega arith) e) p in omega (arith, r)))) (w .holds)
 
   -- behind the last child
@@ -143,7 +172,7 @@ module _ {y : Yard} {before list : List ℕ} {a c end k : ℕ} (w : Walking y be
     none-left : (b : ℕ) → Child (y .parents) a b → (w .at) ≤ b → ⊥
     none-left b r p = false≢true (sym (below-none (length (y .parents)) (isChildFrom (y .parents) a (w .at)) (none-from (w .lowest) e) b (r .lt)) ∙ rw (le-leb (w .at) b p) (child-is (y .parents) a b r))
 
-    pub walk-end : ListedChildren y before list a a end k
+    pub walk-end : ListedChildren y list a a end k
     walk-end = record {
       at = record {
         is = missed (length (y .parents)) a (isChildFrom (y .parents) a end) (λ v l. not-so _ (λ q.
@@ -168,7 +197,7 @@ module _ {y : Yard} {before list : List ℕ} {a c end k : ℕ} (w : Walking y be
         go (no l) = omega arith
 
     -- at a child with a higher number than the end
-    pub walk-past : end ≤ c → ListedChildren y before list a c end k
+    pub walk-past : end ≤ c → ListedChildren y list a c end k
     walk-past l = record {
       at = record {
         is = found (length (y .parents)) a c (isChildFrom (y .parents) a end) (walk-child .lt) (λ v m. not-so _ (λ q.
@@ -181,33 +210,39 @@ module _ {y : Yard} {before list : List ℕ} {a c end k : ℕ} (w : Walking y be
 
     -- on to the next
     module _ {t e : List ℕ} (s : Sees y t e) (l : a < size y) (m : c < end) (n : end ≤ size y) where
-      here : Holds (upTo y a c) before list k
+      here : Holds (upTo y a c) list k
       here = between c from-c past (omega arith)
 
       mark : getD e c 0 ≡ wayOf y c
       mark = s .marks .1 c (walk-child .lt)
 
-      goes-on : {new : List ℕ} {k′ : ℕ} → Holds (upTo y a (c + 1)) before new k′ → Walking y before new a (getD t (512 + c) 0) end k′
+      goes-on : {new : List ℕ} {k′ : ℕ} → Holds (upTo y a (c + 1)) new k′ → Walking y new a (getD t (512 + c) 0) end k′
       goes-on h = record { at = c + 1; at-le = omega arith; lowest = next-is (s .tables) walk-child; only = λ b p q o. w .only b (omega (arith, past)) q o; holds = h }
 
       pub walk-room : k < 256
       walk-room = omega (arith, here .counted, few y a (s .tree) (s .matched) l c (omega arith))
 
-      pub walk-listed : getD e c 0 ≡ 1 → Walking y before (set (set list (2 * k) a) (2 * k + 1) c) a (getD t (512 + c) 0) end (k + 1)
-      walk-listed q = goes-on (rw (up-to-more y a c (rw (walk-child .up) at (marked-down y (s .tree) (s .matched) c (walk-child .lt) mark q))) (holds-more here walk-room a c))
-
-      pub walk-passed : getD e c 0 ≢ 1 → Walking y before list a (getD t (512 + c) 0) end k
-      walk-passed q = goes-on (rw (up-to-skip y a c (c + 1) (omega arith) (λ b p o. let x : b ≡ c = omega arith in rw x (rw (walk-child .up) at (unmarked-down y (s .tree) (s .matched) c (walk-child .lt) mark q)))) here)
+      -- the child's move, counted if it is an opening
+      pub walk-next : {new : List ℕ} {k′ : ℕ} → new ≡ set (set list (2 * k) a) (2 * k + 1) c → k′ ≡ one (eqb (getD e c 0) 1) → Walking y new a (getD t (512 + c) 0) end (k + k′)
+      walk-next {k′ = k′} n q = rw n (go (ℕ-discrete (getD e c 0) 1))
+        where
+          go : Dec (getD e c 0 ≡ 1) → Walking y (set (set list (2 * k) a) (2 * k + 1) c) a (getD t (512 + c) 0) end (k + k′)
+          go (yes o) =
+              let x : k + k′ ≡ k + 1 = omega (arith, q, ap one (eq-eqb (getD e c 0) 1 o)) in
+              rw x (goes-on (rw (up-to-more y a c (rw (walk-child .up) at (marked-down y (s .tree) (s .matched) c (walk-child .lt) mark o))) (holds-more here a c walk-room)))
+          go (no o) =
+              let x : k + k′ ≡ k = omega (arith, q, ap one (ne-eqb (getD e c 0) 1 o)) in
+              rw x (goes-on (rw (up-to-skip y a c (c + 1) (omega arith) (λ b p r. let z : b ≡ c = omega arith in rw z (rw (walk-child .up) at (unmarked-down y (s .tree) (s .matched) c (walk-child .lt) mark o)))) (holds-same here a c)))
 
 -- from one node: all children at once, or those below the parent, the parent and the others
-module _ {y : Yard} {t e list before : List ℕ} {a n k : ℕ} (h : AskedFrom y t e list before a n k) where
+module _ {y : Yard} {t e list : List ℕ} {a n k : ℕ} (h : AskedFrom y t e list a n k) where
   lt : a < size y
   lt = h .node
 
   mark-of : getD e a 0 ≡ wayOf y a
   mark-of = h .sees .marks .1 a lt
 
-  start : (end : ℕ) → end ≤ size y → ((b : ℕ) → b < end → opening y (push a b) ≡ true → b ≢ parent y a) → AskedChildren y t e list before a 0 (getD t (256 + a) 0) end k
+  start : (end : ℕ) → end ≤ size y → ((b : ℕ) → b < end → opening y (push a b) ≡ true → b ≢ parent y a) → AskedChildren y t e list a 0 (getD t (256 + a) 0) end k
   start end l d = record {
     sees = h .sees;
     node = lt;
@@ -222,10 +257,10 @@ module _ {y : Yard} {t e list before : List ℕ} {a n k : ℕ} (h : AskedFrom y 
       child b (inl r) d = r
       child b (inr q) d = absurd (d q)
 
-  pub asked-all : getD e a 0 ≢ 2 → AskedChildren y t e list before a 0 (getD t (256 + a) 0) n k
+  pub asked-all : getD e a 0 ≢ 2 → AskedChildren y t e list a 0 (getD t (256 + a) 0) n k
   asked-all d = rw (h .all) (start (size y) (omega arith) (λ b _ o q. false≢true (sym (unmarked-up y (h .sees .tree) (h .sees .matched) a lt mark-of d) ∙ rw q at o)))
 
-  pub listed-all : {new : List ℕ} {c k′ : ℕ} → ListedChildren y before new a c n k′ → ListedFrom y before new a k′
+  pub listed-all : {new : List ℕ} {c k′ : ℕ} → ListedChildren y new a c n k′ → ListedFrom y new a k′
   listed-all r = rw (← (up-to-all y a), ← (h .all)) (r .holds)
 
   -- an opening goes to the parent
@@ -236,13 +271,13 @@ module _ {y : Yard} {t e list before : List ℕ} {a n k : ℕ} (h : AskedFrom y 
     above-lt : parent y a < size y
     above-lt = wood y (h .sees .tree) .parent-lt a lt
 
-    pub asked-lower : AskedChildren y t e list before a 0 (getD t (256 + a) 0) (getD t a 0) k
+    pub asked-lower : AskedChildren y t e list a 0 (getD t (256 + a) 0) (getD t a 0) k
     asked-lower = rw above (start (parent y a) (omega (arith, above-lt)) (λ b l _ q. omega (arith, l, q)))
 
     opens : opening y (push a (parent y a)) ≡ true
     opens = marked-up y (h .sees .tree) (h .sees .matched) a lt mark-of u
 
-    module _ {new : List ℕ} {c k′ : ℕ} (r : ListedChildren y before new a c (getD t a 0) k′) where
+    module _ {new : List ℕ} {c k′ : ℕ} (r : ListedChildren y new a c (getD t a 0) k′) where
       pub upper-room : k′ < 256
       upper-room = omega (arith, r .holds .counted, few y a (h .sees .tree) (h .sees .matched) lt (getD t a 0) (omega (arith, above, above-lt)))
 
@@ -253,7 +288,7 @@ module _ {y : Yard} {t e list before : List ℕ} {a n k : ℕ} (h : AskedFrom y 
           let w = wood y (h .sees .tree) in
           no-pair w a (getD t a 0) lt (λ e. r .other (above ∙ ap (parent y) e ∙ w .root-parent ∙ sym e)) (sym above) (sym (r .up)))
 
-      pub asked-higher : {p : ℕ} {newer : List ℕ} → p ≡ getD t a 0 → newer ≡ set (set new (2 * k′) a) (2 * k′ + 1) p → AskedChildren y t e newer before a (getD t a 0 + 1) c n (k′ + 1)
+      pub asked-higher : {p : ℕ} {newer : List ℕ} → p ≡ getD t a 0 → newer ≡ set (set new (2 * k′) a) (2 * k′ + 1) p → AskedChildren y t e newer a (getD t a 0 + 1) c n (k′ + 1)
       asked-higher p-is is = rw (h .all) (record {
         sees = h .sees;
         node = lt;
@@ -261,7 +296,7 @@ module _ {y : Yard} {t e list before : List ℕ} {a n k : ℕ} (h : AskedFrom y 
         low = omega (arith, above, above-lt);
         high = omega arith;
         only = λ b l q o. child b l (goes y a b o);
-        holds = rw (is, p-is, up-to-more y a (getD t a 0) (rw above opens)) (holds-more (r .holds) upper-room a (getD t a 0));
+        holds = rw (is, p-is, up-to-more y a (getD t a 0) (rw above opens)) (holds-more (r .holds) a (getD t a 0) upper-room);
       })
         where
           child : (b : ℕ) → getD t a 0 + 1 ≤ b → Child (y .parents) a b ⊎ (b ≡ parent y a) → Child (y .parents) a b
@@ -269,14 +304,14 @@ module _ {y : Yard} {t e list before : List ℕ} {a n k : ℕ} (h : AskedFrom y 
           child b l (inr q) = absurd (omega (arith, l, q, above))
 
 -- node by node
-module _ {y : Yard} {t e before : List ℕ} {n : ℕ} (h : AskedAll y t e before n) where
-  pub list-none : Holds (collect 0 (openingsFrom y)) before before 0
+module _ {y : Yard} {t e list : List ℕ} {n : ℕ} (h : AskedAll y t e list n) where
+  pub list-none : Holds (collect 0 (openingsFrom y)) list 0
   unfolding bytes
-  list-none = rw (collect-none (openingsFrom y)) (record { long = h .long; room = h .long; written = refl; counted = refl })
+  list-none = rw (collect-none (openingsFrom y)) (record { room = h .long; front = refl; counted = refl })
 
-  pub asked-from : {list : List ℕ} {a k : ℕ} → a < n → Holds (collect a (openingsFrom y)) before list k → AskedFrom y t e list before a n k
+  pub asked-from : {new : List ℕ} {a k : ℕ} → a < n → Holds (collect a (openingsFrom y)) new k → AskedFrom y t e new a n k
   asked-from l s = record { sees = h .sees; node = omega (arith, h .all); all = h .all; holds = s }
 
-  pub list-whole : {list : List ℕ} {a k : ℕ} → a ≡ n → Holds (collect a (openingsFrom y)) before list k → ListedAll y before list k
+  pub list-whole : {new : List ℕ} {a k : ℕ} → a ≡ n → Holds (collect a (openingsFrom y)) new k → ListedAll y new k
   unfolding openings
   list-whole q s = rw (q ∙ h .all) at s

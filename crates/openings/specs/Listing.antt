@@ -4,7 +4,7 @@ use mathlib.Core.Bool.{true, cond}
 use mathlib.Core.List.{List, _++_, map}
 use mathlib.Core.Option.{Option}
 use Prim.Native.Nat.{ℕ, suc, _*_, _≤_, _<_}
-use lib.ListN.{length, getD}
+use lib.ListN.{length, getD, take}
 use lib.Dec.{leb, ltb}
 use lib.IntN.{ℤ, pos}
 use lib.Signed.{ltZ}
@@ -12,7 +12,6 @@ use Rattle.model.specs.Yard.{Yard, size, parent, below, demand, Matched}
 use Rattle.model.specs.Judge.{Fault, fault, unless, Tree}
 use Rattle.model.specs.Push.{Move, push}
 use Rattle.model.specs.Openings.{opening, openingsFrom, openings}
-use Rattle.model.specs.Calls.Answers.{overwrite}
 use Rattle.model.specs.Calls.Plans.{bytes}
 use Rattle.laws.proofs.Ranges.{collect}
 use Rattle.laws.proofs.Trees.{Child}
@@ -40,11 +39,10 @@ pub record Sees (y : Yard) (t e : List ℕ) : Type 0 where
   pub tables : Tables (y .parents) t
   pub marks : Marks y e
 
--- moves at the front of a list that held others before, and their number
-pub record Holds (ms : List Move) (before list : List ℕ) (k : ℕ) : Type 0 where
-  pub long : length before ≡ 512
+-- moves at the front of a list of 512 bytes, whatever lies behind them, and their number
+pub record Holds (ms : List Move) (list : List ℕ) (k : ℕ) : Type 0 where
   pub room : length list ≡ 512
-  pub written : list ≡ overwrite (bytes ms) before
+  pub front : take (2 * k) list ≡ bytes ms
   pub counted : k ≡ length ms
 
 -- the openings from the nodes below a, and those from a to the nodes below i
@@ -52,35 +50,35 @@ abbrev pub upTo : Yard → ℕ → ℕ → List Move
 upTo y a i = collect a (openingsFrom y) ++ map (push a) (below i (λ b. opening y (push a b)))
 
 -- c is the lowest child of a from number i on; from there to the end every opening from a goes to a child
-pub record AskedChildren (y : Yard) (t e list before : List ℕ) (a i c end k : ℕ) : Type 0 where
+pub record AskedChildren (y : Yard) (t e list : List ℕ) (a i c end k : ℕ) : Type 0 where
   pub sees : Sees y t e
   pub node : a < size y
   pub at : Lowest (y .parents) a i c
   pub low : i ≤ end
   pub high : end ≤ size y
   pub only : (b : ℕ) → i ≤ b → b < end → opening y (push a b) ≡ true → Child (y .parents) a b
-  pub holds : Holds (upTo y a i) before list k
+  pub holds : Holds (upTo y a i) list k
 
-pub record ListedChildren (y : Yard) (before list : List ℕ) (a c end k : ℕ) : Type 0 where
+pub record ListedChildren (y : Yard) (list : List ℕ) (a c end k : ℕ) : Type 0 where
   pub at : Lowest (y .parents) a end c
-  pub holds : Holds (upTo y a end) before list k
+  pub holds : Holds (upTo y a end) list k
 
-pub record AskedFrom (y : Yard) (t e list before : List ℕ) (a n k : ℕ) : Type 0 where
+pub record AskedFrom (y : Yard) (t e list : List ℕ) (a n k : ℕ) : Type 0 where
   pub sees : Sees y t e
   pub node : a < size y
   pub all : n ≡ size y
-  pub holds : Holds (collect a (openingsFrom y)) before list k
+  pub holds : Holds (collect a (openingsFrom y)) list k
 
-abbrev pub ListedFrom : Yard → List ℕ → List ℕ → ℕ → ℕ → Type 0
-ListedFrom y before list a k = Holds (collect (suc a) (openingsFrom y)) before list k
+abbrev pub ListedFrom : Yard → List ℕ → ℕ → ℕ → Type 0
+ListedFrom y list a k = Holds (collect (suc a) (openingsFrom y)) list k
 
 pub record AskedAll (y : Yard) (t e list : List ℕ) (n : ℕ) : Type 0 where
   pub sees : Sees y t e
   pub all : n ≡ size y
   pub long : length list ≡ 512
 
-abbrev pub ListedAll : Yard → List ℕ → List ℕ → ℕ → Type 0
-ListedAll y before list k = Holds (openings y) before list k
+abbrev pub ListedAll : Yard → List ℕ → ℕ → Type 0
+ListedAll y list k = Holds (openings y) list k
 
 -- refusal 8, of a list with fewer than two bytes for each of so many moves
 abbrev pub roomFault : ℕ → ℕ → Option Fault

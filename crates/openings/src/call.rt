@@ -29,7 +29,7 @@ fn list_apart(
 ) -> usize
     requires { ⌜ Tree (handed parents pebbles targets depths) × Matched (handed parents pebbles targets depths) × Demands (handed parents pebbles targets depths) (now demands) ⌝ }
     requires { ⌜ length (now moves) ≡ 512 ⌝ }
-    ensures { λ r. ⌜ ListedAll (given parents pebbles targets depths) (was moves) (became moves) r ⌝ }
+    ensures { λ r. ⌜ ListedAll (given parents pebbles targets depths) (became moves) r ⌝ }
 {
     let e = mark_edges(parents, pebbles, targets, depths, demands);
     let t = tables(parents);

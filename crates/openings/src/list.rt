@@ -1,8 +1,8 @@
 // The openings in their order: node by node in rising number, and of each its children in rising number, with its parent among them at its place.
 ghost use mathlib.Core.Path.{_≡_};
-ghost use mathlib.Core.List.{List};
 ghost use Prim.Native.Nat.{ℕ, _<_};
-ghost use Rattle.model.specs.Yard.{Yard};
+ghost use lib.Dec.{eqb};
+ghost use Rattle.model.specs.Yard.{Yard, one};
 ghost use Rattle.model.specs.Given.{was, became};
 ghost use Rattle.openings.specs.Listing.{AskedChildren, ListedChildren, AskedFrom, ListedFrom, AskedAll, ListedAll};
 use serve::choose::wide;
@@ -14,7 +14,18 @@ pub struct Walk {
     pub count: usize,
 }
 
-// Lists the openings from a to its children, from one on, with numbers below `end`.
+// 1 for an edge that is marked with an opening that comes down, else 0.
+fn opens_down(way: u8) -> usize
+    ensures { λ r. ⌜ r ≡ one (eqb way 1) ⌝ }
+{
+    if way == 1 {
+        return 1;
+    }
+    0
+}
+
+// Lists the openings from a to its children, from one on, with numbers below `end`. Each child's move is written, and counted if it is an opening: else the next one is
+// written over it. So no jump depends on which are.
 fn list_children(
     t: &[u8; 768],
     e: &[u8; 256],
@@ -24,8 +35,8 @@ fn list_children(
     end: usize,
     count: usize,
 ) -> Walk
-    requires { ⌜ ((y : Yard) × (before : List ℕ) × (i : ℕ) × AskedChildren y (now t) (now e) (now list) before a i from end count) ⌝ }
-    ensures { λ r. ⌜ ((y : Yard) (before : List ℕ) (i : ℕ) → AskedChildren y (was t) (was e) (was list) before a i from end count → ListedChildren y before (became list) a (r .child) end (r .count)) ⌝ }
+    requires { ⌜ ((y : Yard) × (i : ℕ) × AskedChildren y (now t) (now e) (now list) a i from end count) ⌝ }
+    ensures { λ r. ⌜ ((y : Yard) (i : ℕ) → AskedChildren y (was t) (was e) (was list) a i from end count → ListedChildren y (became list) a (r .child) end (r .count)) ⌝ }
 {
     let mut c = from;
     let mut k = count;
@@ -33,12 +44,9 @@ fn list_children(
         if c >= end {
             return Walk { child: c, count: k };
         }
-        let v = c;
-        c = wide(t[512 + v]);
-        if e[v] == 1 {
-            record_move(list, k, a, v, true);
-            k += 1;
-        }
+        record_move(list, k, a, c, true);
+        k += opens_down(e[c]);
+        c = wide(t[512 + c]);
     }
     Walk { child: a, count: k }
 }
@@ -52,8 +60,8 @@ fn list_from(
     n: usize,
     count: usize,
 ) -> usize
-    requires { ⌜ ((y : Yard) × (before : List ℕ) × AskedFrom y (now t) (now e) (now list) before a n count) ⌝ }
-    ensures { λ r. ⌜ ((y : Yard) (before : List ℕ) → AskedFrom y (was t) (was e) (was list) before a n count → ListedFrom y before (became list) a r) ⌝ }
+    requires { ⌜ ((y : Yard) × AskedFrom y (now t) (now e) (now list) a n count) ⌝ }
+    ensures { λ r. ⌜ ((y : Yard) → AskedFrom y (was t) (was e) (was list) a n count → ListedFrom y (became list) a r) ⌝ }
 {
     let first = wide(t[256 + a]);
     if e[a] != 2 {
@@ -71,7 +79,7 @@ fn list_from(
 // Lists them all, and answers how many they are.
 pub fn list_openings(t: &[u8; 768], e: &[u8; 256], list: &mut [u8], n: usize) -> usize
     requires { ⌜ ((y : Yard) × AskedAll y (now t) (now e) (now list) n) ⌝ }
-    ensures { λ r. ⌜ ((y : Yard) → AskedAll y (was t) (was e) (was list) n → ListedAll y (was list) (became list) r) ⌝ }
+    ensures { λ r. ⌜ ((y : Yard) → AskedAll y (was t) (was e) (was list) n → ListedAll y (became list) r) ⌝ }
 {
     let mut k = 0;
     let mut a = 0;

@@ -40,7 +40,7 @@ two-behind [] (p ∷ q ∷ l) a b h = refl
 two-behind (x ∷ xs) [] a b h = absurd (omega arith)
 two-behind (x ∷ xs) (p ∷ l) a b h = rw (suc-add (length xs) 1, suc-add (length xs) 2) (ap (λ (r : List ℕ). x ∷ r) (two-behind xs l a b (omega arith)))
 
-pub write-move : (ms : List Move) (plan : List ℕ) (a b : ℕ) → 2 * length ms + 2 ≤ length plan
+write-move : (ms : List Move) (plan : List ℕ) (a b : ℕ) → 2 * length ms + 2 ≤ length plan
     → set (set (overwrite (bytes ms) plan) (2 * length ms) a) (2 * length ms + 1) b ≡ overwrite (bytes (ms ++ (push a b ∷ []))) plan
 unfolding bytes
 write-move ms plan a b h = rw (← (length-bytes ms), two-behind (bytes ms) plan a b (omega (arith, length-bytes ms)), bytes-append ms (push a b ∷ []), append-assoc, length-append (bytes ms) (a ∷ b ∷ []))

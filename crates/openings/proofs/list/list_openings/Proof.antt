@@ -13,7 +13,7 @@ use Rattle.openings.proofs.list.list_openings.Statement.{statement}
 use Rattle.openings.proofs.list.list_openings.Tie as tie
 
 abbrev Inv-loop : tie.InvT-loop
-Inv-loop t e list₀ n k₀ a₀ list k a = (a ≤ n) × ((y : Yard) → AskedAll y t e list₀ n → Holds (collect a (openingsFrom y)) list₀ list k)
+Inv-loop t e list₀ n k₀ a₀ list k a = (a ≤ n) × ((y : Yard) → AskedAll y t e list₀ n → Holds (collect a (openingsFrom y)) list k)
 
 abbrev μ-loop : tie.MeasureT-loop
 μ-loop t e list₀ n k₀ a₀ list k a = n - a
@@ -32,7 +32,7 @@ list-from-requires : tie.Need-list-from-requires Inv-loop μ-loop
 list-from-requires c κs =
     let l = c .before in
     let p = call (l .before) .pre in
-    (p .0, _, asked-from (p .1) (few l .0) (l .before .loop .inv .1 (p .0) (p .1)))
+    (p .0, asked-from (p .1) (few l .0) (l .before .loop .inv .1 (p .0) (p .1)))
 
 add-a : tie.Need-add-a Inv-loop μ-loop
 add-a c = omega (arith, few (c .before .before .before .before))
@@ -43,7 +43,7 @@ loop-less c = omega (arith, few (c .before .before .before .before))
 loop-again : tie.Need-loop-again Inv-loop μ-loop
 loop-again c =
     let l = c .before .before .before .before in
-    (omega (arith, few l), λ y h. rw add-one (c .before .before .list-from .ensures y _ (asked-from h (few l .0) (l .before .loop .inv .1 y h))))
+    (omega (arith, few l), λ y h. rw add-one (c .before .before .list-from .ensures y (asked-from h (few l .0) (l .before .loop .inv .1 y h))))
 
 same-length : tie.Need-same-length Inv-loop μ-loop
 same-length c = let l = c .before in let p = call l .pre in omega (arith, l .loop .inv .1 (p .0) (p .1) .room, p .1 .long)
