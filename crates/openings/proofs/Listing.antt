@@ -15,20 +15,19 @@ use Rattle.model.specs.Judge.{Tree}
 use Rattle.model.specs.Push.{Move, push}
 use Rattle.model.specs.Openings.{opening, openingsFrom, openings}
 use Rattle.model.specs.Calls.Plans.{bytes}
-use Rattle.laws.proofs.Basics.{not-so, below-none}
+use Rattle.laws.proofs.Basics.{not-so}
 use Rattle.laws.proofs.Sums.{length-below, sum-split}
 use Rattle.laws.proofs.Ranges.{collect, collect-none, collect-next}
 use Rattle.laws.proofs.Trees.{Child, is-child, child-is, no-pair}
-use Rattle.laws.proofs.Found.{found, missed, below-cong}
+use Rattle.laws.proofs.Found.{found, missed, below-cong, lowest-is, lowest-missing}
 use Rattle.laws.proofs.Judged.{facts, wood}
 use Rattle.laws.proofs.Step.{Step, ends}
 use Rattle.laws.proofs.Listed.{length-collect}
 use Rattle.laws.proofs.Openings.{opening-step, openings-few}
-use Rattle.serve.specs.Serving.{Lowest, isChildFrom}
-use Rattle.serve.proofs.Siblings.{none-from, none-between, child-from, next-is}
+use Rattle.serve.proofs.Siblings.{ahead}
 use Rattle.serve.proofs.Moving.{bytes-append}
-use Rattle.openings.specs.Listing.{wayOf, Sees, Holds, upTo, AskedChildren, ListedChildren, AskedFrom, ListedFrom, AskedAll, ListedAll}
-use Rattle.openings.proofs.Marking.{marked-down, unmarked-down, marked-up, unmarked-up}
+use Rattle.openings.specs.Listing.{wayOf, downTo, downFrom, Next, Sees, Holds, upTo, AskedChildren, ListedChildren, AskedFrom, ListedFrom, AskedAll, ListedAll}
+use Rattle.openings.proofs.Marking.{marked-up, unmarked-up}
 
 -- an opening from a goes to a child or to the parent
 goes : (y : Yard) (a b : ℕ) → opening y (push a b) ≡ true → Child (y .parents) a b ⊎ (b ≡ parent y a)
@@ -100,29 +99,16 @@ module _ (y : Yard) (a : ℕ) where
     facts y t .few,
   )
 
--- an entry written next to the front of a list, or behind it
+-- an entry written next to the front of a list
 take-next : (n x : ℕ) (list : List ℕ) → n < length list → take (suc n) (set list n x) ≡ take n list ++ (x ∷ [])
 take-next n x [] l = absurd (omega arith)
 take-next zero x (z ∷ list) l = refl
 take-next (suc n) x (z ∷ list) l = ap (λ (l : List ℕ). z ∷ l) (take-next n x list (omega arith))
 
-take-behind : (n m x : ℕ) (list : List ℕ) → n ≤ m → take n (set list m x) ≡ take n list
-take-behind zero m x list l = refl
-take-behind (suc n) m x [] l = refl
-take-behind (suc n) zero x (z ∷ list) l = absurd (omega arith)
-take-behind (suc n) (suc m) x (z ∷ list) l = ap (λ (l : List ℕ). z ∷ l) (take-behind n m x list (omega arith))
-
--- a move written behind those that are listed, and counted or not
+-- a move written behind those that are listed
 module _ {ms : List Move} {list : List ℕ} {k : ℕ} (h : Holds ms list k) (a b : ℕ) where
   still : length (set (set list (2 * k) a) (2 * k + 1) b) ≡ 512
   still = length-set (set list (2 * k) a) (2 * k + 1) b ∙ length-set list (2 * k) a ∙ h .room
-
-  pub holds-same : Holds ms (set (set list (2 * k) a) (2 * k + 1) b) k
-  holds-same = record {
-    room = still;
-    front = take-behind (2 * k) (2 * k + 1) b (set list (2 * k) a) (omega arith) ∙ take-behind (2 * k) (2 * k) a list (omega arith) ∙ h .front;
-    counted = h .counted;
-  }
 
   pub holds-more : k < 256 → Holds (ms ++ (push a b ∷ [])) (set (set list (2 * k) a) (2 * k + 1) b) (k + 1)
   unfolding bytes
@@ -139,114 +125,137 @@ module _ {ms : List Move} {list : List ℕ} {k : ℕ} (h : Holds ms list k) (a b
     counted = rw (h .counted, length-append ms (push a b ∷ []));
   }
 
--- the walk over the children: c is the lowest from some number on, and the openings to the nodes below it are listed
+-- what falls from child to child
+pub falls : {y : Yard} {a c n : ℕ} → c ≢ a → c < 256 → Next y a (c + 1) n → ahead a n < ahead a c
+falls {y} {a} {c} {n} d l e = rw (ne-eqb c a d) (go (ℕ-discrete n a))
+  where
+    go : Dec (n ≡ a) → ahead a n < 256 - c
+    go (yes q) = rw (eq-eqb n a q) (omega arith)
+    go (no q) =
+        let f = lowest-is (size y) a n (downFrom y a (c + 1)) (e .is) q in
+        rw (ne-eqb n a q) (omega (arith, leb-true (c + 1) n (and-eq-true-iff (leb (c + 1) n) (downTo y a n) .0 (f .1) .0)))
+
+-- the walk over the children: c is the lowest from some number on to which an opening goes, and the openings to the nodes below it are listed
 pub record Walking (y : Yard) (list : List ℕ) (a c end k : ℕ) : Type 0 where
   pub at : ℕ
   pub at-le : at ≤ end
-  pub lowest : Lowest (y .parents) a at c
+  pub lowest : Next y a at c
   pub only : (b : ℕ) → at ≤ b → b < end → opening y (push a b) ≡ true → Child (y .parents) a b
   pub holds : Holds (upTo y a at) list k
 
-pub walk-first : {y : Yard} {t e list : List ℕ} {a i c end k : ℕ} → AskedChildren y t e list a i c end k → Walking y list a c end k
+pub walk-first : {y : Yard} {t list : List ℕ} {a i c end k : ℕ} → AskedChildren y t list a i c end k → Walking y list a c end k
 walk-first {i = i} h = record { at = i; at-le = h .low; lowest = h .at; only = h .only; holds = h .holds }
 
--- the lowest child from i on, where i is none
-lowest-on : {ps : List ℕ} {u i c : ℕ} → Lowest ps u i c → isChild ps u i ≡ false → Lowest ps u (i + 1) c
-lowest-on {ps} {u} {i} h e = record { is = h .is ∙ ap (headOr u) (below-cong (length ps) (isChildFrom ps u i) (isChildFrom ps u (i + 1)) (λ v _. go v (ℕ-discrete v i))) }
+-- the lowest from i on, where i is none
+next-on : {y : Yard} {u i c : ℕ} → Next y u i c → downTo y u i ≡ false → Next y u (i + 1) c
+next-on {y} {u} {i} h e = record { is = h .is ∙ ap (headOr u) (below-cong (size y) (downFrom y u i) (downFrom y u (i + 1)) (λ v _. go v (ℕ-discrete v i))) }
   where
-    go : (v : ℕ) → Dec (v ≡ i) → isChildFrom ps u i v ≡ isChildFrom ps u (i + 1) v
+    go : (v : ℕ) → Dec (v ≡ i) → downFrom y u i v ≡ downFrom y u (i + 1) v
     go v (yes q) = rw (q, e, and-false (leb i i), and-false (leb (i + 1) i))
-    go v (no d) = ap (λ (b : Bool). b && (isChild ps u v)) (side (decLt v i))
+    go v (no d) = ap (λ (b : Bool). b && (downTo y u v)) (side (decLt v i))
       where
         side : Dec (v < i) → leb i v ≡ leb (i + 1) v
         side (yes l) = rw (lt-leb i v l, lt-leb (i + 1) v (omega arith))
         side (no l) = rw (le-leb i v (omega arith), le-leb (i + 1) v (omega arith))
 
 module _ {y : Yard} {list : List ℕ} {a c end k : ℕ} (w : Walking y list a c end k) where
-  -- no child lies between
-  between : (j : ℕ) → ((b : ℕ) → Child (y .parents) a b → w .at ≤ b → j ≤ b) → (w .at) ≤ j → j ≤ end → Holds (upTo y a j) list k
-  between j h l m = rw (up-to-skip y a (w .at) j l (λ b p q. not-so _ (λ e. let r = h b (w .only b p (omega arith) e) p in omega (arith, r)))) (w .holds)
+  -- a child to which an opening goes
+  down : {b i : ℕ} → Child (y .parents) a b → opening y (push a b) ≡ true → i ≤ b → downFrom y a i b ≡ true
+  down {b} {i} r o l = rw (le-leb i b l, child-is (y .parents) a b r, o)
+
+  up-from : (b i : ℕ) → downFrom y a i b ≡ true → (i ≤ b) × (isChild (y .parents) a b ≡ true) × (opening y (push a b) ≡ true)
+  up-from b i e =
+      let p = and-eq-true-iff (leb i b) (downTo y a b) .0 e in
+      let q = and-eq-true-iff (isChild (y .parents) a b) (opening y (push a b)) .0 (p .1) in
+      (leb-true i b (p .0), q .0, q .1)
+
+  -- none lies between
+  between : (j : ℕ) → ((b : ℕ) → downFrom y a (w .at) b ≡ true → j ≤ b) → (w .at) ≤ j → j ≤ end → Holds (upTo y a j) list k
+  between j h l m = rw (up-to-skip y a (w .at) j l (λ b p q. not-so _ (λ e. let r = h b (down (w .only b p (omega arith) e) e p) in omega (arith, r)))) (w .holds)
 
   -- behind the last child
   module _ (e : c ≡ a) where
-    none-left : (b : ℕ) → Child (y .parents) a b → (w .at) ≤ b → ⊥
-    none-left b r p = false≢true (sym (below-none (length (y .parents)) (isChildFrom (y .parents) a (w .at)) (none-from (w .lowest) e) b (r .lt)) ∙ rw (le-leb (w .at) b p) (child-is (y .parents) a b r))
+    none-left : (b : ℕ) → downFrom y a (w .at) b ≡ true → b < size y → ⊥
+    none-left b o l = false≢true (sym (lowest-missing (size y) a (downFrom y a (w .at)) (sym e ∙ w .lowest .is) own b l) ∙ o)
+      where
+        own : downFrom y a (w .at) a ≡ false
+        own = rw (eq-eqb a a refl, and-false (eqb (parent y a) a)) (and-false (leb (w .at) a))
 
-    pub walk-end : ListedChildren y list a a end k
-    walk-end = record {
+    pub walk-end : end ≤ size y → ListedChildren y list a a end k
+    walk-end h = record {
       at = record {
-        is = missed (length (y .parents)) a (isChildFrom (y .parents) a end) (λ v l. not-so _ (λ q.
-            let r = and-eq-true-iff (leb end v) (isChild (y .parents) a v) .0 q in
-            none-left v (is-child (y .parents) a v l (r .1)) (omega (arith, leb-true end v (r .0), w .at-le))));
+        is = missed (size y) a (downFrom y a end) (λ v l. not-so _ (λ q.
+            let r = up-from v end q in
+            none-left v (rw (le-leb (w .at) v (omega (arith, r .0, w .at-le)), r .1, r .2)) l));
       };
-      holds = between end (λ b r p. absurd (none-left b r p)) (w .at-le) (omega arith);
+      holds = rw (up-to-skip y a (w .at) end (w .at-le) (λ b p q. not-so _ (λ o. none-left b (down (w .only b p q o) o p) (omega arith)))) (w .holds);
     }
 
   module _ (d : c ≢ a) where
+    it : (c < size y) × (downFrom y a (w .at) c ≡ true) × ((v : ℕ) → v < c → downFrom y a (w .at) v ≡ false)
+    it = lowest-is (size y) a c (downFrom y a (w .at)) (w .lowest .is) d
+
     pub walk-child : Child (y .parents) a c
-    walk-child = child-from (w .lowest) d .0
+    walk-child = is-child (y .parents) a c (it .0) (up-from c (w .at) (it .1) .1)
+
+    opens : opening y (push a c) ≡ true
+    opens = up-from c (w .at) (it .1) .2
 
     past : (w .at) ≤ c
-    past = child-from (w .lowest) d .1
+    past = up-from c (w .at) (it .1) .0
 
-    from-c : (b : ℕ) → Child (y .parents) a b → (w .at) ≤ b → c ≤ b
-    from-c b r p = go (decLt b c)
+    from-c : (b : ℕ) → downFrom y a (w .at) b ≡ true → c ≤ b
+    from-c b o = go (decLt b c)
       where
         go : Dec (b < c) → c ≤ b
-        go (yes l) = absurd (false≢true (sym (none-between (w .lowest) d b l) ∙ rw (le-leb (w .at) b p) (child-is (y .parents) a b r)))
+        go (yes l) = absurd (false≢true (sym (it .2 b l) ∙ o))
         go (no l) = omega arith
 
     -- at a child with a higher number than the end
     pub walk-past : end ≤ c → ListedChildren y list a c end k
     walk-past l = record {
       at = record {
-        is = found (length (y .parents)) a c (isChildFrom (y .parents) a end) (walk-child .lt) (λ v m. not-so _ (λ q.
-            let r = and-eq-true-iff (leb end v) (isChild (y .parents) a v) .0 q in
-            let s = from-c v (is-child (y .parents) a v (omega (arith, m, walk-child .lt)) (r .1)) (omega (arith, leb-true end v (r .0), w .at-le)) in
-            omega (arith, m, s))) (rw (le-leb end c l) (child-is (y .parents) a c walk-child));
+        is = found (size y) a c (downFrom y a end) (it .0) (λ v m. not-so _ (λ q.
+            let r = up-from v end q in
+            let s = from-c v (rw (le-leb (w .at) v (omega (arith, r .0, w .at-le)), r .1, r .2)) in
+            omega (arith, m, s))) (rw (le-leb end c l, child-is (y .parents) a c walk-child, opens));
       };
-      holds = between end (λ b r p. omega (arith, l, from-c b r p)) (w .at-le) (omega arith);
+      holds = between end (λ b o. omega (arith, l, from-c b o)) (w .at-le) (omega arith);
     }
 
     -- on to the next
-    module _ {t e : List ℕ} (s : Sees y t e) (l : a < size y) (m : c < end) (n : end ≤ size y) where
+    module _ {t : List ℕ} (s : Sees y t) (l : a < size y) (m : c < end) (n : end ≤ size y) where
       here : Holds (upTo y a c) list k
       here = between c from-c past (omega arith)
-
-      mark : getD e c 0 ≡ wayOf y c
-      mark = s .marks .1 c (walk-child .lt)
-
-      goes-on : {new : List ℕ} {k′ : ℕ} → Holds (upTo y a (c + 1)) new k′ → Walking y new a (getD t (512 + c) 0) end k′
-      goes-on h = record { at = c + 1; at-le = omega arith; lowest = next-is (s .tables) walk-child; only = λ b p q o. w .only b (omega (arith, past)) q o; holds = h }
 
       pub walk-room : k < 256
       walk-room = omega (arith, here .counted, few y a (s .tree) (s .matched) l c (omega arith))
 
-      -- the child's move, counted if it is an opening
-      pub walk-next : {new : List ℕ} {k′ : ℕ} → new ≡ set (set list (2 * k) a) (2 * k + 1) c → k′ ≡ one (eqb (getD e c 0) 1) → Walking y new a (getD t (512 + c) 0) end (k + k′)
-      walk-next {k′ = k′} n q = rw n (go (ℕ-discrete (getD e c 0) 1))
-        where
-          go : Dec (getD e c 0 ≡ 1) → Walking y (set (set list (2 * k) a) (2 * k + 1) c) a (getD t (512 + c) 0) end (k + k′)
-          go (yes o) =
-              let x : k + k′ ≡ k + 1 = omega (arith, q, ap one (eq-eqb (getD e c 0) 1 o)) in
-              rw x (goes-on (rw (up-to-more y a c (rw (walk-child .up) at (marked-down y (s .tree) (s .matched) c (walk-child .lt) mark o))) (holds-more here a c walk-room)))
-          go (no o) =
-              let x : k + k′ ≡ k = omega (arith, q, ap one (ne-eqb (getD e c 0) 1 o)) in
-              rw x (goes-on (rw (up-to-skip y a c (c + 1) (omega arith) (λ b p r. let z : b ≡ c = omega arith in rw z (rw (walk-child .up) at (unmarked-down y (s .tree) (s .matched) c (walk-child .lt) mark o)))) (holds-same here a c)))
+      pub next-child : Next y a (c + 1) (getD t (512 + c) 0)
+      next-child = rw (walk-child .up) at (s .marked .next c (it .0) (omega arith) (rw (walk-child .up) opens))
+
+      pub walk-next : {new : List ℕ} → new ≡ set (set list (2 * k) a) (2 * k + 1) c → Walking y new a (getD t (512 + c) 0) end (k + 1)
+      walk-next q = record {
+        at = c + 1;
+        at-le = omega arith;
+        lowest = next-child;
+        only = λ b p r o. w .only b (omega (arith, past)) r o;
+        holds = rw (q, up-to-more y a c opens) (holds-more here a c walk-room);
+      }
 
 -- from one node: all children at once, or those below the parent, the parent and the others
-module _ {y : Yard} {t e list : List ℕ} {a n k : ℕ} (h : AskedFrom y t e list a n k) where
+module _ {y : Yard} {t parents list : List ℕ} {a n k : ℕ} (h : AskedFrom y t parents list a n k) where
   lt : a < size y
   lt = h .node
 
-  mark-of : getD e a 0 ≡ wayOf y a
-  mark-of = h .sees .marks .1 a lt
+  mark-of : getD t a 0 ≡ wayOf y a
+  mark-of = h .sees .marked .way a lt (omega arith)
 
-  start : (end : ℕ) → end ≤ size y → ((b : ℕ) → b < end → opening y (push a b) ≡ true → b ≢ parent y a) → AskedChildren y t e list a 0 (getD t (256 + a) 0) end k
+  start : (end : ℕ) → end ≤ size y → ((b : ℕ) → b < end → opening y (push a b) ≡ true → b ≢ parent y a) → AskedChildren y t list a 0 (getD t (256 + a) 0) end k
   start end l d = record {
     sees = h .sees;
     node = lt;
-    at = h .sees .tables .first a lt;
+    at = h .sees .marked .first a lt;
     low = omega arith;
     high = l;
     only = λ b _ q o. child b (goes y a b o) (d b q o);
@@ -257,60 +266,60 @@ module _ {y : Yard} {t e list : List ℕ} {a n k : ℕ} (h : AskedFrom y t e lis
       child b (inl r) d = r
       child b (inr q) d = absurd (d q)
 
-  pub asked-all : getD e a 0 ≢ 2 → AskedChildren y t e list a 0 (getD t (256 + a) 0) n k
+  pub asked-all : getD t a 0 ≢ 2 → AskedChildren y t list a 0 (getD t (256 + a) 0) n k
   asked-all d = rw (h .all) (start (size y) (omega arith) (λ b _ o q. false≢true (sym (unmarked-up y (h .sees .tree) (h .sees .matched) a lt mark-of d) ∙ rw q at o)))
 
   pub listed-all : {new : List ℕ} {c k′ : ℕ} → ListedChildren y new a c n k′ → ListedFrom y new a k′
   listed-all r = rw (← (up-to-all y a), ← (h .all)) (r .holds)
 
   -- an opening goes to the parent
-  module _ (u : getD e a 0 ≡ 2) where
-    above : getD t a 0 ≡ parent y a
-    above = h .sees .tables .parent a lt
+  module _ (u : getD t a 0 ≡ 2) where
+    above : getD parents a 0 ≡ parent y a
+    above = ap (λ (l : List ℕ). getD l a 0) (h .own)
 
     above-lt : parent y a < size y
     above-lt = wood y (h .sees .tree) .parent-lt a lt
 
-    pub asked-lower : AskedChildren y t e list a 0 (getD t (256 + a) 0) (getD t a 0) k
+    pub asked-lower : AskedChildren y t list a 0 (getD t (256 + a) 0) (getD parents a 0) k
     asked-lower = rw above (start (parent y a) (omega (arith, above-lt)) (λ b l _ q. omega (arith, l, q)))
 
-    opens : opening y (push a (parent y a)) ≡ true
-    opens = marked-up y (h .sees .tree) (h .sees .matched) a lt mark-of u
+    opens-up : opening y (push a (parent y a)) ≡ true
+    opens-up = marked-up y (h .sees .tree) (h .sees .matched) a lt mark-of u
 
-    module _ {new : List ℕ} {c k′ : ℕ} (r : ListedChildren y new a c (getD t a 0) k′) where
+    module _ {new : List ℕ} {c k′ : ℕ} (r : ListedChildren y new a c (getD parents a 0) k′) where
       pub upper-room : k′ < 256
-      upper-room = omega (arith, r .holds .counted, few y a (h .sees .tree) (h .sees .matched) lt (getD t a 0) (omega (arith, above, above-lt)))
+      upper-room = omega (arith, r .holds .counted, few y a (h .sees .tree) (h .sees .matched) lt (getD parents a 0) (omega (arith, above, above-lt)))
 
       -- the parent is no child
-      not-below : isChild (y .parents) a (getD t a 0) ≡ false
+      not-below : downTo y a (getD parents a 0) ≡ false
       not-below = not-so _ (λ q.
-          let r = is-child (y .parents) a (getD t a 0) (omega (arith, above, above-lt)) q in
+          let r = is-child (y .parents) a (getD parents a 0) (omega (arith, above, above-lt)) (and-eq-true-iff (isChild (y .parents) a (getD parents a 0)) (opening y (push a (getD parents a 0))) .0 q .0) in
           let w = wood y (h .sees .tree) in
-          no-pair w a (getD t a 0) lt (λ e. r .other (above ∙ ap (parent y) e ∙ w .root-parent ∙ sym e)) (sym above) (sym (r .up)))
+          no-pair w a (getD parents a 0) lt (λ e. r .other (above ∙ ap (parent y) e ∙ w .root-parent ∙ sym e)) (sym above) (sym (r .up)))
 
-      pub asked-higher : {p : ℕ} {newer : List ℕ} → p ≡ getD t a 0 → newer ≡ set (set new (2 * k′) a) (2 * k′ + 1) p → AskedChildren y t e newer a (getD t a 0 + 1) c n (k′ + 1)
+      pub asked-higher : {p : ℕ} {newer : List ℕ} → p ≡ getD parents a 0 → newer ≡ set (set new (2 * k′) a) (2 * k′ + 1) p → AskedChildren y t newer a (getD parents a 0 + 1) c n (k′ + 1)
       asked-higher p-is is = rw (h .all) (record {
         sees = h .sees;
         node = lt;
-        at = lowest-on (r .at) not-below;
+        at = next-on (r .at) not-below;
         low = omega (arith, above, above-lt);
         high = omega arith;
         only = λ b l q o. child b l (goes y a b o);
-        holds = rw (is, p-is, up-to-more y a (getD t a 0) (rw above opens)) (holds-more (r .holds) a (getD t a 0) upper-room);
+        holds = rw (is, p-is, up-to-more y a (getD parents a 0) (rw above opens-up)) (holds-more (r .holds) a (getD parents a 0) upper-room);
       })
         where
-          child : (b : ℕ) → getD t a 0 + 1 ≤ b → Child (y .parents) a b ⊎ (b ≡ parent y a) → Child (y .parents) a b
+          child : (b : ℕ) → getD parents a 0 + 1 ≤ b → Child (y .parents) a b ⊎ (b ≡ parent y a) → Child (y .parents) a b
           child b l (inl r) = r
           child b l (inr q) = absurd (omega (arith, l, q, above))
 
 -- node by node
-module _ {y : Yard} {t e list : List ℕ} {n : ℕ} (h : AskedAll y t e list n) where
+module _ {y : Yard} {t parents list : List ℕ} {n : ℕ} (h : AskedAll y t parents list n) where
   pub list-none : Holds (collect 0 (openingsFrom y)) list 0
   unfolding bytes
   list-none = rw (collect-none (openingsFrom y)) (record { room = h .long; front = refl; counted = refl })
 
-  pub asked-from : {new : List ℕ} {a k : ℕ} → a < n → Holds (collect a (openingsFrom y)) new k → AskedFrom y t e new a n k
-  asked-from l s = record { sees = h .sees; node = omega (arith, h .all); all = h .all; holds = s }
+  pub asked-from : {new : List ℕ} {a k : ℕ} → a < n → Holds (collect a (openingsFrom y)) new k → AskedFrom y t parents new a n k
+  asked-from l s = record { own = h .own; sees = h .sees; node = omega (arith, h .all); all = h .all; holds = s }
 
   pub list-whole : {new : List ℕ} {a k : ℕ} → a ≡ n → Holds (collect a (openingsFrom y)) new k → ListedAll y new k
   unfolding openings

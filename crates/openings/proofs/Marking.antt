@@ -1,31 +1,34 @@
 -- Which opening goes over an edge: down if its node lacks a pebble, has a place and its parent holds one; up if it has too many, holds one and its parent has a place.
 use mathlib.Core.Path.{_≡_, refl, sym, ap, _∙_}
 use mathlib.Core.Logic.{_≢_, _↔_}
-use mathlib.Core.Bool.{Bool, true, false, not, cond, _&&_, and-eq-true-iff, false≢true}
+use mathlib.Core.Bool.{Bool, true, false, not, cond, _&&_, and-false, and-eq-true-iff, false≢true}
 use mathlib.Core.List.{List}
-use Prim.Native.Nat.{ℕ, _+_, _<_}
+use Prim.Native.Nat.{ℕ, _+_, _≤_, _<_}
 use native.Mathlib.Omega.{arith}
 use native.Mathlib.Decide.{ℕ-discrete}
 use lib.ListN.{length, getD, set, length-set}
 use lib.Seq.{getD-set-same, getD-set-other}
-use lib.Dec.{ltb, eqb}
+use lib.Dec.{leb, ltb, eqb}
 use lib.IntN.{ℤ, pos, negsuc}
 use lib.Signed.{ltZ}
 use mir.Syntax.{w16}
 use mir.Val.{toZ, ofZ}
-use borrow.Author.Tests.{ltb-true, lt-ltb, le-ltb, eqb-true, eq-eqb, not-true}
-use Rattle.model.specs.Yard.{Yard, size, parent, pebble, capacity, root, lacking, surplus, demand, Matched}
+use borrow.Author.Tests.{ltb-true, lt-ltb, le-ltb, leb-true, leb-false, le-leb, lt-leb, eqb-true, eq-eqb, ne-eqb, not-true}
+use Rattle.model.specs.Yard.{Yard, size, parent, pebble, capacity, root, headOr, isChild, lacking, surplus, demand, Matched}
 use Rattle.model.specs.Judge.{Tree}
 use Rattle.model.specs.Push.{push}
 use Rattle.model.specs.Openings.{opening}
 use Rattle.laws.proofs.Basics.{not-so}
-use Rattle.laws.proofs.Judged.{wood}
+use Rattle.laws.proofs.Found.{found, missed, below-cong}
+use Rattle.laws.proofs.Trees.{Child, is-child, child-is}
+use Rattle.laws.proofs.Judged.{facts, wood}
 use Rattle.laws.proofs.Demands.{root-even}
 use Rattle.laws.proofs.Step.{Step, crosses, ends, need}
 use Rattle.laws.proofs.Signed.{above0, below0, demand-parts, demand-range}
+use Rattle.serve.specs.Serving.{linkedTo}
 use Rattle.serve.proofs.Numbers.{small-back}
 use Rattle.laws.proofs.Openings.{opening-step, step-opening}
-use Rattle.openings.specs.Listing.{wayOver, wayOf}
+use Rattle.openings.specs.Listing.{wayOver, wayOf, downTo, downFrom, Next, Marked}
 
 -- two tests that pass together
 same : (a b : Bool) → (a ≡ true → b ≡ true) → (b ≡ true → a ≡ true) → a ≡ b
@@ -148,11 +151,100 @@ module _ (y : Yard) (t : Tree y) where
         not-down : opening y (push v (parent y v)) ≡ true → opening y (push (parent y v) v) ≡ false
         not-down k = not-so _ (λ d. omega (arith, opening-up v k .0, opening-down v d .0))
 
--- one edge more is marked
-pub marked-next : (y : Yard) (e : List ℕ) (v k : ℕ) → length e ≡ 256 → v < 256 → ((u : ℕ) → u < v → getD e u 0 ≡ wayOf y u) → k ≡ wayOf y v
-    → (length (set e v k) ≡ 256) × ((u : ℕ) → u < v + 1 → getD (set e v k) u 0 ≡ wayOf y u)
-marked-next y e v k n l h q = (length-set e v k ∙ n, λ u m. go u m (ℕ-discrete u v))
-  where
-    go : (u : ℕ) → u < v + 1 → Dec (u ≡ v) → getD (set e v k) u 0 ≡ wayOf y u
-    go u m (yes x) = rw (x, getD-set-same e v k 0 (omega arith)) q
-    go u m (no d) = rw (getD-set-other e v u k 0 d) (h u (omega arith))
+-- none is marked yet
+pub marked-none : {y : Yard} {t : List ℕ} → length t ≡ 768 → ((u : ℕ) → u < size y → getD t (256 + u) 0 ≡ u) → Marked (size y) y t
+marked-none {y} n h = record {
+  long = n;
+  way = λ v l k. absurd (omega arith);
+  first = λ u l. record { is = h u l ∙ missed (size y) u (downFrom y u (size y)) (λ v m. rw (lt-leb (size y) v m)) };
+  next = λ c l k o. absurd (omega arith);
+}
+
+-- the edge of v is marked, from the highest node down
+module _ {y : Yard} (tree : Tree y) (m : Matched y) (v : ℕ) {t : List ℕ} (f : Marked (v + 1) y t) (l : v < size y) {k : ℕ} (q : k ≡ wayOf y v) where
+  small : v < 256
+  small = omega (arith, l, facts y tree .few)
+
+  off : (w : ℕ) → w ≢ v → getD (set t v k) w 0 ≡ getD t w 0
+  off w d = getD-set-other t v w k 0 d
+
+  way-on : (w : ℕ) → w < size y → v ≤ w → getD (set t v k) w 0 ≡ wayOf y w
+  way-on w h g = go (ℕ-discrete w v)
+    where
+      go : Dec (w ≡ v) → getD (set t v k) w 0 ≡ wayOf y w
+      go (yes x) = rw (x, getD-set-same t v k 0 (omega (arith, f .long, small))) q
+      go (no d) = off w d ∙ f .way w h (omega arith)
+
+  -- a node from which no opening goes to v
+  unlinked : (u : ℕ) → downTo y u v ≡ false → {c : ℕ} → Next y u (v + 1) c → Next y u v c
+  unlinked u e h = record { is = h .is ∙ ap (headOr u) (below-cong (size y) (downFrom y u (v + 1)) (downFrom y u v) (λ w _. go w (ℕ-discrete w v) (leb v w) refl)) }
+    where
+      go : (w : ℕ) → Dec (w ≡ v) → (b : Bool) → leb v w ≡ b → downFrom y u (v + 1) w ≡ downFrom y u v w
+      go w (yes x) b s = rw (x, e) (and-false (leb (v + 1) v) ∙ sym (and-false (leb v v)))
+      go w (no x) true s = rw (s, le-leb (v + 1) w (omega (arith, leb-true v w s)))
+      go w (no x) false s = rw (s, lt-leb (v + 1) w (omega (arith, leb-false v w s)))
+
+  -- no opening comes down to v
+  pub marked-other : k ≢ 1 → Marked v y (set t v k)
+  marked-other d = record {
+    long = length-set t v k ∙ f .long;
+    way = way-on;
+    first = λ u h. rw (off (256 + u) (omega (arith, small))) (unlinked u (none u) (f .first u h));
+    next = λ c h g o. rw (off (512 + c) (omega (arith, small))) (f .next c h (higher c g o (ℕ-discrete c v)) o);
+  }
+    where
+      shut : opening y (push (parent y v) v) ≡ false
+      shut = unmarked-down y tree m v l q d
+
+      none : (u : ℕ) → downTo y u v ≡ false
+      none u = not-so _ (λ e.
+          let b = and-eq-true-iff (isChild (y .parents) u v) (opening y (push u v)) .0 e in
+          false≢true (sym shut ∙ rw (is-child (y .parents) u v l (b .0) .up) (b .1)))
+
+      higher : (c : ℕ) → v ≤ c → opening y (push (parent y c) c) ≡ true → Dec (c ≡ v) → v + 1 ≤ c
+      higher c g o (yes x) = absurd (false≢true (sym shut ∙ rw x at o))
+      higher c g o (no x) = omega arith
+
+  -- one does: v is put before those of its parent that are linked already
+  marked-down-to : k ≡ 1 → Marked v y (linkedTo (set t v k) v (parent y v))
+  marked-down-to e = record {
+    long = simp length-set (f .long);
+    way = λ w h g. rest w (omega (arith, h, facts y tree .few)) (omega (arith, h, facts y tree .few)) ∙ way-on w h g;
+    first = λ u h. first u h (ℕ-discrete (parent y v) u);
+    next = λ c h g o. next c h g o (ℕ-discrete c v);
+  }
+    where
+      opens : opening y (push (parent y v) v) ≡ true
+      opens = marked-down y tree m v l q e
+
+      child : Child (y .parents) (parent y v) v
+      child = record { lt = l; up = refl; other = λ x. ends y (push (parent y v) v) (opening-step y (push (parent y v) v) opens .0) .2 (sym x) }
+
+      above : parent y v < size y
+      above = wood y tree .parent-lt v l
+
+      long : length (set t v k) ≡ 768
+      long = length-set t v k ∙ f .long
+
+      rest : (w : ℕ) → w ≢ 256 + parent y v → w ≢ 512 + v → getD (linkedTo (set t v k) v (parent y v)) w 0 ≡ getD (set t v k) w 0
+      rest w a b = rw (getD-set-other, getD-set-other)
+
+      first : (u : ℕ) → u < size y → Dec (parent y v ≡ u) → Next y u v (getD (linkedTo (set t v k) v (parent y v)) (256 + u) 0)
+      first u h (yes x) = rw (← x) (record {
+        is = getD-set-same (set (set t v k) (512 + v) (getD (set t v k) (256 + parent y v) 0)) (256 + parent y v) v 0 (simp length-set (omega (arith, f .long, above, facts y tree .few)))
+            ∙ found (size y) (parent y v) v (downFrom y (parent y v) v) l (λ w b. rw (lt-leb v w b)) (rw (le-leb v v (omega arith), child-is (y .parents) (parent y v) v child, opens));
+      })
+      first u h (no x) = rw (rest (256 + u) (omega arith) (omega (arith, h, facts y tree .few)), off (256 + u) (omega (arith, small))) (unlinked u (rw (ne-eqb (parent y v) u x)) (f .first u h))
+
+      next : (c : ℕ) → c < size y → v ≤ c → opening y (push (parent y c) c) ≡ true → Dec (c ≡ v) → Next y (parent y c) (c + 1) (getD (linkedTo (set t v k) v (parent y v)) (512 + c) 0)
+      next c h g o (yes x) =
+          rw (
+            x,
+            getD-set-other (set (set t v k) (512 + v) (getD (set t v k) (256 + parent y v) 0)) (256 + parent y v) (512 + v) v 0 (omega (arith, above, facts y tree .few)),
+            getD-set-same (set t v k) (512 + v) (getD (set t v k) (256 + parent y v) 0) 0 (omega (arith, long, small)),
+            off (256 + parent y v) (omega (arith, small)),
+          ) (f .first (parent y v) above)
+      next c h g o (no x) = rw (rest (512 + c) (omega (arith, above, facts y tree .few)) (omega arith), off (512 + c) (omega (arith, small))) (f .next c h (omega arith) o)
+
+  pub marked-linked : k ≡ 1 → {p : ℕ} {new : List ℕ} → p ≡ parent y v → new ≡ linkedTo (set t v k) v p → Marked v y new
+  marked-linked e i n = rw (n, i) (marked-down-to e)

@@ -16,7 +16,6 @@ use lists::copy::copy;
 use model::Counted;
 use model::Done;
 use model::Refusal;
-use serve::tree::tables;
 
 // Lists the openings of a tree with as many pebbles as targets, by its demands: there are fewer than nodes, so a list of 512 bytes has room for them.
 fn list_apart(
@@ -31,9 +30,8 @@ fn list_apart(
     requires { ⌜ length (now moves) ≡ 512 ⌝ }
     ensures { λ r. ⌜ ListedAll (given parents pebbles targets depths) (became moves) r ⌝ }
 {
-    let e = mark_edges(parents, pebbles, targets, depths, demands);
-    let t = tables(parents);
-    list_openings(&t, &e, moves, parents.len())
+    let t = mark_edges(parents, pebbles, targets, depths, demands);
+    list_openings(&t, parents, moves)
 }
 
 // Copies so many moves to the front of a list, or refuses one that is too short: 8 with their number.

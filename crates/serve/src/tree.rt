@@ -23,7 +23,7 @@ fn unlinked(parents: &[u8]) -> [u8; 768]
 }
 
 // Puts v before the children of p that are linked already.
-fn link(t: &mut [u8; 768], v: usize, p: usize)
+pub fn link(t: &mut [u8; 768], v: usize, p: usize)
     requires { ⌜ (v < 256) × (p < 256) ⌝ }
     ensures { λ _. ⌜ became t ≡ linkedTo (was t) v p ⌝ }
 {

@@ -1,25 +1,21 @@
--- `list_children`: from child to child, each move is written behind those that are listed, and counted if it is an opening (the laws are in Listing).
-use mathlib.Core.Path.{_≡_}
+-- `list_children`: from child to child, each opening is written behind those before (the laws are in Listing).
 use Prim.Native.Nat.{ℕ, _<_}
 use native.Mathlib.Omega.{arith}
-use lib.ListN.{getD}
-use lib.Dec.{eqb}
 use borrow.Author.Needs.{needs}
 use Rattle.model.specs.Yard.{Yard}
-use Rattle.laws.proofs.Basics.{one-le}
 use Rattle.laws.proofs.Trees.{Child}
 use Rattle.laws.proofs.Judged.{facts}
-use Rattle.serve.proofs.Siblings.{next-is, ahead, ahead-falls}
+use Rattle.serve.proofs.Siblings.{ahead}
 use Rattle.openings.specs.Listing.{AskedChildren}
-use Rattle.openings.proofs.Listing.{Walking, walk-first, walk-end, walk-child, walk-past, walk-room, walk-next}
+use Rattle.openings.proofs.Listing.{falls, Walking, walk-first, walk-end, walk-child, walk-past, walk-room, next-child, walk-next}
 use Rattle.openings.proofs.list.list_children.Statement.{statement}
 use Rattle.openings.proofs.list.list_children.Tie as tie
 
 abbrev Inv-loop : tie.InvT-loop
-Inv-loop t e list₀ a from end count c₀ k₀ list c k = (y : Yard) (i : ℕ) → AskedChildren y t e list₀ a i from end count → Walking y list a c end k
+Inv-loop t list₀ a from end count c₀ k₀ list c k = (y : Yard) (i : ℕ) → AskedChildren y t list₀ a i from end count → Walking y list a c end k
 
 abbrev μ-loop : tie.MeasureT-loop
-μ-loop t e list₀ a from end count c₀ k₀ list c k = ahead a c
+μ-loop t list₀ a from end count c₀ k₀ list c k = ahead a c
 
 loop-holds : tie.Need-loop-holds Inv-loop μ-loop
 loop-holds c y i h = walk-first h
@@ -55,40 +51,36 @@ record-move-requires c κs =
     let l = c .before .before in
     (small l .1, small l .0, omega (arith, room (c .before), walk (l .before) .holds .room))
 
-element-copy-out-opens-down : tie.Need-element-copy-out-opens-down Inv-loop μ-loop
-element-copy-out-opens-down c = small (c .before .before .before .before .before) .0
-
-opens-down-requires : tie.Need-opens-down-requires Inv-loop μ-loop
-opens-down-requires c κs = search needs
-
 add-k : tie.Need-add-k Inv-loop μ-loop
-add-k c = omega (arith, room (c .before .before .before .before .before .before), c .opens-down .ensures, one-le (eqb (getD (call (c .before .before .before .before .before .before .before .before) .args .e .now) (c .before .before .before .before .before .before .before .before .loop .c) 0) 1))
+add-k c = omega (arith, room (c .before .before .before .before))
 
 add-wide : tie.Need-add-wide Inv-loop μ-loop
-add-wide c = omega (arith, small (c .before .before .before .before .before .before .before))
+add-wide c = omega (arith, small (c .before .before .before .before .before))
 
 element-copy-out-wide : tie.Need-element-copy-out-wide Inv-loop μ-loop
-element-copy-out-wide c = omega (arith, small (c .before .before .before .before .before .before .before))
+element-copy-out-wide c = omega (arith, small (c .before .before .before .before .before))
 
 wide-requires : tie.Need-wide-requires Inv-loop μ-loop
 wide-requires c κs = search needs
 
 loop-less : tie.Need-loop-less Inv-loop μ-loop
 loop-less c =
-    let l = c .before .before .before .before .before .before .before .before .before in
-    rw (c .wide .ensures .0) (ahead-falls (l .loop-test .taken) (small l .0) (next-is (call (l .before) .pre .2 .sees .tables) (child l)))
+    let o = c .before .before .before .before .before .before in
+    let l = o .before in
+    let h = call (l .before) .pre .2 in
+    rw (c .wide .ensures .0) (falls (l .loop-test .taken) (small l .0) (next-child (walk (l .before)) (l .loop-test .taken) (h .sees) (h .node) (o .if1 .left) (h .high)))
 
 loop-again : tie.Need-loop-again Inv-loop μ-loop
 loop-again c y i h =
-    let o = c .before .before .before .before .before .before .before .before in
+    let o = c .before .before .before .before .before .before in
     let l = o .before in
-    rw (c .wide .ensures .0) (walk-next (l .before .loop .inv y i h) (l .loop-test .taken) (h .sees) (h .node) (o .if1 .left) (h .high) (c .before .before .before .before .before .before .record-move .ensures) (c .before .before .opens-down .ensures))
+    rw (c .wide .ensures .0) (walk-next (l .before .loop .inv y i h) (l .loop-test .taken) (h .sees) (h .node) (o .if1 .left) (h .high) (c .before .before .before .before .record-move .ensures))
 
 same-length-2 : tie.Need-same-length-2 Inv-loop μ-loop
 same-length-2 c = let l = c .before in omega (arith, walk l .holds .room, call l .pre .2 .holds .room)
 
 returns-2 : tie.Need-returns-2 Inv-loop μ-loop
-returns-2 c y i h = walk-end (c .before .loop .inv y i h) (c .loop-test .left)
+returns-2 c y i h = walk-end (c .before .loop .inv y i h) (c .loop-test .left) (h .high)
 
 pub list-children-spec : {M : Type 1} → statement M
 list-children-spec =
@@ -100,8 +92,6 @@ list-children-spec =
     same-length
     returns
     record-move-requires
-    element-copy-out-opens-down
-    opens-down-requires
     add-k
     add-wide
     element-copy-out-wide

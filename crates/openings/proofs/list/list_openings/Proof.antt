@@ -3,6 +3,7 @@ use mathlib.Core.Path.{_≡_}
 use Prim.Native.Nat.{_-_, _≤_, _<_}
 use native.Mathlib.Omega.{arith}
 use native.Mathlib.Numerals.{add-one}
+use lib.ListN.{length}
 use Rattle.model.specs.Yard.{Yard}
 use Rattle.model.specs.Openings.{openingsFrom}
 use Rattle.laws.proofs.Ranges.{collect}
@@ -13,19 +14,19 @@ use Rattle.openings.proofs.list.list_openings.Statement.{statement}
 use Rattle.openings.proofs.list.list_openings.Tie as tie
 
 abbrev Inv-loop : tie.InvT-loop
-Inv-loop t e list₀ n k₀ a₀ list k a = (a ≤ n) × ((y : Yard) → AskedAll y t e list₀ n → Holds (collect a (openingsFrom y)) list k)
+Inv-loop t parents list₀ n k₀ a₀ list k a = (a ≤ n) × ((y : Yard) → AskedAll y t parents list₀ n → Holds (collect a (openingsFrom y)) list k)
 
 abbrev μ-loop : tie.MeasureT-loop
-μ-loop t e list₀ n k₀ a₀ list k a = n - a
+μ-loop t parents list₀ n k₀ a₀ list k a = n - a
 
 loop-holds : tie.Need-loop-holds Inv-loop μ-loop
 loop-holds c = (omega arith, λ y h. list-none h)
 
 -- the call, and the number of nodes
 abbrev call : tie.At-loop Inv-loop μ-loop → tie.Start Inv-loop μ-loop
-call c = c .before .before
+call c = c .before .before .before
 
-few : (c : tie.In-loop Inv-loop μ-loop) → (c .before .loop .a < call (c .before) .args .n) × (call (c .before) .args .n ≤ 256)
+few : (c : tie.In-loop Inv-loop μ-loop) → let n = length (call (c .before) .args .parents .now) in (c .before .loop .a < n) × (n ≤ 256)
 few c = let h = call (c .before) .pre .1 in (c .loop-test .taken, omega (arith, h .all, facts _ (h .sees .tree) .few))
 
 list-from-requires : tie.Need-list-from-requires Inv-loop μ-loop
