@@ -27,7 +27,7 @@ use Rattle.laws.proofs.Openings.{opening-step, openings-few}
 use Rattle.serve.proofs.Siblings.{ahead}
 use Rattle.serve.proofs.Moving.{bytes-append}
 use Rattle.openings.specs.Listing.{wayOf, downTo, downFrom, Next, Sees, Holds, upTo, AskedChildren, ListedChildren, AskedFrom, ListedFrom, AskedAll, ListedAll}
-use Rattle.openings.proofs.Marking.{marked-up, unmarked-up}
+use Rattle.openings.proofs.Marking.{marked-up, unmarked-up, next-same}
 
 -- an opening from a goes to a child or to the parent
 goes : (y : Yard) (a b : ℕ) → opening y (push a b) ≡ true → Child (y .parents) a b ⊎ (b ≡ parent y a)
@@ -53,20 +53,17 @@ below-skip p i (suc j) l h = go (ℕ-discrete i (suc j)) (below-skip p i j)
     go (yes e) ih = rw e
     go (no d) ih = rw (h j (omega arith) (omega arith), ih (omega arith) (λ b k m. h b k (omega arith))) (append-nil (below i p))
 
+-- no more than up to a higher number
+sum-more : (f : ℕ → ℕ) (i n : ℕ) → i ≤ n → sum i f ≤ sum n f
+sum-more f i n l = let e : n ≡ i + (n - i) = omega arith in omega (arith, ap (λ (k : ℕ). sum k f) e, sum-split i (n - i) f)
+
 below-le : (p : ℕ → Bool) (i n : ℕ) → i ≤ n → length (below i p) ≤ length (below n p)
-below-le p i n l =
-    let e : n ≡ i + (n - i) = omega arith in
-    omega (arith, length-below i p, length-below n p, ap (λ (k : ℕ). sum k (λ v. one (p v))) e, sum-split i (n - i) (λ v. one (p v)))
+below-le p i n l = omega (arith, length-below i p, length-below n p, sum-more (λ v. one (p v)) i n l)
 
 collect-le : {A : Type 0} (f : ℕ → List A) (a n : ℕ) → a ≤ n → length (collect a f) ≤ length (collect n f)
-collect-le f a n l =
-    let e : n ≡ a + (n - a) = omega arith in
-    omega (arith, length-collect f a, length-collect f n, ap (λ (k : ℕ). sum k (λ v. length (f v))) e, sum-split a (n - a) (λ v. length (f v)))
+collect-le f a n l = omega (arith, length-collect f a, length-collect f n, sum-more (λ v. length (f v)) a n l)
 
 module _ (y : Yard) (a : ℕ) where
-  to : ℕ → Bool
-  to b = opening y (push a b)
-
   pub up-to-none : upTo y a 0 ≡ collect a (openingsFrom y)
   unfolding below
   up-to-none = append-nil (collect a (openingsFrom y))
@@ -146,32 +143,20 @@ pub record Walking (y : Yard) (list : List ℕ) (a c end k : ℕ) : Type 0 where
 pub walk-first : {y : Yard} {t list : List ℕ} {a i c end k : ℕ} → AskedChildren y t list a i c end k → Walking y list a c end k
 walk-first {i = i} h = record { at = i; at-le = h .low; lowest = h .at; only = h .only; holds = h .holds }
 
--- the lowest from i on, where i is none
-next-on : {y : Yard} {u i c : ℕ} → Next y u i c → downTo y u i ≡ false → Next y u (i + 1) c
-next-on {y} {u} {i} h e = record { is = h .is ∙ ap (headOr u) (below-cong (size y) (downFrom y u i) (downFrom y u (i + 1)) (λ v _. go v (ℕ-discrete v i))) }
-  where
-    go : (v : ℕ) → Dec (v ≡ i) → downFrom y u i v ≡ downFrom y u (i + 1) v
-    go v (yes q) = rw (q, e, and-false (leb i i), and-false (leb (i + 1) i))
-    go v (no d) = ap (λ (b : Bool). b && (downTo y u v)) (side (decLt v i))
-      where
-        side : Dec (v < i) → leb i v ≡ leb (i + 1) v
-        side (yes l) = rw (lt-leb i v l, lt-leb (i + 1) v (omega arith))
-        side (no l) = rw (le-leb i v (omega arith), le-leb (i + 1) v (omega arith))
-
 module _ {y : Yard} {list : List ℕ} {a c end k : ℕ} (w : Walking y list a c end k) where
   -- a child to which an opening goes
-  down : {b i : ℕ} → Child (y .parents) a b → opening y (push a b) ≡ true → i ≤ b → downFrom y a i b ≡ true
-  down {b} {i} r o l = rw (le-leb i b l, child-is (y .parents) a b r, o)
+  goes-down : {b i : ℕ} → Child (y .parents) a b → opening y (push a b) ≡ true → i ≤ b → downFrom y a i b ≡ true
+  goes-down {b} {i} r o l = rw (le-leb i b l, child-is (y .parents) a b r, o)
 
-  up-from : (b i : ℕ) → downFrom y a i b ≡ true → (i ≤ b) × (isChild (y .parents) a b ≡ true) × (opening y (push a b) ≡ true)
-  up-from b i e =
+  down-told : (b i : ℕ) → downFrom y a i b ≡ true → (i ≤ b) × (isChild (y .parents) a b ≡ true) × (opening y (push a b) ≡ true)
+  down-told b i e =
       let p = and-eq-true-iff (leb i b) (downTo y a b) .0 e in
       let q = and-eq-true-iff (isChild (y .parents) a b) (opening y (push a b)) .0 (p .1) in
       (leb-true i b (p .0), q .0, q .1)
 
   -- none lies between
   between : (j : ℕ) → ((b : ℕ) → downFrom y a (w .at) b ≡ true → j ≤ b) → (w .at) ≤ j → j ≤ end → Holds (upTo y a j) list k
-  between j h l m = rw (up-to-skip y a (w .at) j l (λ b p q. not-so _ (λ e. let r = h b (down (w .only b p (omega arith) e) e p) in omega (arith, r)))) (w .holds)
+  between j h l m = rw (up-to-skip y a (w .at) j l (λ b p q. not-so _ (λ e. let r = h b (goes-down (w .only b p (omega arith) e) e p) in omega (arith, r)))) (w .holds)
 
   -- behind the last child
   module _ (e : c ≡ a) where
@@ -185,10 +170,10 @@ module _ {y : Yard} {list : List ℕ} {a c end k : ℕ} (w : Walking y list a c 
     walk-end h = record {
       at = record {
         is = missed (size y) a (downFrom y a end) (λ v l. not-so _ (λ q.
-            let r = up-from v end q in
+            let r = down-told v end q in
             none-left v (rw (le-leb (w .at) v (omega (arith, r .0, w .at-le)), r .1, r .2)) l));
       };
-      holds = rw (up-to-skip y a (w .at) end (w .at-le) (λ b p q. not-so _ (λ o. none-left b (down (w .only b p q o) o p) (omega arith)))) (w .holds);
+      holds = rw (up-to-skip y a (w .at) end (w .at-le) (λ b p q. not-so _ (λ o. none-left b (goes-down (w .only b p q o) o p) (omega arith)))) (w .holds);
     }
 
   module _ (d : c ≢ a) where
@@ -196,13 +181,13 @@ module _ {y : Yard} {list : List ℕ} {a c end k : ℕ} (w : Walking y list a c 
     it = lowest-is (size y) a c (downFrom y a (w .at)) (w .lowest .is) d
 
     pub walk-child : Child (y .parents) a c
-    walk-child = is-child (y .parents) a c (it .0) (up-from c (w .at) (it .1) .1)
+    walk-child = is-child (y .parents) a c (it .0) (down-told c (w .at) (it .1) .1)
 
     opens : opening y (push a c) ≡ true
-    opens = up-from c (w .at) (it .1) .2
+    opens = down-told c (w .at) (it .1) .2
 
     past : (w .at) ≤ c
-    past = up-from c (w .at) (it .1) .0
+    past = down-told c (w .at) (it .1) .0
 
     from-c : (b : ℕ) → downFrom y a (w .at) b ≡ true → c ≤ b
     from-c b o = go (decLt b c)
@@ -216,7 +201,7 @@ module _ {y : Yard} {list : List ℕ} {a c end k : ℕ} (w : Walking y list a c 
     walk-past l = record {
       at = record {
         is = found (size y) a c (downFrom y a end) (it .0) (λ v m. not-so _ (λ q.
-            let r = up-from v end q in
+            let r = down-told v end q in
             let s = from-c v (rw (le-leb (w .at) v (omega (arith, r .0, w .at-le)), r .1, r .2)) in
             omega (arith, m, s))) (rw (le-leb end c l, child-is (y .parents) a c walk-child, opens));
       };
@@ -301,7 +286,7 @@ module _ {y : Yard} {t parents list : List ℕ} {a n k : ℕ} (h : AskedFrom y t
       asked-higher p-is is = rw (h .all) (record {
         sees = h .sees;
         node = lt;
-        at = next-on (r .at) not-below;
+        at = next-same (getD parents a 0) a not-below .1 (r .at);
         low = omega (arith, above, above-lt);
         high = omega arith;
         only = λ b l q o. child b l (goes y a b o);

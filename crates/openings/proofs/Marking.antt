@@ -151,6 +151,17 @@ module _ (y : Yard) (t : Tree y) where
         not-down : opening y (push v (parent y v)) ≡ true → opening y (push (parent y v) v) ≡ false
         not-down k = not-so _ (λ d. omega (arith, opening-up v k .0, opening-down v d .0))
 
+-- from v on and from the next number on it is the same, where no opening goes from u to v
+pub next-same : {y : Yard} {c : ℕ} (v u : ℕ) → downTo y u v ≡ false → (Next y u (v + 1) c → Next y u v c) × (Next y u v c → Next y u (v + 1) c)
+next-same {y} v u e =
+    let s = ap (headOr u) (below-cong (size y) (downFrom y u (v + 1)) (downFrom y u v) (λ w _. go w (ℕ-discrete w v) (leb v w) refl)) in
+    ((λ h. record { is = h .is ∙ s }), λ h. record { is = h .is ∙ sym s })
+  where
+    go : (w : ℕ) → Dec (w ≡ v) → (b : Bool) → leb v w ≡ b → downFrom y u (v + 1) w ≡ downFrom y u v w
+    go w (yes x) b s = rw (x, e) (and-false (leb (v + 1) v) ∙ sym (and-false (leb v v)))
+    go w (no x) true s = rw (s, le-leb (v + 1) w (omega (arith, leb-true v w s)))
+    go w (no x) false s = rw (s, lt-leb (v + 1) w (omega (arith, leb-false v w s)))
+
 -- none is marked yet
 pub marked-none : {y : Yard} {t : List ℕ} → length t ≡ 768 → ((u : ℕ) → u < size y → getD t (256 + u) 0 ≡ u) → Marked (size y) y t
 marked-none {y} n h = record {
@@ -175,21 +186,12 @@ module _ {y : Yard} (tree : Tree y) (m : Matched y) (v : ℕ) {t : List ℕ} (f 
       go (yes x) = rw (x, getD-set-same t v k 0 (omega (arith, f .long, small))) q
       go (no d) = off w d ∙ f .way w h (omega arith)
 
-  -- a node from which no opening goes to v
-  unlinked : (u : ℕ) → downTo y u v ≡ false → {c : ℕ} → Next y u (v + 1) c → Next y u v c
-  unlinked u e h = record { is = h .is ∙ ap (headOr u) (below-cong (size y) (downFrom y u (v + 1)) (downFrom y u v) (λ w _. go w (ℕ-discrete w v) (leb v w) refl)) }
-    where
-      go : (w : ℕ) → Dec (w ≡ v) → (b : Bool) → leb v w ≡ b → downFrom y u (v + 1) w ≡ downFrom y u v w
-      go w (yes x) b s = rw (x, e) (and-false (leb (v + 1) v) ∙ sym (and-false (leb v v)))
-      go w (no x) true s = rw (s, le-leb (v + 1) w (omega (arith, leb-true v w s)))
-      go w (no x) false s = rw (s, lt-leb (v + 1) w (omega (arith, leb-false v w s)))
-
   -- no opening comes down to v
   pub marked-other : k ≢ 1 → Marked v y (set t v k)
   marked-other d = record {
     long = length-set t v k ∙ f .long;
     way = way-on;
-    first = λ u h. rw (off (256 + u) (omega (arith, small))) (unlinked u (none u) (f .first u h));
+    first = λ u h. rw (off (256 + u) (omega (arith, small))) (next-same {y = y} v u (none u) .0 (f .first u h));
     next = λ c h g o. rw (off (512 + c) (omega (arith, small))) (f .next c h (higher c g o (ℕ-discrete c v)) o);
   }
     where
@@ -234,7 +236,7 @@ module _ {y : Yard} (tree : Tree y) (m : Matched y) (v : ℕ) {t : List ℕ} (f 
         is = getD-set-same (set (set t v k) (512 + v) (getD (set t v k) (256 + parent y v) 0)) (256 + parent y v) v 0 (simp length-set (omega (arith, f .long, above, facts y tree .few)))
             ∙ found (size y) (parent y v) v (downFrom y (parent y v) v) l (λ w b. rw (lt-leb v w b)) (rw (le-leb v v (omega arith), child-is (y .parents) (parent y v) v child, opens));
       })
-      first u h (no x) = rw (rest (256 + u) (omega arith) (omega (arith, h, facts y tree .few)), off (256 + u) (omega (arith, small))) (unlinked u (rw (ne-eqb (parent y v) u x)) (f .first u h))
+      first u h (no x) = rw (rest (256 + u) (omega arith) (omega (arith, h, facts y tree .few)), off (256 + u) (omega (arith, small))) (next-same {y = y} v u (rw (ne-eqb (parent y v) u x)) .0 (f .first u h))
 
       next : (c : ℕ) → c < size y → v ≤ c → opening y (push (parent y c) c) ≡ true → Dec (c ≡ v) → Next y (parent y c) (c + 1) (getD (linkedTo (set t v k) v (parent y v)) (512 + c) 0)
       next c h g o (yes x) =
