@@ -1,7 +1,7 @@
 -- Listing the openings from a node to its children in rising number: between two children lies none but that to the parent. Each is written behind those before.
 use mathlib.Core.Path.{_≡_, refl, sym, ap, _∙_}
 use mathlib.Core.Logic.{_≢_, _⊎_, inl, inr}
-use mathlib.Core.Bool.{Bool, true, false, cond, _&&_, and-false, and-eq-true-iff, false≢true}
+use mathlib.Core.Bool.{Bool, true, false, cond, and-false, and-eq-true-iff, false≢true}
 use mathlib.Core.List.{List, [], _∷_, _++_, append-nil, append-assoc, map, map-append}
 use Prim.Native.Nat.{ℕ, zero, suc, _+_, _-_, _*_, _≤_, _<_}
 use native.Mathlib.Omega.{arith}
@@ -9,8 +9,8 @@ use native.Mathlib.Numerals.{add-one}
 use native.Mathlib.Decide.{ℕ-discrete, decLt}
 use lib.ListN.{length, getD, set, take, length-set, length-append, length-map}
 use lib.Dec.{eqb, leb}
-use borrow.Author.Tests.{leb-true, le-leb, lt-leb, eq-eqb, ne-eqb}
-use Rattle.model.specs.Yard.{Yard, size, parent, one, sum, below, headOr, isChild, Matched}
+use borrow.Author.Tests.{leb-true, le-leb, eq-eqb, ne-eqb}
+use Rattle.model.specs.Yard.{Yard, size, parent, one, sum, below, isChild, Matched}
 use Rattle.model.specs.Judge.{Tree}
 use Rattle.model.specs.Push.{Move, push}
 use Rattle.model.specs.Openings.{opening, openingsFrom, openings}
@@ -19,7 +19,7 @@ use Rattle.laws.proofs.Basics.{not-so}
 use Rattle.laws.proofs.Sums.{length-below, sum-split}
 use Rattle.laws.proofs.Ranges.{collect, collect-none, collect-next}
 use Rattle.laws.proofs.Trees.{Child, is-child, child-is, no-pair}
-use Rattle.laws.proofs.Found.{found, missed, below-cong, lowest-is, lowest-missing}
+use Rattle.laws.proofs.Found.{found, missed, lowest-is, lowest-missing}
 use Rattle.laws.proofs.Judged.{facts, wood}
 use Rattle.laws.proofs.Step.{Step, ends}
 use Rattle.laws.proofs.Listed.{length-collect}

@@ -1,11 +1,10 @@
 -- `openings`: refused as a yard with no plan is; else the openings are listed apart and handed over (the laws are in Calling).
-use mathlib.Core.Path.{_≡_, refl, _∙_}
-use mathlib.Core.Option.{none}
+use mathlib.Core.Path.{refl, _∙_}
 use native.Mathlib.Omega.{arith}
 use lib.ListN.{length}
 use borrow.Author.Needs.{needs}
 use Rattle.model.specs.Yard.{Yard, yardOf, Matched}
-use Rattle.model.specs.Judge.{Tree, matchedFault}
+use Rattle.model.specs.Judge.{Tree}
 use Rattle.laws.proofs.Calls.{sees, matched-tree}
 use Rattle.laws.proofs.Openings.{openings-matched}
 use Rattle.demand.proofs.Answers.{demands-at}

@@ -1,5 +1,4 @@
 -- `list_openings`: after each node the openings from the nodes so far are listed (the laws are in Listing).
-use mathlib.Core.Path.{_≡_}
 use Prim.Native.Nat.{_-_, _≤_, _<_}
 use native.Mathlib.Omega.{arith}
 use native.Mathlib.Numerals.{add-one}

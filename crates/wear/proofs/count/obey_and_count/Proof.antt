@@ -9,7 +9,7 @@ use borrow.Author.Needs.{needs}
 use Rattle.model.specs.Yard.{Yard, yardOf}
 use Rattle.model.specs.Judge.{Tree}
 use Rattle.model.specs.Calls.Plans.{movesOf}
-use Rattle.laws.proofs.Judged.{facts, wood}
+use Rattle.laws.proofs.Judged.{facts}
 use Rattle.laws.proofs.Calls.{sees, moves-half}
 use Rattle.wear.proofs.Wearing.{Obeying, Entries, Sliding, obeying-first, obeying-long, obeying-lt, obeying-refused, obeying-next, edge-asked, edge-lt, edge-small, entry-small, count-none, count-more, edgeSince, slide-first, slide-past, slide-small, edge-of-first, edge-of-last, shift-asked, slide-stays, slide-rises, worn-move, worn-end}
 use Rattle.wear.proofs.count.obey_and_count.Statement.{statement}
