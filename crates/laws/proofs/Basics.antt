@@ -76,12 +76,6 @@ unfolding below
 none-below zero p h = refl
 none-below (suc n) p h = rw (none-below n p (λ v l. h v (omega arith)), h n (omega arith))
 
--- tests that agree below n
-pub below-same : (n : ℕ) (p q : ℕ → Bool) → ((v : ℕ) → v < n → p v ≡ q v) → below n p ≡ below n q
-unfolding below
-below-same zero p q h = refl
-below-same (suc n) p q h = rw (below-same n p q (λ v l. h v (omega arith)), h n (omega arith))
-
 -- refusals
 pub none-all : (rs : List (Option Fault)) → firstOf rs ≡ none → All (λ r. r ≡ none) rs
 none-all [] e = tt

@@ -12,7 +12,8 @@ use lib.Dec.{ltb, eqb}
 use borrow.Author.Tests.{ltb-true, ltb-false, lt-ltb, eq-eqb, ne-eqb}
 use Rattle.model.specs.Yard.{Yard, size, pebble, held, one, below, headOr, isChild, lacking}
 use Rattle.model.specs.Plan.{needy, some, Rule, lowestChild, greatest, neediestChild, choice, fills}
-use Rattle.laws.proofs.Basics.{All, all-map, all-below, below-all, below-none, below-same}
+use Rattle.laws.proofs.Basics.{All, all-map, all-below, below-all, below-none}
+use Rattle.laws.proofs.Found.{below-cong}
 use Rattle.laws.proofs.Sums.{sum-some}
 use Rattle.laws.proofs.Trees.{Child, is-child, child-is}
 use Rattle.laws.proofs.Demands.{overChildren}
@@ -257,7 +258,7 @@ fills-choice y u = ap (λ (b : Bool). (held y u) && b) (go (needy (lacking y) y 
 module _ (f g : ℕ → ℕ) (y z : Yard) (u : ℕ) (e : y .parents ≡ z .parents) (h : (c : ℕ) → Child (y .parents) u c → f c ≡ g c) where
   pub needy-same : needy f y u ≡ needy g z u
   unfolding needy
-  needy-same = rw (← e) (below-same (size y) (wanted f y u) (wanted g y u) (λ v l. go v l (isChild (y .parents) u v) refl))
+  needy-same = rw (← e) (below-cong (size y) (wanted f y u) (wanted g y u) (λ v l. go v l (isChild (y .parents) u v) refl))
     where
       go : (v : ℕ) → v < size y → (b : Bool) → isChild (y .parents) u v ≡ b → (b && (ltb 0 (f v))) ≡ (b && (ltb 0 (g v)))
       go v l true k = rw (h v (is-child (y .parents) u v l k))

@@ -1,13 +1,13 @@
 -- The lowest number that passes a test, found by trying one after another: laws for the loops that look for it.
 use mathlib.Core.Path.{_≡_, refl, sym, ap, _∙_}
 use mathlib.Core.Logic.{_≢_}
-use mathlib.Core.Bool.{Bool, true, false, cond, _&&_, false≢true}
+use mathlib.Core.Bool.{Bool, true, false, cond, _&&_, and-false, false≢true}
 use mathlib.Core.List.{List, [], _∷_, _++_}
 use Prim.Native.Nat.{ℕ, zero, suc, _+_, _≤_, _<_}
 use native.Mathlib.Omega.{arith}
 use native.Mathlib.Decide.{ℕ-discrete}
 use lib.Dec.{leb}
-use borrow.Author.Tests.{le-leb, lt-leb}
+use borrow.Author.Tests.{leb-true, leb-false, le-leb, lt-leb}
 use Rattle.model.specs.Yard.{below, headOr}
 use Rattle.model.specs.Judge.{fault, atLowest}
 use Rattle.laws.proofs.Basics.{All, all-below, none-below, below-none}
@@ -85,6 +85,15 @@ pub below-cong : (n : ℕ) (p q : ℕ → Bool) → ((v : ℕ) → v < n → p v
 unfolding below
 below-cong zero p q h = refl
 below-cong (suc n) p q h = rw (below-cong n p q (λ v l. h v (omega arith)), h n (omega arith))
+
+-- from v on the same pass as from the next number on, where v does not
+pub from-next : (n v : ℕ) (p : ℕ → Bool) → p v ≡ false → below n (λ w. (leb (v + 1) w) && (p w)) ≡ below n (λ w. (leb v w) && (p w))
+from-next n v p e = below-cong n _ _ (λ w _. go w (ℕ-discrete w v) (leb v w) refl)
+  where
+    go : (w : ℕ) → Dec (w ≡ v) → (b : Bool) → leb v w ≡ b → ((leb (v + 1) w) && (p w)) ≡ ((leb v w) && (p w))
+    go w (yes q) b s = rw (q, e) (and-false (leb (v + 1) v) ∙ sym (and-false (leb v v)))
+    go w (no q) true s = rw (s, le-leb (v + 1) w (omega (arith, leb-true v w s)))
+    go w (no q) false s = rw (s, lt-leb (v + 1) w (omega (arith, leb-false v w s)))
 
 -- a search that answers a number which does not pass has found none
 pub lowest-missing : (n d : ℕ) (p : ℕ → Bool) → d ≡ headOr d (below n p) → p d ≡ false → (v : ℕ) → v < n → p v ≡ false

@@ -52,6 +52,7 @@ pub mod Sheets
 pub mod Report
 pub mod Shallow
 pub mod Places
+pub mod CheckSheets
 pub mod Bits
 pub mod Blocks
 pub mod Cabinet

@@ -237,9 +237,17 @@ module _ (y : Yard) where
     pub check-small : Small (answer (checkFault y bs) 0)
     check-small = small 0 check-low (λ _. omega arith)
 
-    pub excess-small : {a : Answer Verdict} → a ≡ checkAnswer y bs → Small (mapAnswer (λ v. v .excess) a)
+    -- and its two values
+    few-checked : checkFault y bs ≡ none → length (movesOf bs) ≤ 131_072
     unfolding checkFault
-    excess-small d = rw (d, map-answer) (small _ check-low (λ e. omega (arith, few-moves bs (none-all (checkTests y bs) e .1 .1 .0))))
+    few-checked e = few-moves bs (none-all (checkTests y bs) e .1 .1 .0)
+
+    module _ {a : Answer Verdict} (d : a ≡ checkAnswer y bs) where
+      pub checked-small : Small (mapAnswer (λ v. v .moves) a)
+      checked-small = rw (d, map-answer) (small _ check-low (λ e. omega (arith, few-checked e)))
+
+      pub excess-small : Small (mapAnswer (λ v. v .excess) a)
+      excess-small = rw (d, map-answer) (small _ check-low (λ e. omega (arith, few-checked e)))
 
     -- the wear's three values
     module _ (w : ℕ) where

@@ -12,7 +12,7 @@ use lib.Seq.{take-nil, take-take, take-append-seam, drop-append-seam}
 use lib.Dec.{leb, ltb, eqb}
 use borrow.Author.Tests.{ltb-true, leb-true, le-leb, eqb-true, eq-eqb, ne-eqb}
 use native.Mathlib.Decide.{ℕ-discrete}
-use Rattle.model.specs.Yard.{Yard, yardOf, size, maxSize}
+use Rattle.model.specs.Yard.{Yard, size, maxSize}
 use Rattle.model.specs.Judge.{Fault, row}
 use Rattle.model.specs.Calls.Answers.{Answer, answered, refused, InTable, mapAnswer, range}
 use Rattle.model.specs.Sheets.{text, digits, decimal, line, lines, header, yardSheet, maxSheetBytes, writeTests, writeFault, cut, same, field, Line, readLine, lineValues, nodeValues, nodeOf, column, columns, readNodes, readYard, reader, judgedBytes, printedOf, program}
@@ -295,7 +295,7 @@ longest-sheet =
     let b = replicate-bytes 256 in
     (longest, read-write longest maxSheetBytes longest-fault (b, b, b, b), longest-length)
 
--- An input cut at 5,200 bytes is read as the whole: what is cut off lies behind the first line that is refused, or behind line 257. Of the
+-- An input cut at 5,200 bytes or more is read as the whole: what is cut off lies behind the first line that is refused, or behind line 257. Of the
 -- lines from node v on it is enough to keep the bytes that k nodes may take, and a line more.
 readNodes-take : (k v m : ℕ) (bs : List ℕ) → lineRoom k v + lineBytes ≤ m → readNodes k v (take m bs) ≡ readNodes k v bs
 unfolding lineRoom
@@ -315,20 +315,20 @@ readNodes-take (suc k) v (suc m) (b ∷ bs) h =
     readNodes-next k v (b ∷ take m bs) {l = cutLine (suc m) l} (t ∙ rw e) q
     ∙ ap (mapAnswer (_∷_ (l .values))) (readNodes-take k (suc v) (suc m - length (line (l .values))) (l .rest) (omega arith)))
 
-drop-take : (n m : ℕ) (l : List ℕ) → n ≤ m → drop n (take m l) ≡ take (m - n) (drop n l)
+pub drop-take : (n m : ℕ) (l : List ℕ) → n ≤ m → drop n (take m l) ≡ take (m - n) (drop n l)
 drop-take zero m l h = rw sub-zero
 drop-take (suc n) zero l h = absurd (omega arith)
 drop-take (suc n) (suc m) [] h = rw suc-sub-suc (sym (take-nil (m - n)))
 drop-take (suc n) (suc m) (x ∷ l) h = rw suc-sub-suc (drop-take n m l (omega arith))
 
-pub read-cut : (bs : List ℕ) → readYard (take judgedBytes bs) ≡ readYard bs
+pub read-cut : (m : ℕ) (bs : List ℕ) → judgedBytes ≤ m → readYard (take m bs) ≡ readYard bs
 unfolding readYard
-read-cut bs =
+read-cut m bs j =
     let n : ℕ = length header in
-    let h : lineRoom maxSize 0 + lineBytes ≤ judgedBytes - n = omega (arith, room-all) in
-    ap (λ (w : List ℕ). afterHeader (same w header) (drop n (take judgedBytes bs))) (take-take n judgedBytes bs (omega (arith, room-all)))
-    ∙ ap (afterHeader (same (take n bs) header)) (drop-take n judgedBytes bs (omega (arith, room-all)))
-    ∙ go (same (take n bs) header) (judgedBytes - n) (drop n bs) h
+    let h : lineRoom maxSize 0 + lineBytes ≤ m - n = omega (arith, room-all) in
+    ap (λ (w : List ℕ). afterHeader (same w header) (drop n (take m bs))) (take-take n m bs (omega (arith, room-all)))
+    ∙ ap (afterHeader (same (take n bs) header)) (drop-take n m bs (omega (arith, room-all)))
+    ∙ go (same (take n bs) header) (m - n) (drop n bs) h
   where
     go : (t : Bool) (m : ℕ) (rest : List ℕ) → lineRoom maxSize 0 + lineBytes ≤ m → afterHeader t (take m rest) ≡ afterHeader t rest
     go false m rest h = refl
@@ -338,35 +338,35 @@ read-cut bs =
 
 pub program-cut : (input : List ℕ) → program input ≡ printedOf (readYard input)
 unfolding program
-program-cut input = ap printedOf (read-cut input)
+program-cut input = ap printedOf (read-cut judgedBytes input (omega arith))
 
 -- the reader's call, with four lists of at least 256
 pub reader-room : (bs ps cs ts ds : List ℕ) → maxSize ≤ length ps → maxSize ≤ length cs → maxSize ≤ length ts → maxSize ≤ length ds → reader bs ps cs ts ds ≡ readYard bs
 unfolding reader
 reader-room bs ps cs ts ds p c t d = rw (le-leb 256 (length ps) p, le-leb 256 (length cs) c, le-leb 256 (length ts) t, le-leb 256 (length ds) d, reader)
 
--- a refused sheet is refused at a line up to 258
-abbrev pub AtLine : {A : Type 0} → Answer A → Type 0
-AtLine (answered a) = Unit {0}
-AtLine (refused f) = InTable (f .number) × (f .place ≤ 258)
+-- a refused sheet is refused at a line, up to line n; a yard sheet up to line 258
+abbrev pub AtLine : {A : Type 0} → ℕ → Answer A → Type 0
+AtLine n (answered a) = Unit {0}
+AtLine n (refused f) = InTable (f .number) × (f .place ≤ n)
 
-further : {A B : Type 0} (g : A → B) (a : Answer A) → AtLine a → AtLine (mapAnswer g a)
-further g (answered a) r = tt
-further g (refused f) r = r
+pub further : {A B : Type 0} (n : ℕ) (g : A → B) (a : Answer A) → AtLine n a → AtLine n (mapAnswer g a)
+further n g (answered a) r = tt
+further n g (refused f) r = r
 
-lines-places : (k v : ℕ) (bs : List ℕ) → v + k ≤ 256 → AtLine (readNodes k v bs)
+lines-places : (k v : ℕ) (bs : List ℕ) → v + k ≤ 256 → AtLine 258 (readNodes k v bs)
 unfolding readNodes
 lines-places zero v [] h = tt
 lines-places zero v (b ∷ bs) h = omega arith
 lines-places (suc k) v [] h = tt
 lines-places (suc k) v (b ∷ bs) h =
-    readNodes-cases k v b bs AtLine (λ _. omega arith) (λ _ _ _. omega arith) (λ l _ _. further _ (readNodes k (suc v) (l .rest)) (lines-places k (suc v) (l .rest) (omega arith)))
+    readNodes-cases k v b bs (AtLine 258) (λ _. omega arith) (λ _ _ _. omega arith) (λ l _ _. further 258 _ (readNodes k (suc v) (l .rest)) (lines-places k (suc v) (l .rest) (omega arith)))
 
-pub read-places : (bs : List ℕ) → AtLine (readYard bs)
+pub read-places : (bs : List ℕ) → AtLine 258 (readYard bs)
 unfolding readYard
 read-places bs = go (same (take (length header) bs) header) (drop (length header) bs)
   where
-    go : (t : Bool) (rest : List ℕ) → AtLine (afterHeader t rest)
+    go : (t : Bool) (rest : List ℕ) → AtLine 258 (afterHeader t rest)
     go false rest = omega arith
     go true [] = omega arith
-    go true (b ∷ rest) = further columns (readNodes maxSize 0 (b ∷ rest)) (lines-places maxSize 0 (b ∷ rest) (omega arith))
+    go true (b ∷ rest) = further 258 columns (readNodes maxSize 0 (b ∷ rest)) (lines-places maxSize 0 (b ∷ rest) (omega arith))

@@ -10,6 +10,7 @@ pub mod Wear
 pub mod Openings
 pub mod Calls
 pub mod Sheets
+pub mod CheckSheets
 pub mod Paper
 pub mod Cabinet
 pub mod Given

@@ -91,6 +91,10 @@ same [] (b ∷ bs) = false
 same (a ∷ xs) [] = false
 same (a ∷ xs) (b ∷ bs) = (eqb a b) && (same xs bs)
 
+-- whether a list begins with another
+abbrev pub begins : List ℕ → List ℕ → Bool
+begins front bs = same (take (length front) bs) front
+
 -- the value that a word writes: the number from 0 to 255 whose decimal it is
 abbrev pub valueCount : ℕ
 valueCount = 256
@@ -148,7 +152,7 @@ columns rows = yardOf (column 1 rows) (column 2 rows) (column 3 rows) (column 4 
 
 -- what a sheet says: 15, the header line differs or lacks its line feed; the lines in turn; 1 with place 2 if no line follows the header
 unfoldable pub readYard : List ℕ → Answer Yard
-readYard bs = elim (same (take (length header) bs) header) [
+readYard bs = elim (begins header bs) [
   | false ↦ refused (row 15 1)
   | true ↦ elim (drop (length header) bs) [ [] ↦ refused (row 1 2) | (b ∷ rest) ↦ mapAnswer columns (readNodes maxSize 0 (b ∷ rest)) ]
 ]
@@ -181,8 +185,11 @@ abbrev pub writeList : Yard → List ℕ → List ℕ
 writeList y list = lent (writeFault y (length list)) (overwrite (yardSheet y) list) list
 
 -- The move program: a move sheet, its moves and behind them the crossing report (request 2.1), or the refusal and its place. The moves
+abbrev pub moveHead : List ℕ
+moveHead = text "from to\n"
+
 unfoldable pub moveLines : List Move → List ℕ
-moveLines ms = text "from to\n" ++ lines (map (λ (m : Move). m .from ∷ m .to ∷ []) ms)
+moveLines ms = moveHead ++ lines (map (λ (m : Move). m .from ∷ m .to ∷ []) ms)
 
 -- the edges (tracks) in rising number: each node but the root carries one
 unfoldable pub edges : Yard → List ℕ
@@ -193,8 +200,11 @@ abbrev pub reportRow : Yard → List Move → ℕ → List ℕ
 reportRow y ms v = v ∷ ups y ms v ∷ downs y ms v ∷ []
 
 -- the report: its head, such a line for each edge, and under `total` the number of moves printed
+abbrev pub reportHead : List ℕ
+reportHead = text "track up down\n"
+
 unfoldable pub report : Yard → List Move → List ℕ
-report y ms = text "track up down\n" ++ (lines (map (reportRow y ms) (edges y)) ++ (text "total\n" ++ line (length ms ∷ [])))
+report y ms = reportHead ++ (lines (map (reportRow y ms) (edges y)) ++ (text "total\n" ++ line (length ms ∷ [])))
 
 -- the report stands behind the last move, or behind the head where there is none
 unfoldable pub moveSheet : Yard → List Move → List ℕ

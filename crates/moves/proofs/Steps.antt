@@ -1,18 +1,18 @@
 -- The program, step by step: the sheet of a plan, or of the planner's refusal; what was read, or the reader's refusal.
-use mathlib.Core.Path.{_≡_, refl, sym, ap, _∙_}
+use mathlib.Core.Path.{_≡_, sym, ap, _∙_}
 use mathlib.Core.List.{List}
 use Prim.Native.Nat.{ℕ, _*_, _≤_}
 use native.Mathlib.Omega.{arith}
-use lib.ListN.{length, take, replicate, length-append, length-replicate}
-use Rattle.model.specs.Yard.{Yard, yardOf, size, maxSize}
+use lib.ListN.{length, take, replicate, length-replicate}
+use Rattle.model.specs.Yard.{Yard}
 use Rattle.model.specs.Judge.{Fault}
-use Rattle.model.specs.Calls.Answers.{Answer, answered, refused, mapAnswer, Row}
+use Rattle.model.specs.Calls.Answers.{answered, refused, Row}
 use Rattle.model.specs.Calls.Plans.{planFault, planAnswer, planList}
 use Rattle.model.specs.Plan.{plan}
-use Rattle.model.specs.Sheets.{refusalSheet, programPlanBytes, printedOf, readYard, reader, readAnswer, filled, program}
-use Rattle.laws.proofs.Calls.{answer-answered, answer-refused, take-overwrite, plan-none}
+use Rattle.model.specs.Sheets.{refusalSheet, programPlanBytes, printedOf, readYard, program}
+use Rattle.laws.proofs.Calls.{answer-answered, answer-refused, plan-none}
 use Rattle.laws.proofs.Demand3.{written}
-use Rattle.laws.proofs.Sheets.{refused-ne-answered, read-sizes, reader-room, program-cut}
+use Rattle.laws.proofs.Sheets.{program-cut}
 use Rattle.laws.proofs.Places.{plan-small, read-row}
 use Rattle.moves.specs.Report.{Planned, planSheet}
 
@@ -38,43 +38,10 @@ module _ (y : Yard) where
       let q = rw room at a in
       (rw (← e) at (plan-small y (length zeros)), rw q)
 
--- the reader's answer, with four lists of 256
-abbrev pub blank : List ℕ
-blank = replicate maxSize 0
-
+-- what was read, or the reader's refusal
 module _ (bs : List ℕ) where
-  judged : reader bs blank blank blank blank ≡ readYard bs
-  judged = let l : maxSize ≤ length blank = omega (arith, length-replicate {A = ℕ} maxSize 0) in reader-room bs blank blank blank blank l l l l
+  pub printed : {y : Yard} → readYard bs ≡ answered y → printedOf (answered y) ≡ program bs
+  printed e = sym (program-cut bs ∙ ap printedOf e)
 
-  pub record Found (n : ℕ) (ps cs ts ds : List ℕ) : Type 0 where
-    pub fits : (n ≤ length ps) × (n ≤ length cs) × (n ≤ length ts) × (n ≤ length ds)
-    pub said : printedOf (answered (yardOf (take n ps) (take n cs) (take n ts) (take n ds))) ≡ program bs
-
-  pub read-number : {n : ℕ} {ps cs ts ds : List ℕ} → answered n ≡ readAnswer bs blank blank blank blank
-      → ps ≡ filled (λ (y : Yard). y .parents) (reader bs blank blank blank blank) blank
-      → cs ≡ filled (λ (y : Yard). y .pebbles) (reader bs blank blank blank blank) blank
-      → ts ≡ filled (λ (y : Yard). y .targets) (reader bs blank blank blank blank) blank
-      → ds ≡ filled (λ (y : Yard). y .depths) (reader bs blank blank blank blank) blank
-      → Found n ps cs ts ds
-  read-number {n} {ps} {cs} {ts} {ds} e p c t d = go (readYard bs) refl (rw judged at e) (rw judged at p) (rw judged at c) (rw judged at t) (rw judged at d)
-    where
-      go : (r : Answer Yard) → readYard bs ≡ r → answered n ≡ mapAnswer size r
-          → ps ≡ filled (λ (y : Yard). y .parents) r blank → cs ≡ filled (λ (y : Yard). y .pebbles) r blank → ts ≡ filled (λ (y : Yard). y .targets) r blank → ds ≡ filled (λ (y : Yard). y .depths) r blank
-          → Found n ps cs ts ds
-      go (answered y) q e p c t d =
-          let m : n ≡ size y = cc in
-          let s = read-sizes bs y q in
-          record {
-            fits = rw (p, c, t, d) (simp length-append (omega arith));
-            said = rw (p, c, t, d, take-overwrite (y .parents) blank n (sym m), take-overwrite (y .pebbles) blank n (omega arith), take-overwrite (y .targets) blank n (omega arith), take-overwrite (y .depths) blank n (omega arith)) (sym (program-cut bs ∙ ap printedOf q));
-          }
-      go (refused f) q e p c t d = absurd (refused-ne-answered (sym e))
-
-  pub read-refused : {f : Fault} → refused f ≡ readAnswer bs blank blank blank blank → Row f × (refusalSheet f ≡ program bs)
-  read-refused {f} e = go (readYard bs) refl (rw judged at e)
-    where
-      go : (r : Answer Yard) → readYard bs ≡ r → refused f ≡ mapAnswer size r → Row f × (refusalSheet f ≡ program bs)
-      go (answered y) q e = absurd (refused-ne-answered e)
-      go (refused g) q e =
-          let h : f ≡ g = cc in
-          rw h (read-row bs q, rw (program-cut bs, q))
+  pub unread : {f : Fault} → readYard bs ≡ refused f → Row f × (refusalSheet f ≡ program bs)
+  unread e = (read-row bs e, sym (program-cut bs ∙ ap printedOf e))

@@ -3,23 +3,18 @@ ghost use mathlib.Core.Path.{_≡_};
 ghost use Prim.Native.Nat.{_≤_};
 ghost use lib.ListN.{length};
 ghost use Rattle.model.specs.Given.{given, handed, was, became};
-ghost use Rattle.model.specs.Calls.Answers.{overwrite, answered, Row};
+ghost use Rattle.model.specs.Calls.Answers.{overwrite, answered};
 ghost use Rattle.model.specs.Sheets as Sheets;
-ghost use Rattle.model.specs.Sheets.{refusalSheet, programPlanBytes, printedOf};
-ghost use Rattle.model.specs.Paper.{paper};
-ghost use Rattle.sheet.specs.Written.{refusalRoom};
+ghost use Rattle.model.specs.Sheets.{programPlanBytes, printedOf};
 ghost use Rattle.moves.specs.Report.{outputRoom, Planned, planSheet};
 use crate::report::put_report;
 use demand::fill::fill;
 use lists::find::first_own;
 use model::Counted;
-use model::Refusal;
 use planner::plan::plan;
 use reader::read::read_sheet;
-use refusal::number;
-use refusal::place;
 use sheet::output::put_moves;
-use sheet::output::put_refusal;
+use sheet::output::put_refused;
 
 // The program judges only so many bytes of its input.
 pub const JUDGED_BYTES: usize = 5_200;
@@ -32,17 +27,6 @@ const PLAN_BYTES: usize = 65_536;
 const REPORT_BYTES: usize = 27 + 18 * 256;
 
 pub const OUTPUT_BYTES: usize = 8 + 4 * PLAN_BYTES + REPORT_BYTES;
-
-// The refusal and its place.
-fn put_refused(r: Refusal, out: &mut [u8]) -> usize
-    requires { ⌜ Row (paper r) × (refusalRoom ≤ length (now out)) ⌝ }
-    ensures { λ n. ⌜ n ≡ length (refusalSheet (paper r)) ⌝ }
-    ensures { λ n. ⌜ became out ≡ overwrite (refusalSheet (paper r)) (was out) ⌝ }
-{
-    let row = number(r) as usize;
-    let at = place(r);
-    put_refusal(row, at, out)
-}
 
 // The move sheet of a plan, the one of these four lists: its moves, and the report by the demands at the start.
 fn put_planned(

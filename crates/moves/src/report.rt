@@ -10,6 +10,7 @@ ghost use Rattle.moves.specs.Report.{lineUnlessRoot, edgeLines, reportBy
 use demand::signed::size;
 use sheet::decimal::put_text;
 use sheet::line::put_line;
+use sheet::output::REPORT_HEAD;
 
 // Writes the line of the edge of v, which is crossed as often as its demand is large, towards the root if that is negative and else away from it. The
 // root has none.
@@ -46,7 +47,7 @@ pub fn put_report(demands: &[i16], root: usize, total: usize, out: &mut [u8], at
     requires { ⌜ Demands (now demands) × (total < rowUnit) × (at + reportRoom (length (now demands)) ≤ length (now out)) ⌝ }
     ensures { λ r. ⌜ Written (reportBy (was demands) root total) at (was out) r (became out) ⌝ }
 {
-    let edges = put_text(out, at, b"track up down\n");
+    let edges = put_text(out, at, &REPORT_HEAD);
     let behind = put_edges(demands, root, out, edges);
     let last = put_text(out, behind, b"total\n");
     put_line(out, last, &[total])

@@ -1,25 +1,25 @@
 -- Which opening goes over an edge: down if its node lacks a pebble, has a place and its parent holds one; up if it has too many, holds one and its parent has a place.
 use mathlib.Core.Path.{_≡_, refl, sym, ap, _∙_}
 use mathlib.Core.Logic.{_≢_}
-use mathlib.Core.Bool.{Bool, true, false, not, cond, _&&_, and-false, and-eq-true-iff, false≢true}
+use mathlib.Core.Bool.{Bool, true, false, not, cond, _&&_, and-eq-true-iff, false≢true}
 use mathlib.Core.List.{List}
 use Prim.Native.Nat.{ℕ, _+_, _≤_, _<_}
 use native.Mathlib.Omega.{arith}
 use native.Mathlib.Decide.{ℕ-discrete}
 use lib.ListN.{length, getD, set, length-set}
 use lib.Seq.{getD-set-same, getD-set-other}
-use lib.Dec.{leb, ltb, eqb}
+use lib.Dec.{ltb, eqb}
 use lib.IntN.{ℤ, pos, negsuc}
 use lib.Signed.{ltZ}
 use mir.Syntax.{w16}
 use mir.Val.{toZ, ofZ}
-use borrow.Author.Tests.{ltb-true, lt-ltb, le-ltb, leb-true, leb-false, le-leb, lt-leb, eqb-true, eq-eqb, ne-eqb, not-true}
+use borrow.Author.Tests.{ltb-true, lt-ltb, le-ltb, le-leb, lt-leb, eqb-true, eq-eqb, ne-eqb, not-true}
 use Rattle.model.specs.Yard.{Yard, size, parent, pebble, capacity, root, headOr, isChild, lacking, surplus, demand, Matched}
 use Rattle.model.specs.Judge.{Tree}
 use Rattle.model.specs.Push.{push}
 use Rattle.model.specs.Openings.{opening}
 use Rattle.laws.proofs.Basics.{not-so}
-use Rattle.laws.proofs.Found.{found, missed, below-cong}
+use Rattle.laws.proofs.Found.{found, missed, from-next}
 use Rattle.laws.proofs.Trees.{Child, is-child, child-is}
 use Rattle.laws.proofs.Judged.{facts, wood}
 use Rattle.laws.proofs.Demands.{root-even}
@@ -154,13 +154,8 @@ module _ (y : Yard) (t : Tree y) where
 -- from v on and from the next number on it is the same, where no opening goes from u to v
 pub next-same : {y : Yard} {c : ℕ} (v u : ℕ) → downTo y u v ≡ false → (Next y u (v + 1) c → Next y u v c) × (Next y u v c → Next y u (v + 1) c)
 next-same {y} v u e =
-    let s = ap (headOr u) (below-cong (size y) (downFrom y u (v + 1)) (downFrom y u v) (λ w _. go w (ℕ-discrete w v) (leb v w) refl)) in
+    let s = ap (headOr u) (from-next (size y) v (downTo y u) e) in
     ((λ h. record { is = h .is ∙ s }), λ h. record { is = h .is ∙ sym s })
-  where
-    go : (w : ℕ) → Dec (w ≡ v) → (b : Bool) → leb v w ≡ b → downFrom y u (v + 1) w ≡ downFrom y u v w
-    go w (yes x) b s = rw (x, e) (and-false (leb (v + 1) v) ∙ sym (and-false (leb v v)))
-    go w (no x) true s = rw (s, le-leb (v + 1) w (omega (arith, leb-true v w s)))
-    go w (no x) false s = rw (s, lt-leb (v + 1) w (omega (arith, leb-false v w s)))
 
 -- none is marked yet
 pub marked-none : {y : Yard} {t : List ℕ} → length t ≡ 768 → ((u : ℕ) → u < size y → getD t (256 + u) 0 ≡ u) → Marked (size y) y t

@@ -2,3 +2,4 @@
 pub mod Fields
 pub mod ReadLines
 pub mod ReadCall
+pub mod Blank

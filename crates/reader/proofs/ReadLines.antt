@@ -4,6 +4,7 @@ use mathlib.Core.Option.{Option, none, some, Option·map}
 use mathlib.Core.Bool.{Bool, true, false}
 use mathlib.Core.List.{List, [], _∷_, _++_, append-assoc, append-nil}
 use Prim.Native.Nat.{ℕ, suc, _+_, _-_, _<_}
+use native.Mathlib.Nat.{sub-zero, sub-self}
 use native.Mathlib.Numerals.{add-one}
 use native.Mathlib.Omega.{arith}
 use lib.ListN.{length, take, drop, set, getD, length-set}
@@ -35,33 +36,33 @@ fronted-next : (vs : List ℕ) (v : ℕ) (o : Option Line)
 fronted-next vs v none = refl
 fronted-next vs v (some l) = simp append-assoc
 
--- the array holds the first i values, and the others are read from `next` on
-pub record LineSoFar (sheet : List ℕ) (at : ℕ) (values : List ℕ) (next i : ℕ) : Type 0 where
-  pub full : length values ≡ lineValues
-  pub said : readLine lineValues (drop at sheet) ≡ Option·map (fronted (take i values)) (readLine (lineValues - i) (drop next sheet))
+-- the list holds the first i of k values, and the others are read from `next` on
+pub record LineSoFar (k : ℕ) (sheet : List ℕ) (at : ℕ) (values : List ℕ) (next i : ℕ) : Type 0 where
+  pub full : length values ≡ k
+  pub said : readLine k (drop at sheet) ≡ Option·map (fronted (take i values)) (readLine (k - i) (drop next sheet))
 
-pub line-none : (sheet : List ℕ) (at : ℕ) (values : List ℕ) → length values ≡ lineValues → LineSoFar sheet at values at 0
-line-none sheet at values n = record { full = n; said = fronted-none (readLine lineValues (drop at sheet)) }
+pub line-none : (sheet : List ℕ) (at : ℕ) (values : List ℕ) → LineSoFar (length values) sheet at values at 0
+line-none sheet at values = record { full = refl; said = rw sub-zero (fronted-none (readLine (length values) (drop at sheet))) }
 
-module _ {sheet : List ℕ} {at : ℕ} {values : List ℕ} {next i : ℕ} (s : LineSoFar sheet at values next i) where
-  pub line-whole : i ≡ lineValues → some (record { values = values; rest = drop next sheet }) ≡ readLine lineValues (drop at sheet)
+module _ {k : ℕ} {sheet : List ℕ} {at : ℕ} {values : List ℕ} {next i : ℕ} (s : LineSoFar k sheet at values next i) where
+  pub line-whole : i ≡ k → some (record { values = values; rest = drop next sheet }) ≡ readLine k (drop at sheet)
   unfolding readLine
-  line-whole e = let n = s .full in sym (s .said ∙ rw (e, take-all lineValues values (omega arith), append-nil values))
+  line-whole e = let n = s .full in sym (s .said ∙ rw (e, take-all k values (omega arith), sub-self, append-nil values))
 
-  module _ (k : ℕ) (e : lineValues - i ≡ suc k) where
-    pub line-wrong : field (stopBefore k) (drop next sheet) ≡ none → none ≡ readLine lineValues (drop at sheet)
+  module _ (m : ℕ) (e : k - i ≡ suc m) where
+    pub line-wrong : field (stopBefore m) (drop next sheet) ≡ none → none ≡ readLine k (drop at sheet)
     unfolding readLine
     line-wrong f = sym (s .said ∙ rw (e, f))
 
-    pub line-more : (v next' : ℕ) → field (stopBefore k) (drop next sheet) ≡ some (record { value = v; rest = drop next' sheet })
-        → LineSoFar sheet at (set values i v) next' (i + 1)
+    pub line-more : (v next' : ℕ) → field (stopBefore m) (drop next sheet) ≡ some (record { value = v; rest = drop next' sheet })
+        → LineSoFar k sheet at (set values i v) next' (i + 1)
     unfolding readLine
     line-more v next' f =
-        let m : lineValues - (i + 1) ≡ k = omega arith in
+        let n : k - (i + 1) ≡ m = omega arith in
         let h : i < length values = omega (arith, s .full) in
         record {
           full = simp length-set (s .full);
-          said = s .said ∙ rw (e, f, m, add-one i, take-suc-set values i v h) (fronted-next (take i values) v (readLine k (drop next' sheet)));
+          said = s .said ∙ rw (e, f, n, add-one i, take-suc-set values i v h) (fronted-next (take i values) v (readLine m (drop next' sheet)));
         }
 
 -- a list that begins with another

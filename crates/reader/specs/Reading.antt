@@ -10,8 +10,8 @@ use Rattle.model.specs.Sheets as Sheets
 use Rattle.model.specs.Sheets.{decimal, header, Field, readNodes, columns}
 use Rattle.model.specs.Paper.{paper}
 use Rattle.model.specs.declared.Counted.{Counted}
-use Rattle.reader.specs.declared.read.Word.{Word}
-use Rattle.reader.specs.declared.read.Line.{Line}
+use Rattle.reader.specs.declared.line.Word.{Word}
+use Rattle.reader.specs.declared.line.Line.{Line}
 
 -- r is the value whose decimal is that of u with the byte b behind it; if it is above 255, no value's decimal begins so
 pub record Extended (u b r : ℕ) : Type 0 where

@@ -1,102 +1,23 @@
 // The reader's call: what a yard sheet says, into four lists.
 ghost use mathlib.Core.Path.{_≡_};
-ghost use Prim.Native.Nat.{_≤_, _<_};
-ghost use lib.ListN.{length, take, drop};
+ghost use Prim.Native.Nat.{_≤_};
 ghost use Rattle.model.specs.Yard.{size, maxSize};
 ghost use Rattle.model.specs.Given.{readFrom, was, became};
 ghost use Rattle.model.specs.Calls.Answers.{mapAnswer};
-ghost use Rattle.model.specs.Sheets as Sheets;
-ghost use Rattle.model.specs.Sheets.{same, lineValues, readLine, readYard, filled};
+ghost use Rattle.model.specs.Sheets.{readYard, filled};
 ghost use Rattle.model.specs.Paper.{paperCounted};
-ghost use Rattle.reader.specs.Reading.{Extended, wordIn, lineIn, Full, took, counted, linesSay};
+ghost use Rattle.reader.specs.Reading.{Full, took, counted, linesSay};
+use crate::line::Line;
+use crate::line::begins;
+use crate::line::read_line;
 use model::Counted;
 use model::Refusal;
 use sheet::decimal::put_text;
-use sheet::line::stop_before;
 use sheet::writer::HEADER;
 use sheet::writer::HEADER_BYTES;
 
 // How many values a node's line has.
 const VALUES: usize = 5;
-
-// A value and the place behind the byte that ends it.
-enum Word {
-    Value(u8, usize),
-    Wrong,
-}
-
-// The place behind the line feed that ends a line.
-enum Line {
-    Behind(usize),
-    Wrong,
-}
-
-// The value with one digit more, or one above 255 where no value is so written: a zero takes no digit behind it.
-fn extended(value: usize, b: u8) -> usize
-    requires { ⌜ value < 256 ⌝ }
-    ensures { λ r. ⌜ Extended value b r ⌝ }
-{
-    if value == 0 {
-        return 256;
-    }
-    if b < b'0' {
-        return 256;
-    }
-    if b > b'9' {
-        return 256;
-    }
-    value * 10 + (b - b'0') as usize
-}
-
-// The value that stands at `at` and is ended by the byte `stop`.
-fn field(sheet: &[u8], at: usize, stop: u8) -> Word
-    requires { ⌜ stop < 48 ⌝ }
-    ensures { λ r. ⌜ wordIn (was sheet) r ≡ Sheets.field stop (drop at (was sheet)) ⌝ }
-{
-    if at >= sheet.len() {
-        return Word::Wrong;
-    }
-    let first = sheet[at];
-    if first < b'0' {
-        return Word::Wrong;
-    }
-    if first > b'9' {
-        return Word::Wrong;
-    }
-    let mut value = (first - b'0') as usize;
-    let mut i = at + 1;
-    while i < sheet.len() {
-        let b = sheet[i];
-        if b == stop {
-            return Word::Value(value as u8, i + 1);
-        }
-        value = extended(value, b);
-        if value > 255 {
-            return Word::Wrong;
-        }
-        i += 1;
-    }
-    Word::Wrong
-}
-
-// The values of the node's line that stands at `at`, into an array; of a wrong line it says no more.
-fn node_line(sheet: &[u8], at: usize, values: &mut [u8; VALUES]) -> Line
-    requires { ⌜ length (now values) ≡ lineValues ⌝ }
-    ensures { λ r. ⌜ lineIn (was sheet) (became values) r ≡ readLine lineValues (drop at (was sheet)) ⌝ }
-{
-    let mut next = at;
-    let mut i = 0;
-    while i < VALUES {
-        let word = field(sheet, next, stop_before(VALUES - 1 - i));
-        let Word::Value(value, behind) = word else {
-            return Line::Wrong;
-        };
-        values[i] = value;
-        next = behind;
-        i += 1;
-    }
-    Line::Behind(next)
-}
 
 // The nodes of a sheet behind the header, line by line, into four arrays: how many, or the refusal of the first line that has one.
 fn read_nodes(
@@ -118,7 +39,7 @@ fn read_nodes(
             return Counted::Refused(Refusal::NodeCount(number));
         }
         let mut values = [0u8; VALUES];
-        let line = node_line(sheet, at, &mut values);
+        let line = read_line(sheet, at, &mut values);
         let Line::Behind(next) = line else {
             return Counted::Refused(Refusal::LineShape(number));
         };
@@ -135,23 +56,6 @@ fn read_nodes(
     Counted::Number(v)
 }
 
-// Whether a list begins with `head`.
-fn begins(list: &[u8], head: &[u8]) -> bool
-    ensures { λ r. ⌜ r ≡ same (take (length (was head)) (was list)) (was head) ⌝ }
-{
-    if list.len() < head.len() {
-        return false;
-    }
-    let mut i = 0;
-    while i < head.len() {
-        if list[i] != head[i] {
-            return false;
-        }
-        i += 1;
-    }
-    true
-}
-
 // What a sheet says, in the first entries of four arrays.
 fn read_lines(
     sheet: &[u8],
@@ -165,7 +69,7 @@ fn read_lines(
     ensures { λ r. ⌜ (counted r ≤ maxSize) × Full (became parents) (became pebbles) (became targets) (became depths) ⌝ }
 {
     if !begins(sheet, &HEADER) {
-        return Counted::Refused(Refusal::Header);
+        return Counted::Refused(Refusal::Header(1));
     }
     if sheet.len() == HEADER_BYTES {
         return Counted::Refused(Refusal::NodeCount(2));

@@ -2,18 +2,18 @@
 -- before those children of its parent that are linked already, all of which are higher.
 use mathlib.Core.Path.{_≡_, refl, sym, ap, _∙_}
 use mathlib.Core.Logic.{_≢_}
-use mathlib.Core.Bool.{Bool, true, false, and-false}
+use mathlib.Core.Bool.{false, and-false}
 use mathlib.Core.List.{List}
 use Prim.Native.Nat.{ℕ, _+_, _≤_, _<_}
 use native.Mathlib.Omega.{arith}
 use native.Mathlib.Decide.{ℕ-discrete}
 use lib.ListN.{length, getD, set, length-set}
 use lib.Seq.{getD-set-same, getD-set-other}
-use lib.Dec.{leb, eqb}
+use lib.Dec.{eqb}
 use borrow.Author.Count.{below-more}
-use borrow.Author.Tests.{le-leb, lt-leb, leb-true, leb-false, eq-eqb, ne-eqb}
+use borrow.Author.Tests.{le-leb, lt-leb, eq-eqb, ne-eqb}
 use Rattle.model.specs.Yard.{up, headOr, isChild}
-use Rattle.laws.proofs.Found.{found, missed, below-cong}
+use Rattle.laws.proofs.Found.{found, missed, from-next}
 use Rattle.laws.proofs.Trees.{child-is}
 use Rattle.serve.specs.Serving.{isChildFrom, Lowest, Linked, linkedTo}
 
@@ -50,12 +50,7 @@ entered {i} {ps} f l =
 module _ (v : ℕ) {ps t : List ℕ} (f : Linked (v + 1) ps t) where
   -- linking v changes nothing for a node u that is not its parent
   other-parent : (u : ℕ) → isChild ps u v ≡ false → {c : ℕ} → Lowest ps u (v + 1) c → Lowest ps u v c
-  other-parent u e h = record { is = h .is ∙ ap (headOr u) (below-cong (length ps) (isChildFrom ps u (v + 1)) (isChildFrom ps u v) (λ w _. go w (ℕ-discrete w v) (leb v w) refl)) }
-    where
-      go : (w : ℕ) → Dec (w ≡ v) → (b : Bool) → leb v w ≡ b → isChildFrom ps u (v + 1) w ≡ isChildFrom ps u v w
-      go w (yes q) b s = rw (q, e) (and-false (leb (v + 1) v) ∙ sym (and-false (leb v v)))
-      go w (no q) true s = rw (s, le-leb (v + 1) w (omega (arith, leb-true v w s)))
-      go w (no q) false s = rw (s, lt-leb (v + 1) w (omega (arith, leb-false v w s)))
+  other-parent u e h = record { is = h .is ∙ ap (headOr u) (from-next (length ps) v (isChild ps u) e) }
 
   -- the root is nobody's child
   pub root-link : up ps v ≡ v → Linked v ps t

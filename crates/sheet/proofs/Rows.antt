@@ -8,11 +8,10 @@ use native.Mathlib.Numerals.{add-one}
 use native.Mathlib.Omega.{arith}
 use lib.ListN.{length, drop, getD, length-append, length-drop, drop-of-length-le}
 use Rattle.model.specs.Yard.{Yard, size}
-use Rattle.model.specs.Judge.{row}
 use Rattle.model.specs.Push.{Move}
 use Rattle.model.specs.Calls.Answers.{range}
 use Rattle.model.specs.Calls.Plans.{movesOf}
-use Rattle.model.specs.Sheets.{text, space, lineFeed, decimal, stopBefore, line, lines, header, nodeValues, yardSheet, moveLines, refusalSheet}
+use Rattle.model.specs.Sheets.{text, space, lineFeed, decimal, stopBefore, line, lines, header, nodeValues, yardSheet, moveLines}
 use Rattle.laws.proofs.Lines.{length-line}
 use Rattle.sheet.proofs.Decimals.{decimal-six}
 use Rattle.sheet.proofs.Writing.{drop-next}
@@ -104,11 +103,7 @@ pub length-moveLines : (plan : List ℕ) → ((i : ℕ) → getD plan i 0 < 256)
 unfolding text
 length-moveLines plan h = omega (arith, ap length (moves-all plan), length-append (text "from to\n") (moves plan 0), length-moves plan h)
 
--- the line of a refusal
-pub refusal-all : (n p : ℕ) → text "refusal place\n" ++ line (n ∷ p ∷ []) ≡ refusalSheet (row n p)
-unfolding refusalSheet
-refusal-all n p = refl
-
-pub length-refusal : (n p : ℕ) → n < 1_000_000 → p < 1_000_000 → length (line (n ∷ p ∷ [])) ≤ 14
+-- a line of two values
+pub length-pair : (n p : ℕ) → n < 1_000_000 → p < 1_000_000 → length (line (n ∷ p ∷ [])) ≤ 14
 unfolding line
-length-refusal n p a b = simp length-append (omega (arith, decimal-six n a, decimal-six p b))
+length-pair n p a b = simp length-append (omega (arith, decimal-six n a, decimal-six p b))

@@ -58,6 +58,10 @@ written-front {w} {old = old} a h =
     let n = a .end in
     (omega arith, a .list ∙ sets-eq w old 0 (omega arith) ∙ rw zero-add)
 
+-- what is at the front of a list, said otherwise
+pub printed-as : {v w : List ℕ} (out : List ℕ) {new : List ℕ} {r : ℕ} → v ≡ w → (r ≡ length v) × (new ≡ overwrite v out) → (r ≡ length w) × (new ≡ overwrite w out)
+printed-as out q h = rw (← q) h
+
 pub written-taken : {w : List ℕ} {e : ℕ} {old new : List ℕ} → Written w 0 old e new → e ≤ length old → take e new ≡ w
 written-taken {w} {old = old} a h =
     let f = written-front a h in

@@ -19,6 +19,9 @@ SameLength y = (length (y .pebbles) ≡ size y) × (length (y .targets) ≡ size
 abbrev pub moveLinesRoom : ℕ → ℕ
 moveLinesRoom bytes = 8 + 4 * bytes
 
--- room for a refusal: the head has 14 bytes, and a line of two values below 1,000,000 at most as many
+-- room for a line of two values below 1,000,000; and for a refusal, whose head has as many bytes
+abbrev pub pairRoom : ℕ
+pairRoom = 14
+
 abbrev pub refusalRoom : ℕ
 refusalRoom = 28

@@ -22,7 +22,7 @@ use Rattle.model.specs.Calls.Plans.{movesOf}
 use Rattle.model.specs.Calls.Checks.{movesFault, checkFault}
 use Rattle.model.specs.Calls.Wear.{wearFault, wearAnswer}
 use Rattle.laws.specs.Wear.{Worst}
-use Rattle.laws.proofs.Basics.{below-same}
+use Rattle.laws.proofs.Found.{below-cong}
 use Rattle.laws.proofs.Judged.{facts, wood}
 use Rattle.laws.proofs.Calls.{movesOf-half, move-at}
 use Rattle.laws.proofs.Step.{step}
@@ -169,7 +169,7 @@ module _ {y : Yard} {plan qs counts : List ℕ} {w crossings edge : ℕ} (t : Tr
     entries = c;
     best =
         ap (λ (x : ℕ). record { crossings = x; first = 0; edge = edge }) (m ∙ same)
-        ∙ ap (λ (x : ℕ). record { crossings = most (size y) g; first = 0; edge = x }) (b ∙ ap (headOr (size y)) (below-same (size y) _ _ (λ v l. rw (c .entries v l, m, same))))
+        ∙ ap (λ (x : ℕ). record { crossings = most (size y) g; first = 0; edge = x }) (b ∙ ap (headOr (size y)) (below-cong (size y) _ _ (λ v l. rw (c .entries v l, m, same))))
         ∙ sym (wear-start y w (movesOf plan) (push 0 0));
   }
     where

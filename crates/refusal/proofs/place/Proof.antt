@@ -49,14 +49,17 @@ enum-known-r-9 c = search needs
 enum-known-r-10 : tie.Need-enum-known-r-10
 enum-known-r-10 c = search needs
 
-enum-told-4 : tie.Need-enum-told-4
-enum-told-4 c = search needs
-
 enum-known-r-11 : tie.Need-enum-known-r-11
 enum-known-r-11 c = search needs
 
 enum-known-r-12 : tie.Need-enum-known-r-12
 enum-known-r-12 c = search needs
+
+enum-known-r-13 : tie.Need-enum-known-r-13
+enum-known-r-13 c = search needs
+
+enum-told-4 : tie.Need-enum-told-4
+enum-told-4 c = search needs
 
 enum-told-5 : tie.Need-enum-told-5
 enum-told-5 c = search needs
@@ -67,26 +70,23 @@ enum-told-6 c = search needs
 enum-told-7 : tie.Need-enum-told-7
 enum-told-7 c = search needs
 
-enum-told-8 : tie.Need-enum-told-8
-enum-told-8 c = search needs
-
-enum-known-r-13 : tie.Need-enum-known-r-13
-enum-known-r-13 c = search needs
-
 enum-known-r-14 : tie.Need-enum-known-r-14
 enum-known-r-14 c = search needs
-
-enum-told-9 : tie.Need-enum-told-9
-enum-told-9 c = search needs
 
 enum-known-r-15 : tie.Need-enum-known-r-15
 enum-known-r-15 c = search needs
 
+enum-told-8 : tie.Need-enum-told-8
+enum-told-8 c = search needs
+
 enum-known-r-16 : tie.Need-enum-known-r-16
 enum-known-r-16 c = search needs
 
-enum-told-10 : tie.Need-enum-told-10
-enum-told-10 c = search needs
+enum-known-r-17 : tie.Need-enum-known-r-17
+enum-known-r-17 c = search needs
+
+enum-told-9 : tie.Need-enum-told-9
+enum-told-9 c = search needs
 
 returns : tie.Need-returns
 returns c = sym (ap told (c .before .r .given .1))
@@ -128,43 +128,43 @@ returns-13 : tie.Need-returns-13
 returns-13 c = sym (ap told (c .before .r10 .given .1))
 
 returns-14 : tie.Need-returns-14
-returns-14 c = sym (ap told (c .enum-told4 .given .1))
+returns-14 c = sym (ap told (c .before .r11 .given .1))
 
 returns-15 : tie.Need-returns-15
-returns-15 c = sym (ap told (c .before .r11 .given .1))
+returns-15 c = sym (ap told (c .before .r12 .given .1))
 
 returns-16 : tie.Need-returns-16
-returns-16 c = sym (ap told (c .before .r12 .given .1))
+returns-16 c = sym (ap told (c .before .r13 .given .1))
 
 returns-17 : tie.Need-returns-17
-returns-17 c = sym (ap told (c .enum-told5 .given .1))
+returns-17 c = sym (ap told (c .enum-told4 .given .1))
 
 returns-18 : tie.Need-returns-18
-returns-18 c = sym (ap told (c .enum-told6 .given .1))
+returns-18 c = sym (ap told (c .enum-told5 .given .1))
 
 returns-19 : tie.Need-returns-19
-returns-19 c = sym (ap told (c .enum-told7 .given .1))
+returns-19 c = sym (ap told (c .enum-told6 .given .1))
 
 returns-20 : tie.Need-returns-20
-returns-20 c = sym (ap told (c .enum-told8 .given .1))
+returns-20 c = sym (ap told (c .enum-told7 .given .1))
 
 returns-21 : tie.Need-returns-21
-returns-21 c = sym (ap told (c .before .r13 .given .1))
+returns-21 c = sym (ap told (c .before .r14 .given .1))
 
 returns-22 : tie.Need-returns-22
-returns-22 c = sym (ap told (c .before .r14 .given .1))
+returns-22 c = sym (ap told (c .before .r15 .given .1))
 
 returns-23 : tie.Need-returns-23
-returns-23 c = sym (ap told (c .enum-told9 .given .1))
+returns-23 c = sym (ap told (c .enum-told8 .given .1))
 
 returns-24 : tie.Need-returns-24
-returns-24 c = sym (ap told (c .before .r15 .given .1))
+returns-24 c = sym (ap told (c .before .r16 .given .1))
 
 returns-25 : tie.Need-returns-25
-returns-25 c = sym (ap told (c .before .r16 .given .1))
+returns-25 c = sym (ap told (c .before .r17 .given .1))
 
 returns-26 : tie.Need-returns-26
-returns-26 c = sym (ap told (c .enum-told10 .given .1))
+returns-26 c = sym (ap told (c .enum-told9 .given .1))
 
 pub place-spec : {M : Type 1} → statement M
 place-spec =
@@ -183,19 +183,19 @@ place-spec =
     enum-known-r-8
     enum-known-r-9
     enum-known-r-10
-    enum-told-4
     enum-known-r-11
     enum-known-r-12
+    enum-known-r-13
+    enum-told-4
     enum-told-5
     enum-told-6
     enum-told-7
-    enum-told-8
-    enum-known-r-13
     enum-known-r-14
-    enum-told-9
     enum-known-r-15
+    enum-told-8
     enum-known-r-16
-    enum-told-10
+    enum-known-r-17
+    enum-told-9
     returns
     returns-2
     returns-3

@@ -5,7 +5,8 @@ use lib.Seq.{length-take-le}
 use Rattle.model.specs.Calls.Answers.{refused}
 use Rattle.model.specs.Sheets.{readAnswer}
 use Rattle.model.specs.Paper.{paper}
-use Rattle.moves.proofs.Steps.{blank, Found, read-number, read-refused}
+use Rattle.reader.proofs.Blank.{blank, Found, read-number, read-refused}
+use Rattle.moves.proofs.Steps.{printed, unread}
 use Rattle.moves.proofs.program.program.Statement.{statement}
 use Rattle.moves.proofs.program.program.Tie as tie
 
@@ -66,13 +67,13 @@ enum-known-r : tie.Need-enum-known-r
 enum-known-r c = search needs
 
 put-refused-requires : tie.Need-put-refused-requires
-put-refused-requires c κs = (read-refused _ (refusal (c .before .before)) .0, search needs)
+put-refused-requires c κs = (unread _ (read-refused _ (refusal (c .before .before))) .0, search needs)
 
 returns : tie.Need-returns
-returns c = rw (← (found (c .before .before .before .before .before .before .before) .said)) (c .put-plan .ensures)
+returns c = rw (← (printed _ (found (c .before .before .before .before .before .before .before) .said))) (c .put-plan .ensures)
 
 returns-2 : tie.Need-returns-2
-returns-2 c = rw (← (read-refused _ (refusal (c .before .before .before)) .1)) (c .put-refused .ensures)
+returns-2 c = rw (← (unread _ (read-refused _ (refusal (c .before .before .before))) .1)) (c .put-refused .ensures)
 
 pub program-spec : {M : Type 1} → statement M
 program-spec =

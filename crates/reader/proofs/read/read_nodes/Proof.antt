@@ -26,8 +26,11 @@ returns c =
     let l = c .before .before in
     (so-far-over (l .loop .inv .1) (omega arith) (omega arith) (omega arith), (omega arith, l .loop .inv .1 .full))
 
-node-line-requires : tie.Need-node-line-requires Inv-loop μ-loop
-node-line-requires c κs = search needs
+slice-aggregate-read-line : tie.Need-slice-aggregate-read-line Inv-loop μ-loop
+slice-aggregate-read-line c = search needs
+
+read-line-requires : tie.Need-read-line-requires Inv-loop μ-loop
+read-line-requires c κs = search needs
 
 enum-known-line : tie.Need-enum-known-line Inv-loop μ-loop
 enum-known-line c = search needs
@@ -37,9 +40,9 @@ enum-told c = search needs
 
 returns-2 : tie.Need-returns-2 Inv-loop μ-loop
 returns-2 c =
-    let l = c .before .before .before .before .before .before in
+    let l = c .before .before .before .before .before .before .before in
     let a = l .before .before .args in
-    let n = c .before .before .node-line in
+    let n = c .before .before .before .read-line in
     (so-far-shape (l .loop .inv .1) (omega arith) (omega arith) (omega arith) (seen (lineIn (a .sheet .now) (n .last .1 .1 .0)) (n .ensures) (c .enum-told .given .1)), (omega arith, l .loop .inv .1 .full))
 
 array-read-if2 : tie.Need-array-read-if2 Inv-loop μ-loop
@@ -50,9 +53,9 @@ cast-if2 c = omega arith
 
 returns-3 : tie.Need-returns-3 Inv-loop μ-loop
 returns-3 c =
-    let l = c .before .before .before .before .before .before .before .before in
+    let l = c .before .before .before .before .before .before .before .before .before in
     let a = l .before .before .args in
-    let n = c .before .before .before .before .node-line in
+    let n = c .before .before .before .before .before .read-line in
     (so-far-other (l .loop .inv .1) (omega arith) (omega arith) (omega arith) (seen (lineIn (a .sheet .now) (n .last .1 .1 .0)) (n .ensures) (c .before .before .line .given .1)) (c .if2 .taken), (omega arith, l .loop .inv .1 .full))
 
 array-read-parents : tie.Need-array-read-parents Inv-loop μ-loop
@@ -87,9 +90,9 @@ loop-less c = omega arith
 
 loop-again : tie.Need-loop-again Inv-loop μ-loop
 loop-again c =
-    let l = c .before .before .before .before .before .before .before .before in
+    let l = c .before .before .before .before .before .before .before .before .before in
     let a = l .before .before .args in
-    let n = c .before .before .before .before .node-line in
+    let n = c .before .before .before .before .before .read-line in
     (omega arith, so-far-next (l .loop .inv .1) (omega arith) (omega arith) (n .last .1 .1 .0) (c .before .before .line .given .0 .0) (seen (lineIn (a .sheet .now) (n .last .1 .1 .0)) (n .ensures) (c .before .before .line .given .1)) (c .if2 .left))
 
 returns-4 : tie.Need-returns-4 Inv-loop μ-loop
@@ -106,7 +109,8 @@ read-nodes-spec =
     loop-holds
     add-number
     returns
-    node-line-requires
+    slice-aggregate-read-line
+    read-line-requires
     enum-known-line
     enum-told
     returns-2

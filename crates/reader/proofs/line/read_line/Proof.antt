@@ -1,25 +1,25 @@
--- `node_line` reads field after field: the array holds the first i values, and the others are read behind them. The measure is the values left.
+-- `read_line` reads field after field: the list holds the first i values, and the others are read behind them. The measure is the values left.
 use mathlib.Core.Path.{_≡_, sym, ap, _∙_}
 use Prim.Native.Nat.{ℕ, _-_, _≤_}
 use native.Mathlib.Omega.{arith}
-use lib.ListN.{drop}
+use lib.ListN.{length, drop}
 use borrow.Author.Needs.{needs}
 use Rattle.model.specs.Sheets as Sheets
-use Rattle.model.specs.Sheets.{stopBefore, lineValues}
+use Rattle.model.specs.Sheets.{stopBefore}
 use Rattle.laws.proofs.Lines.{stop-low}
 use Rattle.reader.specs.Reading.{wordIn}
 use Rattle.reader.proofs.ReadLines.{LineSoFar, line-none, line-wrong, line-more, line-whole}
-use Rattle.reader.proofs.read.node_line.Statement.{statement}
-use Rattle.reader.proofs.read.node_line.Tie as tie
+use Rattle.reader.proofs.line.read_line.Statement.{statement}
+use Rattle.reader.proofs.line.read_line.Tie as tie
 
 abbrev Inv-loop : tie.InvT-loop
-Inv-loop sheet at values₀ next₀ i₀ values next i = (i ≤ lineValues) × LineSoFar sheet at values next i
+Inv-loop sheet at values₀ next₀ i₀ values next i = (i ≤ length values₀) × LineSoFar (length values₀) sheet at values next i
 
 abbrev μ-loop : tie.MeasureT-loop
-μ-loop sheet at values₀ next₀ i₀ values next i = lineValues - i
+μ-loop sheet at values₀ next₀ i₀ values next i = length values₀ - i
 
 loop-holds : tie.Need-loop-holds Inv-loop μ-loop
-loop-holds c = let s = c .before in (omega arith, line-none (s .args .sheet .now) (s .args .at) (s .args .values .now) (s .pre))
+loop-holds c = let s = c .before .before in (omega arith, line-none (s .args .sheet .now) (s .args .at) (s .args .values .now))
 
 sub-stop-before : tie.Need-sub-stop-before Inv-loop μ-loop
 sub-stop-before c = omega arith
@@ -31,14 +31,14 @@ stop-before-requires : tie.Need-stop-before-requires Inv-loop μ-loop
 stop-before-requires c κs = search needs
 
 field-requires : tie.Need-field-requires Inv-loop μ-loop
-field-requires c κs = omega (arith, c .stop-before .ensures, stop-low (lineValues - 1 - c .before .before .loop .i))
+field-requires c κs = rw (c .stop-before .ensures) (stop-low _)
 
 -- what is read at the place of value i
-found : (c : tie.After-field Inv-loop μ-loop) → let l = c .before .before .before in let sheet = l .before .before .args .sheet .now in
-    Sheets.field (stopBefore (lineValues - 1 - l .loop .i)) (drop (l .loop .next) sheet) ≡ wordIn sheet (c .field .result)
+found : (c : tie.After-field Inv-loop μ-loop) → let l = c .before .before .before in let sheet = l .before .before .before .args .sheet .now in
+    Sheets.field (stopBefore (length (l .loop .values) - 1 - l .loop .i)) (drop (l .loop .next) sheet) ≡ wordIn sheet (c .field .result)
 found c =
     let l = c .before .before .before in
-    sym (c .field .ensures ∙ ap (λ (b : ℕ). Sheets.field b (drop (l .loop .next) (l .before .before .args .sheet .now))) (c .before .stop-before .ensures))
+    sym (c .field .ensures ∙ ap (λ (b : ℕ). Sheets.field b (drop (l .loop .next) (l .before .before .before .args .sheet .now))) (c .before .stop-before .ensures))
 
 enum-known-word : tie.Need-enum-known-word Inv-loop μ-loop
 enum-known-word c = search needs
@@ -46,13 +46,16 @@ enum-known-word c = search needs
 enum-told : tie.Need-enum-told Inv-loop μ-loop
 enum-told c = search needs
 
+same-length : tie.Need-same-length Inv-loop μ-loop
+same-length c = search needs
+
 returns : tie.Need-returns Inv-loop μ-loop
 returns c =
     let l = c .before .before .before .before .before in
-    line-wrong (l .loop .inv .1) _ (omega arith) (found (c .before .before) ∙ ap (wordIn (l .before .before .args .sheet .now)) (c .enum-told .given .1))
+    line-wrong (l .loop .inv .1) _ (omega arith) (found (c .before .before) ∙ ap (wordIn (l .before .before .before .args .sheet .now)) (c .enum-told .given .1))
 
-element-write-values : tie.Need-element-write-values Inv-loop μ-loop
-element-write-values c = omega arith
+slice-write-values : tie.Need-slice-write-values Inv-loop μ-loop
+slice-write-values c = omega arith
 
 add-i : tie.Need-add-i Inv-loop μ-loop
 add-i c = omega arith
@@ -64,14 +67,17 @@ loop-again : tie.Need-loop-again Inv-loop μ-loop
 loop-again c =
     let l = c .before .before .before .before .before .before in
     let w = c .before .word .given in
-    let f = found (c .before .before .before) ∙ ap (wordIn (l .before .before .args .sheet .now)) (w .1) in
+    let f = found (c .before .before .before) ∙ ap (wordIn (l .before .before .before .args .sheet .now)) (w .1) in
     (omega arith, line-more (l .loop .inv .1) _ (omega arith) (w .0 .0) (w .0 .1 .0) f)
+
+same-length-2 : tie.Need-same-length-2 Inv-loop μ-loop
+same-length-2 c = search needs
 
 returns-2 : tie.Need-returns-2 Inv-loop μ-loop
 returns-2 c = line-whole (c .before .loop .inv .1) (omega arith)
 
-pub node-line-spec : {M : Type 1} → statement M
-node-line-spec =
+pub read-line-spec : {M : Type 1} → statement M
+read-line-spec =
     tie.close
     (tie.spec
     Inv-loop
@@ -83,9 +89,11 @@ node-line-spec =
     field-requires
     enum-known-word
     enum-told
+    same-length
     returns
-    element-write-values
+    slice-write-values
     add-i
     loop-less
     loop-again
+    same-length-2
     returns-2)

@@ -2,8 +2,8 @@
 use native.Mathlib.Omega.{arith}
 use Rattle.reader.proofs.Fields.{extended-zero, extended-other, extended-digit}
 use borrow.Author.Needs.{needs}
-use Rattle.reader.proofs.read.extended.Statement.{statement}
-use Rattle.reader.proofs.read.extended.Tie as tie
+use Rattle.reader.proofs.line.extended.Statement.{statement}
+use Rattle.reader.proofs.line.extended.Tie as tie
 
 returns : tie.Need-returns
 returns c = extended-zero _ _ (omega arith)

@@ -8,8 +8,8 @@ use lib.ListN.{length, drop, drop-of-length-le}
 use Rattle.model.specs.Sheets.{decimal}
 use Rattle.reader.proofs.Fields.{field-nothing, field-first, field-end, field-found, field-break, field-begins, field-goes-on}
 use Rattle.sheet.proofs.Writing.{drop-next}
-use Rattle.reader.proofs.read.field.Statement.{statement}
-use Rattle.reader.proofs.read.field.Tie as tie
+use Rattle.reader.proofs.line.field.Statement.{statement}
+use Rattle.reader.proofs.line.field.Tie as tie
 
 abbrev Inv-loop : tie.InvT-loop
 Inv-loop sheet at stop first value₀ i₀ value i = (i ≤ length sheet) × (value < 256) × (drop at sheet ≡ decimal value ++ drop i sheet)

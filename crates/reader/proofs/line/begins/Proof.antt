@@ -6,8 +6,8 @@ use native.Mathlib.Omega.{arith}
 use lib.ListN.{length, take}
 use lib.Seq.{take-suc, take-length}
 use Rattle.reader.proofs.ReadLines.{begins-short, begins-not, begins-all}
-use Rattle.reader.proofs.read.begins.Statement.{statement}
-use Rattle.reader.proofs.read.begins.Tie as tie
+use Rattle.reader.proofs.line.begins.Statement.{statement}
+use Rattle.reader.proofs.line.begins.Tie as tie
 
 abbrev Inv-loop : tie.InvT-loop
 Inv-loop list head i₀ i = (i ≤ length head) × (take i list ≡ take i head)

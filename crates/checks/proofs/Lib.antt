@@ -1,0 +1,4 @@
+-- Laws that several proofs of this crate cite.
+mod YardEnd
+mod MovesRead
+mod Printed

@@ -1,0 +1,39 @@
+-- `report_at` compares the head with the bytes from `at` on.
+use mathlib.Core.Path.{ap, _∙_}
+use borrow.Author.Needs.{needs}
+use Rattle.model.specs.Sheets.{text, begins, reportHead}
+use Rattle.checks.proofs.MovesRead.{rest-whole}
+use Rattle.checks.proofs.plan.report_at.Statement.{statement}
+use Rattle.checks.proofs.plan.report_at.Tie as tie
+
+sub-begins : tie.Need-sub-begins
+sub-begins c = search needs
+
+part-begins-start : tie.Need-part-begins-start
+part-begins-start c = search needs
+
+part-begins-end : tie.Need-part-begins-end
+part-begins-end c = search needs
+
+slice-aggregate-begins : tie.Need-slice-aggregate-begins
+slice-aggregate-begins c = search needs
+
+begins-requires : tie.Need-begins-requires
+begins-requires c κs = search needs
+
+returns : tie.Need-returns
+unfolding text
+returns c =
+    let a = c .before .before .before .before .args in
+    c .begins .ensures ∙ ap (begins reportHead) (rest-whole (a .input .now) (a .at))
+
+pub report-at-spec : {M : Type 1} → statement M
+report-at-spec =
+    tie.close
+    (tie.spec
+    sub-begins
+    part-begins-start
+    part-begins-end
+    slice-aggregate-begins
+    begins-requires
+    returns)

@@ -1,0 +1,2 @@
+-- Definitions that the contracts of this crate's helpers cite.
+pub mod Reading

@@ -1,0 +1,359 @@
+-- The check program. A yard sheet with a move sheet behind it is read as that yard and those moves, with the crossing report behind them or without; and what
+-- is cut off behind the bytes that the program judges lies behind the first line that is refused, or behind a move too many.
+use mathlib.Core.Path.{_≡_, refl, sym, ap, _∙_}
+use mathlib.Core.Logic.{_⊎_, inl, inr}
+use mathlib.Core.Bool.{Bool, true, false, not, cond, _&&_, and-eq-true-iff}
+use mathlib.Core.List.{List, [], _∷_, _++_, map, append-assoc, append-nil}
+use mathlib.Core.Option.{Option, none, some, Option·none-ne-some}
+use Prim.Native.Nat.{ℕ, zero, suc, _+_, _-_, _*_, _%_, _≤_, _<_}
+use native.Mathlib.Omega.{arith}
+use lib.ListN.{length, take, drop}
+use lib.Seq.{take-take, take-all, drop-append-seam, length-take-le}
+use lib.Dec.{leb, eqb}
+use borrow.Author.Tests.{leb-true, leb-false, ne-eqb, not-false}
+use Rattle.model.specs.Yard.{Yard, size, maxSize, below}
+use Rattle.model.specs.Judge.{Fault, row, fault, firstOf, judge, totalsFault}
+use Rattle.model.specs.Push.{Move}
+use Rattle.model.specs.Calls.Answers.{Answer, answered, refused, answer, mapAnswer, range, Row}
+use Rattle.model.specs.Plan.{plan}
+use Rattle.model.specs.Calls.Plans.{bytes, movesOf, planFault}
+use Rattle.model.specs.Calls.Checks.{Verdict, maxPlanBytes, bytesFault, obeyTests, checkFault, checkAnswer}
+use Rattle.model.specs.Sheets.{text, digits, decimal, stopBefore, line, lines, space, lineFeed, header, yardSheet, nodeValues, same, field, cut, begins, moveHead, reportHead, moveLines, report, moveSheet, sheetOf, printedOf, programPlanBytes, program, Line, readLine, readYard}
+use Rattle.model.specs.CheckSheets.{digitFirst, yardPart, moveValues, readMoves, movesRead, readPlan, andThen, checkSheets, verdictSheet, checkedBytes, checks}
+use Rattle.laws.specs.CheckSheets.{ByteMoves, SheetsChecked}
+use Rattle.laws.proofs.Basics.{All, not-so, below-none}
+use Rattle.laws.proofs.Lines.{plain, decimal-sound, Values, length-line, readLine-begins, readLine-some, cutLine, readLine-take}
+use Rattle.laws.proofs.Judged.{facts}
+use Rattle.laws.proofs.Step.{ends}
+use Rattle.laws.proofs.Runs.{Obeys}
+use Rattle.laws.proofs.Moves.{accepted-obeys}
+use Rattle.laws.proofs.Demand2.{check-plan}
+use Rattle.laws.proofs.Demand3.{plan-optimal}
+use Rattle.laws.proofs.Calls.{answer-answered, plan-none, length-bytes}
+use Rattle.laws.proofs.Sheets.{YardBytes, drop-take, read-cut, read-length, read-sizes, read-bytes, write-read, program-cut, AtLine, further}
+
+-- yardPart: of a list that is cut it is cut
+cond-same : {A : Type 0} (t : Bool) (a : A) → cond t a a ≡ a
+cond-same true a = refl
+cond-same false a = refl
+
+cond-take : (t : Bool) (m : ℕ) (l : List ℕ) → cond t [] (take (suc m) l) ≡ take (suc m) (cond t [] l)
+cond-take true m l = refl
+cond-take false m l = refl
+
+pub yardPart-take : (m : ℕ) (bs : List ℕ) → yardPart (take m bs) ≡ take m (yardPart bs)
+unfolding yardPart digitFirst
+yardPart-take zero bs = refl
+yardPart-take (suc m) [] = refl
+yardPart-take (suc zero) (b ∷ bs) = ap (λ (l : List ℕ). b ∷ l) (cond-same ((eqb b lineFeed) && (not (digitFirst []))) [])
+yardPart-take (suc (suc m)) (b ∷ []) = ap (λ (l : List ℕ). b ∷ l) (cond-take ((eqb b lineFeed) && (not (digitFirst []))) m [])
+yardPart-take (suc (suc m)) (b ∷ c ∷ bs) =
+    let t : Bool = (eqb b lineFeed) && (not (digitFirst (c ∷ bs))) in
+    ap (λ (l : List ℕ). b ∷ cond t [] l) (yardPart-take (suc m) (c ∷ bs)) ∙ ap (λ (l : List ℕ). b ∷ l) (cond-take t m (yardPart (c ∷ bs)))
+
+-- a value's decimal begins with a digit; all 256 are tried
+all-first : below 256 (λ v. not (digitFirst (decimal v))) ≡ []
+unfolding below decimal digits digitFirst
+all-first = refl
+
+first-append : (xs ys : List ℕ) → digitFirst xs ≡ true → digitFirst (xs ++ ys) ≡ true
+unfolding digitFirst
+first-append [] ys e = cc
+first-append (x ∷ xs) ys e = e
+
+decimal-first : (v : ℕ) (rest : List ℕ) → v < 256 → digitFirst (decimal v ++ rest) ≡ true
+decimal-first v rest l = first-append (decimal v) rest (not-false _ (below-none 256 (λ v. not (digitFirst (decimal v))) all-first v l))
+
+-- and has no line feed
+yardPart-plain : (xs rest : List ℕ) → plain xs ≡ true → yardPart (xs ++ rest) ≡ xs ++ yardPart rest
+unfolding plain yardPart
+yardPart-plain [] rest e = refl
+yardPart-plain (x ∷ xs) rest e =
+    let p = and-eq-true-iff (leb 48 x) (plain xs) .0 e in
+    let high : 48 ≤ x = leb-true 48 x (p .0) in
+    rw (ne-eqb x 10 (λ q. omega arith)) (ap (λ (l : List ℕ). x ∷ l) (yardPart-plain xs rest (p .1)))
+
+-- what of a list behind a line feed belongs to the yard sheet
+abbrev following : List ℕ → List ℕ
+following rest = cond (not (digitFirst rest)) [] (yardPart rest)
+
+yardPart-line : (v : ℕ) (vs rest : List ℕ) → Values (v ∷ vs) → yardPart (line (v ∷ vs) ++ rest) ≡ line (v ∷ vs) ++ following rest
+unfolding line stopBefore yardPart
+yardPart-line v [] rest b =
+    ap yardPart (append-assoc (decimal v) (lineFeed ∷ []) rest)
+    ∙ yardPart-plain (decimal v) (lineFeed ∷ rest) (decimal-sound v (b .0) .0)
+    ∙ sym (append-assoc (decimal v) (lineFeed ∷ []) (following rest))
+yardPart-line v (w ∷ vs) rest b =
+    ap yardPart (append-assoc (decimal v) (space ∷ line (w ∷ vs)) rest)
+    ∙ yardPart-plain (decimal v) (space ∷ (line (w ∷ vs) ++ rest)) (decimal-sound v (b .0) .0)
+    ∙ ap (λ (l : List ℕ). decimal v ++ (space ∷ l)) (yardPart-line w vs rest (b .1))
+    ∙ sym (append-assoc (decimal v) (space ∷ line (w ∷ vs)) (following rest))
+
+-- a line of values, one at least
+abbrev Valued : List ℕ → Type 0
+Valued vs = (0 < length vs) × Values vs
+
+row-first : (vs rest : List ℕ) → Valued vs → digitFirst (line vs ++ rest) ≡ true
+unfolding line
+row-first [] rest r = absurd (omega arith)
+row-first (v ∷ vs) rest r = rw (append-assoc (decimal v)) (decimal-first v _ (r .1 .0))
+
+following-lines : (rows : List (List ℕ)) (rest : List ℕ) → All Valued rows → digitFirst rest ≡ false → following (lines rows ++ rest) ≡ lines rows
+unfolding lines
+following-lines [] rest a e = rw e
+following-lines ([] ∷ rows) rest a e = absurd (omega (arith, a .0 .0))
+following-lines ((v ∷ vs) ∷ rows) rest a e =
+    rw (append-assoc (line (v ∷ vs)) (lines rows) rest, row-first (v ∷ vs) (lines rows ++ rest) (a .0), yardPart-line v vs (lines rows ++ rest) (a .0 .1), following-lines rows rest (a .1) e)
+
+node-rows : (y : Yard) → YardBytes y → (v n : ℕ) → v + n ≤ 256 → All Valued (map (nodeValues y) (range v n))
+unfolding range
+node-rows y b v zero h = tt
+node-rows y b v (suc n) h = ((omega arith, omega (arith, b .0 v, b .1 v, b .2 v, b .3 v)), node-rows y b (suc v) n (omega arith))
+
+pub yardPart-sheet : (y : Yard) (rest : List ℕ) → size y ≤ maxSize → YardBytes y → digitFirst rest ≡ false → yardPart (yardSheet y ++ rest) ≡ yardSheet y
+unfolding yardSheet header text yardPart
+yardPart-sheet y rest h b e = ap (λ (l : List ℕ). header ++ l) (following-lines (map (nodeValues y) (range 0 (size y))) rest (node-rows y b 0 (size y) (omega arith)) e)
+
+-- readMoves, case by case: too many, no line more, a report, one of another shape, a move
+abbrev parsed : ℕ → ℕ → Option Line → Answer (List ℕ)
+parsed k l o = elim o [ none ↦ refused (row 16 l) | some m ↦ mapAnswer (_++_ (m .values)) (readMoves k (suc l) (m .rest)) ]
+
+abbrev reported : ℕ → ℕ → List ℕ → Bool → Answer (List ℕ)
+reported k l bs t = elim t [ true ↦ answered [] | false ↦ parsed k l (readLine moveValues bs) ]
+
+pub readMoves-none : (l : ℕ) (bs : List ℕ) → readMoves 0 l bs ≡ answered []
+unfolding readMoves
+readMoves-none l bs = refl
+
+pub readMoves-end : (k l : ℕ) → readMoves k l [] ≡ answered []
+unfolding readMoves
+readMoves-end zero l = refl
+readMoves-end (suc k) l = refl
+
+pub readMoves-report : (k l : ℕ) (bs : List ℕ) → begins reportHead bs ≡ true → readMoves k l bs ≡ answered []
+unfolding readMoves
+readMoves-report zero l bs e = refl
+readMoves-report (suc k) l [] e = refl
+readMoves-report (suc k) l (b ∷ bs) e = ap (reported k l (b ∷ bs)) e
+
+pub readMoves-next : (k l : ℕ) (bs : List ℕ) {m : Line} → begins reportHead bs ≡ false → readLine moveValues bs ≡ some m
+    → readMoves (suc k) l bs ≡ mapAnswer (_++_ (m .values)) (readMoves k (suc l) (m .rest))
+unfolding readMoves readLine field cut
+readMoves-next k l [] {m} n e = absurd (Option·none-ne-some m e)
+readMoves-next k l (b ∷ bs) n e = ap (reported k l (b ∷ bs)) n ∙ ap (parsed k l) e
+
+module _ (k l b : ℕ) (bs : List ℕ) (n : begins reportHead (b ∷ bs) ≡ false) where
+  pub readMoves-shape : readLine moveValues (b ∷ bs) ≡ none → readMoves (suc k) l (b ∷ bs) ≡ refused (row 16 l)
+  unfolding readMoves
+  readMoves-shape e = ap (reported k l (b ∷ bs)) n ∙ ap (parsed k l) e
+
+  readMoves-cases : (Q : Answer (List ℕ) → Type 0)
+      → (readLine moveValues (b ∷ bs) ≡ none → Q (refused (row 16 l)))
+      → ((m : Line) → readLine moveValues (b ∷ bs) ≡ some m → Q (mapAnswer (_++_ (m .values)) (readMoves k (suc l) (m .rest))))
+      → Q (readMoves (suc k) l (b ∷ bs))
+  readMoves-cases Q shape next = go (readLine moveValues (b ∷ bs)) refl
+    where
+      go : (o : Option Line) → readLine moveValues (b ∷ bs) ≡ o → Q (readMoves (suc k) l (b ∷ bs))
+      go none e = rw (readMoves-shape e) (shape e)
+      go (some m) e = rw (readMoves-next k l (b ∷ bs) n e) (next m e)
+
+-- a test, by its two answers
+either : (t : Bool) {Q : Type 0} → (t ≡ true → Q) → (t ≡ false → Q) → Q
+either true y n = y refl
+either false y n = n refl
+
+-- A list cut at 8 bytes a move, and a report's head more, is read as the whole.
+cut-begins : (front : List ℕ) (m : ℕ) (bs : List ℕ) → length front ≤ m → begins front (take m bs) ≡ begins front bs
+cut-begins front m bs h = ap (λ (l : List ℕ). same l front) (take-take (length front) m bs h)
+
+abbrev moveBytes : ℕ
+moveBytes = 4 * moveValues
+
+abbrev headBytes : ℕ
+headBytes = 14
+
+readMoves-take : (k l m : ℕ) (bs : List ℕ) → moveBytes * k + headBytes ≤ m → readMoves k l (take m bs) ≡ readMoves k l bs
+unfolding readMoves text
+readMoves-take zero l m bs h = refl
+readMoves-take (suc k) l zero bs h = absurd (omega arith)
+readMoves-take (suc k) l (suc m) [] h = refl
+readMoves-take (suc k) l (suc m) (b ∷ bs) h =
+    let c = cut-begins reportHead (suc m) (b ∷ bs) (omega arith) in
+    let t = readLine-take moveValues (suc m) (b ∷ bs) (omega arith) in
+    either (begins reportHead (b ∷ bs))
+    (λ e. readMoves-report (suc k) l (b ∷ take m bs) (c ∙ e) ∙ sym (readMoves-report (suc k) l (b ∷ bs) e))
+    (λ e. readMoves-cases k l b bs e (λ a. readMoves (suc k) l (b ∷ take m bs) ≡ a)
+    (λ q. readMoves-shape k l b (take m bs) (c ∙ e) (t ∙ rw q))
+    (λ x q.
+    let g = readLine-some moveValues (b ∷ bs) q in
+    readMoves-next k l (b ∷ take m bs) {m = cutLine (suc m) x} (c ∙ e) (t ∙ rw q)
+    ∙ ap (mapAnswer (_++_ (x .values))) (readMoves-take k (suc l) (suc m - length (line (x .values))) (x .rest) (omega (arith, g .count, length-line (x .values) (g .small))))))
+
+-- readPlan, by whether the head is there
+abbrev headed : ℕ → Bool → List ℕ → Answer (List ℕ)
+headed l t bs = elim t [ false ↦ refused (row 15 l) | true ↦ readMoves movesRead (suc l) bs ]
+
+readPlan-take : (l m : ℕ) (bs : List ℕ) → 8 + (moveBytes * movesRead + headBytes) ≤ m → readPlan l (take m bs) ≡ readPlan l bs
+unfolding readPlan text
+readPlan-take l m bs h =
+    ap (λ (t : Bool). headed l t (drop 8 (take m bs))) (cut-begins moveHead m bs (omega arith))
+    ∙ ap (headed l (begins moveHead bs)) (drop-take 8 m bs (omega arith))
+    ∙ go (begins moveHead bs)
+  where
+    go : (t : Bool) → headed l t (take (m - 8) (drop 8 bs)) ≡ headed l t (drop 8 bs)
+    go true = readMoves-take movesRead (suc l) (m - 8) (drop 8 bs) (omega arith)
+    go false = refl
+
+-- So it makes no difference that the program judges only so many bytes: a yard sheet that is read has at most 5,040.
+abbrev checkedAs : List ℕ → List ℕ → Answer Yard → Answer Verdict
+checkedAs bs part r = andThen r (λ y. andThen (readPlan (size y + 2) (drop (length part) bs)) (checkAnswer y))
+
+checkSheets-cut : (bs : List ℕ) → checkSheets (take checkedBytes bs) ≡ checkSheets bs
+unfolding checkSheets
+checkSheets-cut bs = go (readYard part) refl
+  where
+    part : List ℕ
+    part = yardPart bs
+
+    cut-part : yardPart (take checkedBytes bs) ≡ take checkedBytes part
+    cut-part = yardPart-take checkedBytes bs
+
+    cut-yard : readYard (yardPart (take checkedBytes bs)) ≡ readYard part
+    cut-yard = ap readYard cut-part ∙ read-cut checkedBytes part (omega arith)
+
+    go : (r : Answer Yard) → readYard part ≡ r → checkSheets (take checkedBytes bs) ≡ checkSheets bs
+    go (refused f) e = ap (checkedAs (take checkedBytes bs) (yardPart (take checkedBytes bs))) (cut-yard ∙ e) ∙ sym (ap (checkedAs bs part) e)
+    go (answered y) e =
+        let n = read-length part y e in
+        let p : yardPart (take checkedBytes bs) ≡ part = cut-part ∙ take-all checkedBytes part (omega arith) in
+        let q : drop (length (yardPart (take checkedBytes bs))) (take checkedBytes bs) ≡ take (checkedBytes - length part) (drop (length part) bs) =
+        ap (λ (l : List ℕ). drop (length l) (take checkedBytes bs)) p ∙ drop-take (length part) checkedBytes bs (omega arith) in
+        ap (checkedAs (take checkedBytes bs) (yardPart (take checkedBytes bs))) (cut-yard ∙ e)
+        ∙ ap (λ (a : Answer (List ℕ)). andThen a (checkAnswer y)) (ap (readPlan (size y + 2)) q ∙ readPlan-take (size y + 2) (checkedBytes - length part) (drop (length part) bs) (omega arith))
+        ∙ sym (ap (checkedAs bs part) e)
+
+pub checks-cut : (input : List ℕ) → checks input ≡ verdictSheet (checkSheets input)
+unfolding checks
+checks-cut input = ap verdictSheet (checkSheets-cut input)
+
+-- a refused move sheet is refused at a line, if its head is line l up to 131,073 lines behind it
+moves-places : (n k l : ℕ) (bs : List ℕ) → l + k ≤ suc n → AtLine n (readMoves k l bs)
+moves-places n zero l bs h = rw readMoves-none tt
+moves-places n (suc k) l [] h = rw readMoves-end tt
+moves-places n (suc k) l (b ∷ bs) h =
+    either (begins reportHead (b ∷ bs))
+    (λ e. rw (readMoves-report (suc k) l (b ∷ bs) e) tt)
+    (λ e. readMoves-cases k l b bs e (AtLine n) (λ _. omega arith) (λ m _. further n _ (readMoves k (suc l) (m .rest)) (moves-places n k (suc l) (m .rest) (omega arith))))
+
+pub plan-row : (l : ℕ) (bs : List ℕ) {f : Fault} → l ≤ 258 → readPlan l bs ≡ refused f → Row f
+unfolding readPlan
+plan-row l bs {f} h e = let p = rw e at (go (begins moveHead bs)) in record { numbered = omega arith; placed = omega arith }
+  where
+    go : (t : Bool) → AtLine 131_331 (headed l t (drop (length moveHead) bs))
+    go true = moves-places 131_331 movesRead (suc l) (drop (length moveHead) bs) (omega arith)
+    go false = omega arith
+
+-- readMoves: of the lines of moves, and what ends them
+abbrev pub moveRow : Move → List ℕ
+moveRow m = m .from ∷ m .to ∷ []
+
+abbrev pub MoveBytes : List Move → Type 0
+MoveBytes = All (λ m. Values (moveRow m))
+
+abbrev pub Ends : List ℕ → Type 0
+Ends rest = (rest ≡ []) ⊎ (begins reportHead rest ≡ true)
+
+no-report : (bs : List ℕ) → digitFirst bs ≡ true → begins reportHead bs ≡ false
+unfolding digitFirst text same
+no-report [] e = cc
+no-report (b ∷ bs) e =
+    let p = leb-true b 57 (and-eq-true-iff (leb 48 b) (leb b 57) .0 e .1) in
+    rw (ne-eqb b 116 (λ q. omega arith))
+
+ended : (k l : ℕ) (rest : List ℕ) → Ends rest → readMoves k l rest ≡ answered []
+ended k l rest (inl e) = rw e (readMoves-end k l)
+ended k l rest (inr e) = readMoves-report k l rest e
+
+readMoves-lines : (k l : ℕ) (ms : List Move) (rest : List ℕ) → MoveBytes ms → Ends rest → readMoves k l (lines (map moveRow ms) ++ rest) ≡ answered (bytes (take k ms))
+unfolding lines bytes
+readMoves-lines zero l ms rest b e = readMoves-none l _
+readMoves-lines (suc k) l [] rest b e = ended (suc k) l rest e
+readMoves-lines (suc k) l (m ∷ ms) rest b e =
+    let tail : List ℕ = lines (map moveRow ms) ++ rest in
+    let n = no-report (line (moveRow m) ++ tail) (row-first (moveRow m) tail (omega arith, b .0)) in
+    let q = readLine-begins {l = record { values = moveRow m; rest = tail }} (record { count = refl; small = b .0; text = refl }) in
+    ap (readMoves (suc k) l) (append-assoc (line (moveRow m)) (lines (map moveRow ms)) rest)
+    ∙ readMoves-next k l (line (moveRow m) ++ tail) n q
+    ∙ ap (mapAnswer (_++_ (moveRow m))) (readMoves-lines k (suc l) ms rest (b .1) e)
+
+-- readPlan: of a move sheet, and what ends it
+readPlan-lines : (l : ℕ) (ms : List Move) (rest : List ℕ) → MoveBytes ms → Ends rest → readPlan l (moveLines ms ++ rest) ≡ answered (bytes (take movesRead ms))
+unfolding readPlan moveLines text same
+readPlan-lines l ms rest b e = readMoves-lines movesRead (suc l) ms rest b e
+
+-- a plan that is too long is refused by its first 131,073 moves as it is whole
+first-of-three : {A : Type 0} (a b : Option Fault) (f : Fault) (xs ys : List (Option Fault)) (u v : A)
+    → answer (firstOf (a ∷ b ∷ some f ∷ xs)) u ≡ answer (firstOf (a ∷ b ∷ some f ∷ ys)) v
+first-of-three (some _) b f xs ys u v = refl
+first-of-three none (some _) f xs ys u v = refl
+first-of-three none none f xs ys u v = refl
+
+too-long : (y : Yard) (bs : List ℕ) → maxPlanBytes < length bs → checkAnswer y bs ≡ answer (firstOf (judge y ∷ totalsFault y ∷ fault 9 0 ∷ [])) (record { moves = 0; excess = 0 })
+unfolding checkFault
+too-long y bs h =
+    let n : bytesFault bs ≡ fault 9 0 = rw (not-so ((eqb (length bs % 2) 0) && (leb (length bs) maxPlanBytes)) (λ e. omega (arith, leb-true (length bs) maxPlanBytes (and-eq-true-iff (eqb (length bs % 2) 0) _ .0 e .1)))) in
+    rw n (first-of-three (judge y) (totalsFault y) (row 9 0) (obeyTests y (movesOf bs)) [] _ _)
+
+check-long : (y : Yard) (ms : List Move) → checkAnswer y (bytes (take movesRead ms)) ≡ checkAnswer y (bytes ms)
+check-long y ms =
+    either (leb (length ms) movesRead)
+    (λ e. ap (λ (l : List Move). checkAnswer y (bytes l)) (take-all movesRead ms (leb-true (length ms) movesRead e)))
+    (λ e.
+    let h = leb-false (length ms) movesRead e in
+    let n = length-take-le movesRead ms (omega arith) in
+    too-long y (bytes (take movesRead ms)) (omega (arith, length-bytes (take movesRead ms))) ∙ sym (too-long y (bytes ms) (omega (arith, length-bytes ms))))
+
+-- moves of bytes, as those of a plan are
+byte-moves : (ms : List Move) → ByteMoves ms → MoveBytes ms
+unfolding bytes
+byte-moves [] b = tt
+byte-moves (m ∷ ms) b = ((b 0, (b 1, tt)), byte-moves ms (λ i. b (suc (suc i))))
+
+obeys-bytes : {y z : Yard} {ms : List Move} → Obeys y ms z → size y ≤ maxSize → MoveBytes ms
+obeys-bytes Obeys.done h = tt
+obeys-bytes (Obeys.next {y} {m = m} s o) h = let e = ends y m s in ((omega arith, (omega arith, tt)), obeys-bytes o h)
+
+-- a yard sheet with a move sheet behind it, and what ends that, is judged as the checker judges the yard and the moves
+moves-first : (ms : List Move) (rest : List ℕ) → digitFirst (moveLines ms ++ rest) ≡ false
+unfolding digitFirst moveLines text
+moves-first ms rest = refl
+
+module _ (sheet : List ℕ) (y : Yard) (said : readYard sheet ≡ answered y) where
+  checks-said : (ms : List Move) → MoveBytes ms → (rest : List ℕ) → Ends rest → checks (sheet ++ (moveLines ms ++ rest)) ≡ verdictSheet (checkAnswer y (bytes ms))
+  unfolding checkSheets
+  checks-said ms c rest e =
+      let back : List ℕ = moveLines ms ++ rest in
+      let part : yardPart (sheet ++ back) ≡ sheet =
+      rw (← (write-read sheet y said)) (yardPart-sheet y back (omega (arith, read-sizes sheet y said)) (read-bytes sheet y said) (moves-first ms rest)) in
+      checks-cut (sheet ++ back)
+      ∙ ap verdictSheet (
+      ap (λ (p : List ℕ). checkedAs (sheet ++ back) p (readYard p)) part
+      ∙ ap (checkedAs (sheet ++ back) sheet) said
+      ∙ ap (λ (l : List ℕ). andThen (readPlan (size y + 2) l) (checkAnswer y)) (drop-append-seam sheet back)
+      ∙ ap (λ (a : Answer (List ℕ)). andThen a (checkAnswer y)) (readPlan-lines (size y + 2) ms rest c e)
+      ∙ check-long y ms
+      )
+
+  pub sheets-checked : SheetsChecked sheet y
+  unfolding report moveSheet text same
+  sheets-checked = record {
+    bare = λ ms b. ap (λ (l : List ℕ). checks (sheet ++ l)) (sym (append-nil (moveLines ms))) ∙ checks-said ms (byte-moves ms b) [] (inl refl);
+    reported = λ ms b z ns rest. checks-said ms (byte-moves ms b) (report z ns ++ rest) (inr refl);
+    own = λ ms e.
+        let a = answer-answered (planFault y programPlanBytes) (plan y) ms e in
+        let n = plan-none y programPlanBytes .0 (a .0) in
+        let p : program sheet ≡ moveLines ms ++ report y ms = program-cut sheet ∙ ap printedOf said ∙ ap (sheetOf y) e in
+        let o = accepted-obeys y (n .0) (plan y) (plan-optimal y (n .0) (n .1) .obeyed) in
+        let b = rw (a .1) at (obeys-bytes o (facts y (n .0) .few .1)) in
+        ap (λ (l : List ℕ). checks (sheet ++ l)) p ∙ checks-said ms b (report y ms) (inr refl) ∙ ap verdictSheet (rw (a .1) at (check-plan y (n .0) (n .1)));
+  }

@@ -1,0 +1,26 @@
+-- The check program: what it prints of a yard sheet and the moves behind it.
+use mathlib.Core.Path.{_≡_}
+use mathlib.Core.List.{List, _++_}
+use Prim.Native.Nat.{ℕ, _<_}
+use lib.ListN.{length, getD}
+use Rattle.model.specs.Yard.{Yard}
+use Rattle.model.specs.Push.{Move}
+use Rattle.model.specs.Calls.Answers.{answered}
+use Rattle.model.specs.Calls.Plans.{bytes}
+use Rattle.model.specs.Calls.Checks.{checkAnswer}
+use Rattle.model.specs.Sheets.{moveLines, report, programPlan, program}
+use Rattle.model.specs.CheckSheets.{verdictSheet, checks}
+
+-- moves that a sheet can hold: of numbers below 256
+abbrev pub ByteMoves : List Move → Type 0
+ByteMoves ms = (i : ℕ) → getD (bytes ms) i 0 < 256
+
+-- of a sheet that says the yard (`readYard sheet ≡ answered y`; `yardSheet y` is one for every yard that can be written)
+pub record SheetsChecked (sheet : List ℕ) (y : Yard) : Type 0 where
+  -- with any moves behind it, the program prints what the checker answers of the yard and those moves
+  pub bare : (ms : List Move) → ByteMoves ms → checks (sheet ++ moveLines ms) ≡ verdictSheet (checkAnswer y (bytes ms))
+  -- with a report behind them, of whatever yard and moves, and anything behind that, the same
+  pub reported : (ms : List Move) → ByteMoves ms → (z : Yard) (ns : List Move) (rest : List ℕ)
+      → checks (sheet ++ (moveLines ms ++ (report z ns ++ rest))) ≡ verdictSheet (checkAnswer y (bytes ms))
+  -- with what the move program printed for it, the number of moves printed, and that none is spare
+  pub own : (ms : List Move) → programPlan y ≡ answered ms → checks (sheet ++ program sheet) ≡ verdictSheet (answered (record { moves = length ms; excess = 0 }))
