@@ -70,9 +70,9 @@ print() { # FILE KIND
 
 # After plan: where the yard sheet is refused, says why and ends.
 end_if_refused() {
-    local number place
-    if [ "$(head -n 1 "$work/out")" != 'refusal place' ]; then return 0; fi
-    read -r number place < <(tail -n 1 "$work/out")
+    local head number place
+    { read -r head && read -r number place; } <"$work/out" || :
+    if [ "$head" != 'refusal place' ]; then return 0; fi
     say "refused: $(explain "$number" "$place" "$work/sheet")."
     hint "$number" "$place" "$work/sheet"
     exit 1

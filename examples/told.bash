@@ -15,7 +15,7 @@ told() { # STATUS OUT ERR COMMAND…
     "$@" >out 2>err || status=$?
     cases=$((cases + 1))
     # shellcheck disable=SC2053 # patterns
-    if [ "$status" -eq "$want" ] && [[ $(cat out) == $out ]] && [[ $(cat err) == $err ]]; then return 0; fi
+    if [ "$status" -eq "$want" ] && [[ $(<out) == $out ]] && [[ $(<err) == $err ]]; then return 0; fi
     wrong=$((wrong + 1))
     printf 'not as it must be: %s\nmust end with %s, print\n%s\nand tell\n%s\nends with %s, prints\n' "$*" "$want" "$out" "$err" "$status"
     cat out
