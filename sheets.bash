@@ -80,9 +80,9 @@ end_if_refused() {
 
 # What is wrong with the yard, and what to mend: the sentence of the C header, by the whole answer where the place tells which fault it is, else by the
 # number, with the place put in. A berth's line is two further down, as the header is line 1 and berths count from 0. With 8 there is nothing to mend in the
-# sheet, and no list that its keeper lends.
-explain() { # NUMBER PLACE SHEET
-    local text
+# sheet, and no list that its keeper lends. WHAT and OF tell which sheet it is, where there are two: 'the yard sheet', ' of my.yard'.
+explain() { # NUMBER PLACE SHEET [WHAT OF]
+    local text what=${4-the sheet} of=${5-}
     if [ "$1" -eq 8 ]; then
         echo "the yard sheet is all right, but its plan has $2 pushes and this program has room for 32768: a C program that lends a longer list gets it, as examples/cabinet.c does"
         return 0
@@ -90,47 +90,68 @@ explain() { # NUMBER PLACE SHEET
     text=$(sentence $(($1 * 1000000 + $2)))
     text=${text:-$(sentence "$1")}
     text=${text:-refusal $1, place $2}
-    text=${text/the named berth/berth $2 (line $(($2 + 2)))}
-    text=${text/the named line/line $2}
+    text=${text/the named berth/"berth $2 (line $(($2 + 2))$of)"}
+    text=${text/the named line/"line $2$of"}
+    text=${text/line 1 is/"line 1$of is"}
     text=${text/the next berth/berth $(($2 - 2))}
+    text=${text/#the sheet/"$what"}
     echo "${text/cars and targets differ/cars ($(total 3 "$3")) and targets ($(total 4 "$3")) differ}"
 }
 sentence() { sed -n "s/^ *case $1: return \"\(.*\)\";\$/\1/p" "$top/include/javendriky.h" || :; } # CASE
 total() { awk -v column="$1" 'NR > 1 { sum += $column } END { print sum + 0 }' "$2"; }
 
-# How a refused sheet came to be, where that shows: what an editor, a spreadsheet or a wrong file leaves behind, often unseen.
-hint() { # NUMBER PLACE SHEET
-    local -x LC_ALL=C
-    local start text line
+# How a refused yard sheet came to be, where that shows: what an editor, a spreadsheet or a wrong file leaves behind, often unseen.
+hint() { # NUMBER LINE SHEET [WHAT OF]
+    local line of=${5-}
     local fifth='a fifth value, the depth, which is how many cars the berth has room for: 1 for a berth with no siding'
-    start=$(head -c 3 "$3" | od -An -tx1)
-    case $start in
-    ' ff fe'* | ' fe ff'*) say "the sheet is text in UTF-16: save it as plain text (ASCII or UTF-8)."; return 0 ;;
-    ' ef bb bf') say "the sheet begins with a byte order mark (BOM), which editors do not show: save it as UTF-8 without BOM, or run: tail -c +4 your.yard >mended.yard" ;;
-    esac
-    if [ "$(tr -d '\11\12\15\40-\176\200-\377' <"$3" | wc -c)" -gt 0 ]; then
-        say "the file is no plain text: if a spreadsheet or a word processor wrote it, or it is packed, save the yard sheet from there as plain text."
-        return 0
-    fi
-    text=$(cat "$3"; echo .)
-    case $text in
-    *$'\r\n'*) say "the sheet's lines end in carriage return and line feed: save it with line feeds alone (line ends 'LF' or 'Unix'), or run: tr -d '\\r' <your.yard >mended.yard"; return 0 ;;
-    *$'\r'*) say "the sheet has carriage returns, which end no line: save it with line feeds alone (line ends 'LF' or 'Unix'), or run: tr '\\r' '\\n' <your.yard >mended.yard"; return 0 ;;
-    .) say "the sheet is empty."; return 0 ;;
-    esac
+    hint_whole "$3" "${4-the sheet}" yard || return 0
     case $1 in 15 | 16) ;; *) return 0 ;; esac
     line=$(sed -n "$2p" "$3")
     case $line in
     'from to' | 'refusal place') say "this is what movesheet prints: hand in the yard sheet that it was made from." ;;
-    $'\xef\xbb\xbf'*) ;; # told above
-    *[$'\t,;']*) say "line $2 has tabs, commas or semicolons, as a spreadsheet writes them: put one space between the values instead." ;;
-    *[!\ -~]*) say "line $2 has characters that are not plain ASCII, as a space copied from elsewhere can be: type the line anew." ;;
-    ' '*[!\ ]* | *[!\ ]*' ' | *[!\ ]*'  '*) say "line $2 has a space too many: before the first value, behind the last, or two together." ;;
     'berth parent car target') say "this sheet is from before berths had depths: the header now ends in 'depth', and each line has $fifth. If no berth has a siding, write a 1 behind every line, or run: sed -e '1s/\$/ depth/' -e '1!s/\$/ 1/' your.yard >mended.yard" ;;
-    *[!\ ]*) [[ ! $line =~ ^[0-9]+(\ [0-9]+){3}$ ]] || say "line $2 has four values: since berths have depths each line has $fifth." ;;
-    *) say "line $2 is empty: take it out." ;;
+    *) hint_line "$2$of" "$line" || [[ ! $line =~ ^[0-9]+(\ [0-9]+){3}$ ]] || say "line $2$of has four values: since berths have depths each line has $fifth." ;;
     esac
-    if [ "${text%$'\n.'}" = "$text" ] && [ "$(wc -c <"$3")" -lt 5200 ] && [ "$(wc -l <"$3")" -eq $(($2 - 1)) ]; then
-        say "line $2, the last, has no line feed behind it: press Enter at its end and save the sheet."
+    hint_end "$2" "$3" 5200 "$of"
+}
+
+# What can be said of a sheet as a whole. Status 1 if there is no more to say. ENDING is yard or moves, as the files' names end.
+hint_whole() { # SHEET WHAT ENDING
+    local -x LC_ALL=C
+    local start text
+    start=$(head -c 3 "$1" | od -An -tx1)
+    case $start in
+    ' ff fe'* | ' fe ff'*) say "$2 is text in UTF-16: save it as plain text (ASCII or UTF-8)."; return 1 ;;
+    ' ef bb bf') say "$2 begins with a byte order mark (BOM), which editors do not show: save it as UTF-8 without BOM, or run: tail -c +4 your.$3 >mended.$3" ;;
+    esac
+    if [ "$(tr -d '\11\12\15\40-\176\200-\377' <"$1" | wc -c)" -gt 0 ]; then
+        say "the file is no plain text: if a spreadsheet or a word processor wrote it, or it is packed, save the ${3%s} sheet from there as plain text."
+        return 1
+    fi
+    text=$(cat "$1"; echo .)
+    case $text in
+    *$'\r\n'*) say "$2's lines end in carriage return and line feed: save it with line feeds alone (line ends 'LF' or 'Unix'), or run: tr -d '\\r' <your.$3 >mended.$3"; return 1 ;;
+    *$'\r'*) say "$2 has carriage returns, which end no line: save it with line feeds alone (line ends 'LF' or 'Unix'), or run: tr '\\r' '\\n' <your.$3 >mended.$3"; return 1 ;;
+    .) say "$2 is empty."; return 1 ;;
+    esac
+}
+
+# What is hard to see in a line. Status 1 if there is no such thing. WHICH is its number, and the file where there are two.
+hint_line() { # WHICH TEXT
+    local -x LC_ALL=C
+    case $2 in
+    $'\xef\xbb\xbf'*) ;; # told of the whole
+    *[$'\t,;']*) say "line $1 has tabs, commas or semicolons, as a spreadsheet writes them: put one space between the values instead." ;;
+    *[!\ -~]*) say "line $1 has characters that are not plain ASCII, as a space copied from elsewhere can be: type the line anew." ;;
+    ' '*[!\ ]* | *[!\ ]*' ' | *[!\ ]*'  '*) say "line $1 has a space too many: before the first value, behind the last, or two together." ;;
+    *[!\ ]*) return 1 ;;
+    *) say "line $1 is empty: take it out." ;;
+    esac
+}
+
+# That the last line has no line feed, in a sheet of fewer bytes than are taken.
+hint_end() { # LINE SHEET BYTES [OF]
+    if [ -n "$(tail -c 1 "$2")" ] && [ "$(wc -c <"$2")" -lt "$3" ] && [ "$(wc -l <"$2")" -eq $(($1 - 1)) ]; then
+        say "line $1${4-}, the last, has no line feed behind it: press Enter at its end and save the sheet."
     fi
 }
