@@ -5,6 +5,7 @@
 //! equal inputs.
 
 pub mod cabinet;
+pub mod check_sheet;
 pub mod checker;
 pub mod damage;
 pub mod demands;

@@ -32,7 +32,7 @@ pub fn read(sheet: &[u8], lengths: [usize; 4]) -> Answer<Yard> {
         let Some(end) = rest.iter().position(|&byte| byte == b'\n') else {
             return refuse(16, line);
         };
-        let Some([own, parent, pebbles, targets, depth]) = five_values(&rest[..end]) else {
+        let Some([own, parent, pebbles, targets, depth]) = values(&rest[..end]) else {
             return refuse(16, line);
         };
         if usize::from(own) != node {
@@ -111,8 +111,8 @@ pub fn program(input: &[u8]) -> Vec<u8> {
     printed.unwrap_or_else(refusal_sheet)
 }
 
-/// The values of a line of five, one space between.
-fn five_values(line: &[u8]) -> Option<[u8; 5]> {
+/// The values of a line of so many, one space between.
+pub fn values<const MANY: usize>(line: &[u8]) -> Option<[u8; MANY]> {
     let words: Vec<&[u8]> = line.split(|&byte| byte == b' ').collect();
     let values: Option<Vec<u8>> = words.into_iter().map(value).collect();
     values?.try_into().ok()
