@@ -1,10 +1,13 @@
 //! Lists, plans, demands and sheets spoilt in one place or several: what a hand, a bad wire or an attacker makes of legal ones.
 
+use crate::check_sheet::{both_sheets, MOVES_HEAD};
 use crate::checker::MAX_PLAN_BYTES;
 use crate::demands::{of_tree, MAX_DEMAND};
 use crate::event::{way, Event};
+use crate::planner;
 use crate::random::Random;
 use crate::shapes::{self, Shape};
+use crate::sheet::{move_sheet, unjudged};
 use crate::yard::{Yard, MAX_DEPTH, MAX_NODES};
 
 /// A number of nodes that the library does not take, or at its edge.
@@ -321,6 +324,49 @@ pub fn sheet(sheet: &mut Vec<u8>, random: &mut Random) {
                 sheet.drain(lines[line] + 1..=lines[line + 1]);
             }
             _ => sheet.push(b'\n'),
+        }
+    }
+}
+
+/// Small inputs of all kinds for a move program: bytes at random, beginnings of a sheet, spoilt sheets.
+pub fn move_input(random: &mut Random) -> Vec<u8> {
+    let n = random.within(1, 12);
+    let mut yard = unjudged(&shapes::any_yard(random.pick(&Shape::ALL), n, random));
+    match random.below(4) {
+        0 => (0..random.below(100)).map(|_| random.byte()).collect(),
+        1 => {
+            let header = yard.iter().position(|&byte| byte == b'\n').map_or(0, |end| end + 1);
+            yard.truncate(header);
+            yard.extend((0..random.below(60)).map(|_| random.pick(b"0123 \n")));
+            yard
+        }
+        _ => {
+            sheet(&mut yard, random);
+            yard
+        }
+    }
+}
+
+/// The same for a check program: one of its two sheets, both or none may be good.
+pub fn check_input(random: &mut Random) -> Vec<u8> {
+    let n = random.within(1, 12);
+    let yard = shapes::any_yard(random.pick(&Shape::ALL), n, random);
+    let plan = planner::plan(&yard, usize::MAX).expect("as many pebbles as targets");
+    let mut moves = move_sheet(&yard, &plan);
+    match random.below(8) {
+        0 => move_input(random),
+        1 => [move_input(random), moves].concat(),
+        2 => [unjudged(&yard), (0..random.below(100)).map(|_| random.byte()).collect()].concat(),
+        3 => [unjudged(&yard), MOVES_HEAD.to_vec(), (0..random.below(60)).map(|_| random.pick(b"0123 \n")).collect()].concat(),
+        4 => [unjudged(&yard), move_input(random)].concat(),
+        5 => {
+            sheet(&mut moves, random);
+            [unjudged(&yard), moves].concat()
+        }
+        _ => {
+            let mut both = both_sheets(&yard, &plan);
+            sheet(&mut both, random);
+            both
         }
     }
 }

@@ -2,7 +2,7 @@
 //! document 01 and the requests (document 02) alone, plain first and quick nowhere. The program `compare` holds the library against it.
 //!
 //! `fast` is the same planner written for speed, as the benchmark's measure. `random`, `shapes` and `damage` make the inputs; equal seeds make
-//! equal inputs.
+//! equal inputs. `piped` runs a program on them.
 
 pub mod cabinet;
 pub mod check_sheet;
@@ -20,6 +20,7 @@ pub mod follow;
 pub mod library;
 pub mod openings;
 pub mod parts;
+pub mod piped;
 pub mod planner;
 pub mod random;
 pub mod report;
