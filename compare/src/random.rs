@@ -44,3 +44,31 @@ impl Random {
         }
     }
 }
+
+/// How much of each family is tried.
+#[derive(Clone, Copy)]
+pub struct Thin(u64);
+
+impl Thin {
+    pub fn full() -> Thin {
+        Thin(1)
+    }
+
+    pub fn one_of(cases: u64) -> Option<Thin> {
+        (cases > 0).then_some(Thin(cases))
+    }
+
+    pub fn is_full(self) -> bool {
+        self.0 == 1
+    }
+
+    /// Whether the case with this number is tried. Drawn by lot, as the counts of neighbouring cases repeat.
+    pub fn keeps(self, case: u64) -> bool {
+        Random::new(case).draw().is_multiple_of(self.0)
+    }
+
+    /// How many of so many random cases are tried.
+    pub fn of(self, cases: u64) -> u64 {
+        (cases / self.0).max(1)
+    }
+}

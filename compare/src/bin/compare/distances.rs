@@ -1,11 +1,10 @@
 //! Families of distances: the nearest pebble of a node, and the pebbles within reach of it.
 
 use crate::calls::{Caller, Same};
-use crate::families::Thin;
 use std::cmp::Ordering;
 use unrelated::damage;
 use unrelated::distance::{all_pairs, from_node};
-use unrelated::random::Random;
+use unrelated::random::{Random, Thin};
 use unrelated::shapes::{self, Shape};
 use unrelated::yard::{having, total, Refusal, Yard, MAX_DEPTH, MAX_NODES};
 

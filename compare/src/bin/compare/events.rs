@@ -1,11 +1,10 @@
 //! Families of events at nodes.
 
 use crate::calls::{Caller, Same};
-use crate::families::Thin;
 use unrelated::damage;
 use unrelated::demands::{of_tree, MAX_DEMAND};
 use unrelated::event::{Event, Kept};
-use unrelated::random::Random;
+use unrelated::random::{Random, Thin};
 use unrelated::shapes::{self, Shape};
 use unrelated::yard::{each, judge, Refusal, Yard, MAX_DEPTH, MAX_NODES};
 

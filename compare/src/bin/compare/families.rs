@@ -4,7 +4,7 @@ use crate::calls::{Caller, Same};
 use crate::worked::worked;
 use crate::{distances, events, openings, parts, sheets, steps, wear};
 use unrelated::planner::{Choice, Turn};
-use unrelated::random::Random;
+use unrelated::random::{Random, Thin};
 use unrelated::shapes::{self, Shape};
 use unrelated::wear::every_stretch;
 use unrelated::yard::{Refusal, Yard, MAX_DEPTH};
@@ -64,34 +64,6 @@ pub const FAMILIES: [(&str, Family); 49] = [
     ("sheets of about 256 lines", sheets::long),
     ("empty lists with no address", no_address),
 ];
-
-/// How much of each family is tried.
-#[derive(Clone, Copy)]
-pub struct Thin(u64);
-
-impl Thin {
-    pub fn full() -> Thin {
-        Thin(1)
-    }
-
-    pub fn one_of(cases: u64) -> Option<Thin> {
-        (cases > 0).then_some(Thin(cases))
-    }
-
-    pub fn is_full(self) -> bool {
-        self.0 == 1
-    }
-
-    /// Whether the case with this number is tried. Drawn by lot, as the counts of neighbouring cases repeat.
-    pub fn keeps(self, case: u64) -> bool {
-        Random::new(case).draw().is_multiple_of(self.0)
-    }
-
-    /// How many of so many random cases are tried.
-    pub fn of(self, cases: u64) -> u64 {
-        (cases / self.0).max(1)
-    }
-}
 
 /// All calls on a legal yard with equal totals, its plan as it is printed, and its length against the least number of moves.
 fn solved(caller: &Caller, yard: &Yard, least: u32, random: &mut Random) -> Same {

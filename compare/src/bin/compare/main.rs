@@ -17,10 +17,11 @@ mod wear;
 mod worked;
 
 use calls::{watch_pages, Caller, UNUSED_REFUSALS};
-use families::{Thin, FAMILIES};
+use families::FAMILIES;
 use lent::Placement;
 use std::process::ExitCode;
 use std::time::Instant;
+use unrelated::random::Thin;
 
 fn main() -> ExitCode {
     let Some((placement, thin)) = arguments() else {

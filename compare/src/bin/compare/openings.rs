@@ -1,11 +1,10 @@
 //! Families of openings: every move with which some shortest plan starts.
 
 use crate::calls::{Caller, Same};
-use crate::families::Thin;
 use crate::parts::{rooms, small_depths};
 use unrelated::figures::shortest_length;
 use unrelated::openings::of_tree;
-use unrelated::random::Random;
+use unrelated::random::{Random, Thin};
 use unrelated::shapes::{self, Shape};
 use unrelated::yard::{refuse, total, Answer, Refusal, Yard, MAX_DEPTH, MAX_NODES};
 use unrelated::{checker, damage, shortest};

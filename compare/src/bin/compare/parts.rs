@@ -1,11 +1,10 @@
 //! Families of parts: each part of a yard planned as a yard of its own.
 
 use crate::calls::{Caller, Same};
-use crate::families::Thin;
 use unrelated::checker::{check, Checked, MAX_PLAN_BYTES};
 use unrelated::figures::shortest_length;
 use unrelated::parts::Parted;
-use unrelated::random::Random;
+use unrelated::random::{Random, Thin};
 use unrelated::shapes::{self, Shape};
 use unrelated::yard::{judge_matched, total, Answer, Refusal, Yard, MAX_DEPTH, MAX_NODES};
 use unrelated::{damage, parts};

@@ -1,9 +1,8 @@
 //! Families of yard sheets, read and written.
 
 use crate::calls::{Caller, Same};
-use crate::families::Thin;
 use unrelated::damage;
-use unrelated::random::Random;
+use unrelated::random::{Random, Thin};
 use unrelated::shapes::{self, Shape};
 use unrelated::sheet::{unjudged, HEADER, MAX_SHEET_BYTES};
 use unrelated::yard::{Yard, MAX_NODES};

@@ -1,10 +1,9 @@
 //! Families of the cabinet's steps. Each step is a case.
 
 use crate::calls::{Caller, Same};
-use crate::families::Thin;
 use unrelated::cabinet::{command, flag, status, Registers, Stepped, BLOCK_BYTES};
 use unrelated::checker::MAX_PLAN_BYTES;
-use unrelated::random::Random;
+use unrelated::random::{Random, Thin};
 use unrelated::shapes::{self, Shape};
 use unrelated::yard::{total, Answer, Yard, MAX_DEPTH, MAX_NODES};
 use unrelated::{damage, planner};

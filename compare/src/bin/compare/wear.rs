@@ -1,10 +1,9 @@
 //! Families of wear: the most crossings of one edge within so many moves in a row. Each call is a case.
 
 use crate::calls::{Caller, Same};
-use crate::families::Thin;
 use unrelated::checker::MAX_PLAN_BYTES;
 use unrelated::demands::of_tree;
-use unrelated::random::Random;
+use unrelated::random::{Random, Thin};
 use unrelated::shapes::{self, Shape};
 use unrelated::wear::{every_edge, every_stretch, Wear};
 use unrelated::yard::{refuse, total, Answer, Refusal, Yard, MAX_DEPTH, MAX_NODES};
