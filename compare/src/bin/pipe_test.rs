@@ -5,7 +5,7 @@
 
 use std::process::ExitCode;
 use std::time::Duration;
-use unrelated::check_sheet::{self, both_sheets, MOVES_HEAD};
+use unrelated::check_sheet::{self, both_sheets, MOST_MOVES_READ, MOVES_HEAD};
 use unrelated::piped::{shown, Outcome, Piped};
 use unrelated::random::Random;
 use unrelated::shapes::{any_yard, every_yard, far, Shape};
@@ -80,10 +80,14 @@ fn for_checks(random: &mut Random) -> Inputs {
     let shorter = both(&far(Shape::Line, 50, 1, random));
     let (small_yard, home) = (far(Shape::Binary, 9, 2, random), Yard::shallow(&[0, 0], &[1, 0], &[1, 0]));
     let (small, yard) = (both(&small_yard), unjudged(&small_yard));
-    // Without the report a line is not whole.
+    // The first move lacks its line feed, and nothing follows.
     let head = [yard.clone(), MOVES_HEAD.to_vec()].concat();
     let refused = small[..head.len() + "0 1".len()].to_vec();
     let there_and_back = [unjudged(&home), MOVES_HEAD.to_vec()].concat();
+    // The same between the last of 256 nodes.
+    let ends = Vec::from_iter((0..=255).map(|node| u8::from(node == 254)));
+    let far_home = Yard::shallow(&Vec::from_iter((0..=255u8).map(|node| node.saturating_sub(1))), &ends, &ends);
+    let far_there_and_back = [unjudged(&far_home), MOVES_HEAD.to_vec()].concat();
 
     let mut large = Vec::new();
     for junk in [&b"junk"[..], b"\n", b"\0", b"9 0 0 0 1\n", b" ", b"0 1\n1 0\n", b"9"] {
@@ -93,8 +97,11 @@ fn for_checks(random: &mut Random) -> Inputs {
     }
     large.push(filled(b"", HEADER.as_bytes(), MEGABYTE));
     large.push(filled(HEADER.as_bytes(), b"0", MEGABYTE));
-    // As many moves as fit, too many for the checker, and of about as many bytes as are judged.
-    large.extend([524_288, 3 * MEGABYTE].map(|more| filled(&there_and_back, b"0 1\n1 0\n", there_and_back.len() + more)));
+    // As many moves as the checker takes, too many, and of about as many bytes as are judged.
+    for moves in [MOST_MOVES_READ - 1, MOST_MOVES_READ, 400_000] {
+        large.push(filled(&there_and_back, b"0 1\n1 0\n", there_and_back.len() + 4 * moves));
+        large.push(filled(&far_there_and_back, b"254 255\n255 254\n", far_there_and_back.len() + 8 * moves));
+    }
     large.extend((check_sheet::JUDGED_BYTES - 1..=check_sheet::JUDGED_BYTES + 1).map(|length| filled(&there_and_back, b"0 1\n1 0\n", length)));
     large.extend((check_sheet::JUDGED_BYTES - 1..=check_sheet::JUDGED_BYTES + 1).map(|length| filled(&small, b"1", length)));
 
