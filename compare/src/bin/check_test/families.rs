@@ -740,7 +740,10 @@ fn long_inputs(held: &mut Held, random: &mut Random) -> Outcome {
         held.is("the longest lines and a wrong one", &all.concat(), due)?;
         all[258 + place] = kept;
     }
-    Ok(())
+    // The last byte on which an answer depends is the line feed of this head.
+    let front = all[..258 + MOST_MOVES].concat();
+    held.is("the longest lines and a report", &[&front, REPORT_HEAD, b"junk"].concat(), refuse(26, 0))?;
+    held.is("the longest lines and another head", &[&front, &b"track up down "[..]].concat(), refuse(16, 259 + MOST_MOVES))
 }
 
 fn nonsense(held: &mut Held, random: &mut Random) -> Outcome {
