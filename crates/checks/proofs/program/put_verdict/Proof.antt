@@ -19,7 +19,7 @@ put-pair-requires c κs =
     let v = c .before .before .before in
     let s = v .before .before .before in
     let t = rw (v .verdict .given .1) at (s .pre .0) in
-    (t .0, t .1, omega (arith, s .pre .1))
+    (omega (arith, t), omega (arith, t), omega (arith, s .pre .1))
 
 enum-known-verdict-2 : tie.Need-enum-known-verdict-2
 enum-known-verdict-2 c = search needs
