@@ -24,12 +24,20 @@ pub const PLAN_BYTES: usize = 2 * MOVES_READ;
 // How many values a move's line has.
 const VALUES: usize = 2;
 
+// Whether a head stands at `at`.
+fn stands_at(head: &[u8], input: &[u8], at: usize) -> bool
+    requires { ⌜ at ≤ length (now input) ⌝ }
+    ensures { λ r. ⌜ r ≡ Sheets.begins (was head) (drop at (was input)) ⌝ }
+{
+    begins(&input[at..], head)
+}
+
 // Whether a report stands at `at`.
 fn report_at(input: &[u8], at: usize) -> bool
     requires { ⌜ at ≤ length (now input) ⌝ }
     ensures { λ r. ⌜ r ≡ Sheets.begins reportHead (drop at (was input)) ⌝ }
 {
-    begins(&input[at..], &REPORT_HEAD)
+    stands_at(&REPORT_HEAD, input, at)
 }
 
 // The moves whose lines stand at `at`, the first of them line `first` of the input, into a list: how many, or the refusal of the first line that has one. A report
@@ -67,7 +75,7 @@ pub fn read_plan(input: &[u8], at: usize, line: usize, plan: &mut [u8]) -> Count
     ensures { λ r. ⌜ planIn r (became plan) ≡ readPlan line (drop at (was input)) ⌝ }
     ensures { λ r. ⌜ movesIn r ≤ movesRead ⌝ }
 {
-    if !begins(&input[at..], &MOVE_HEAD) {
+    if !stands_at(&MOVE_HEAD, input, at) {
         return Counted::Refused(Refusal::Header(line));
     }
     read_moves(input, at + MOVE_HEAD_BYTES, line + 1, plan)

@@ -1,39 +1,18 @@
--- `report_at` compares the head with the bytes from `at` on.
-use mathlib.Core.Path.{ap, _∙_}
+-- `report_at` asks for the report's head.
 use borrow.Author.Needs.{needs}
-use Rattle.model.specs.Sheets.{text, begins, reportHead}
-use Rattle.checks.proofs.MovesRead.{rest-whole}
+use Rattle.model.specs.Sheets.{text}
 use Rattle.checks.proofs.plan.report_at.Statement.{statement}
 use Rattle.checks.proofs.plan.report_at.Tie as tie
 
-sub-begins : tie.Need-sub-begins
-sub-begins c = search needs
+slice-aggregate-stands-at : tie.Need-slice-aggregate-stands-at
+slice-aggregate-stands-at c = search needs
 
-part-begins-start : tie.Need-part-begins-start
-part-begins-start c = search needs
-
-part-begins-end : tie.Need-part-begins-end
-part-begins-end c = search needs
-
-slice-aggregate-begins : tie.Need-slice-aggregate-begins
-slice-aggregate-begins c = search needs
-
-begins-requires : tie.Need-begins-requires
-begins-requires c κs = search needs
+stands-at-requires : tie.Need-stands-at-requires
+stands-at-requires c κs = search needs
 
 returns : tie.Need-returns
 unfolding text
-returns c =
-    let a = c .before .before .before .before .args in
-    c .begins .ensures ∙ ap (begins reportHead) (rest-whole (a .input .now) (a .at))
+returns c = c .stands-at .ensures
 
 pub report-at-spec : {M : Type 1} → statement M
-report-at-spec =
-    tie.close
-    (tie.spec
-    sub-begins
-    part-begins-start
-    part-begins-end
-    slice-aggregate-begins
-    begins-requires
-    returns)
+report-at-spec = tie.close (tie.spec slice-aggregate-stands-at stands-at-requires returns)
