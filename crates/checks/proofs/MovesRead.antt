@@ -13,7 +13,7 @@ use Rattle.model.specs.Judge.{row}
 use Rattle.model.specs.Calls.Answers.{Answer, answered, refused, mapAnswer}
 use Rattle.model.specs.Sheets.{text, begins, moveHead, reportHead, readLine}
 use Rattle.model.specs.CheckSheets.{moveValues, movesRead, readMoves, readPlan}
-use Rattle.laws.proofs.CheckSheets.{readMoves-none, readMoves-end, readMoves-report, readMoves-shape, readMoves-next}
+use Rattle.laws.proofs.CheckSheets.{readMoves-none, readMoves-end, readMoves-report, readMoves-shape, readMoves-next, pair}
 use Rattle.sheet.proofs.Writing.{drop-next}
 use Rattle.checks.specs.Reading.{planRoom}
 
@@ -47,13 +47,7 @@ pub record SoFar (input : List ℕ) (at first : ℕ) (plan : List ℕ) (next m :
 pub so-far-none : (input : List ℕ) (at first : ℕ) (plan : List ℕ) → length plan ≡ planRoom → SoFar input at first plan at 0
 so-far-none input at first plan n = record { full = n; said = rw add-zero (front-none (readMoves movesRead first (drop at input))) }
 
--- two values, as a list and put behind the moves so far
-pair : (vs : List ℕ) → length vs ≡ moveValues → vs ≡ getD vs 0 0 ∷ getD vs 1 0 ∷ []
-pair (a ∷ b ∷ []) e = refl
-pair [] e = absurd (omega arith)
-pair (a ∷ []) e = absurd (omega arith)
-pair (a ∷ b ∷ c ∷ vs) e = absurd (omega arith)
-
+-- two values put behind the moves so far
 take-pair : (plan : List ℕ) (m a b : ℕ) → 2 * m + 1 < length plan → take (2 * (m + 1)) (set (set plan (2 * m) a) (2 * m + 1) b) ≡ take (2 * m) plan ++ (a ∷ b ∷ [])
 take-pair plan m a b h =
     let n : 2 * (m + 1) ≡ suc (2 * m + 1) = omega arith in

@@ -10,9 +10,8 @@ use Rattle.model.specs.Calls.Checks.{Verdict, checkAnswer}
 use Rattle.model.specs.Sheets.{text, line, readYard, refusalSheet}
 use Rattle.model.specs.CheckSheets.{yardPart, readPlan, andThen, checkSheets, verdictSheet, checks}
 use Rattle.laws.proofs.Places.{checked-small, excess-small, read-row}
-use Rattle.laws.proofs.CheckSheets.{checks-cut}
+use Rattle.laws.proofs.CheckSheets.{yardPart-front, checks-cut}
 use Rattle.checks.specs.Reading.{Told}
-use Rattle.checks.proofs.YardEnd.{part-front}
 
 -- the checker's answer
 pub accepted : (v : Verdict) → text "moves spare\n" ++ line (v .moves ∷ v .excess ∷ []) ≡ verdictSheet (answered v)
@@ -42,7 +41,7 @@ module _ (input : List ℕ) (end : ℕ) (n : end ≡ length (yardPart input)) wh
 
   whole : verdictSheet (behind (readYard (take end input))) ≡ checks input
   unfolding checkSheets
-  whole = rw (n, part-front input .0) (sym (checks-cut input))
+  whole = rw (n, yardPart-front input .0) (sym (checks-cut input))
 
   pub checked : {y : Yard} → readYard (take end input) ≡ answered y → verdictSheet (andThen (readPlan (size y + 2) (drop end input)) (checkAnswer y)) ≡ checks input
   checked e = sym (ap (λ (r : Answer Yard). verdictSheet (behind r)) e) ∙ whole

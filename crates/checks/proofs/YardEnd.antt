@@ -1,29 +1,14 @@
 -- Where the yard sheet ends, byte by byte: from a byte that does not end it, it goes on with the next.
-use mathlib.Core.Path.{_≡_, refl, ap}
-use mathlib.Core.Bool.{Bool, true, false, not, cond, _&&_}
-use mathlib.Core.List.{List, [], _∷_}
+use mathlib.Core.Path.{_≡_}
+use mathlib.Core.Bool.{Bool, true, false, not, _&&_}
+use mathlib.Core.List.{List}
 use Prim.Native.Nat.{ℕ, suc, _+_, _≤_, _<_}
-use native.Mathlib.Omega.{arith}
-use lib.ListN.{length, take, drop, getD, drop-of-length-le}
+use lib.ListN.{length, drop, getD, drop-of-length-le}
 use lib.Dec.{leb, eqb}
 use borrow.Author.Tests.{lt-leb, le-leb}
 use Rattle.model.specs.Sheets.{lineFeed}
 use Rattle.model.specs.CheckSheets.{digitFirst, yardPart}
 use Rattle.sheet.proofs.Writing.{drop-next}
-
--- the part is the front of the input
-abbrev begun : ℕ → List ℕ → Bool → List ℕ
-begun b part t = b ∷ cond t [] part
-
-pub part-front : (l : List ℕ) → (take (length (yardPart l)) l ≡ yardPart l) × (length (yardPart l) ≤ length l)
-unfolding yardPart
-part-front [] = (refl, omega arith)
-part-front (b ∷ bs) = go ((eqb b lineFeed) && (not (digitFirst bs))) (part-front bs)
-  where
-    go : (t : Bool) → (take (length (yardPart bs)) bs ≡ yardPart bs) × (length (yardPart bs) ≤ length bs)
-        → (take (length (begun b (yardPart bs) t)) (b ∷ bs) ≡ begun b (yardPart bs) t) × (length (begun b (yardPart bs) t) ≤ length (b ∷ bs))
-    go true h = (refl, omega arith)
-    go false h = (ap (λ (l : List ℕ). b ∷ l) (h .0), omega (arith, h .1))
 
 module _ (l : List ℕ) (i : ℕ) where
   pub digit-behind : length l ≤ i → false ≡ digitFirst (drop i l)

@@ -1,36 +1,37 @@
 -- The check program. A yard sheet with a move sheet behind it is read as that yard and those moves, with the crossing report behind them or without; and what
 -- is cut off behind the bytes that the program judges lies behind the first line that is refused, or behind a move too many.
 use mathlib.Core.Path.{_≡_, refl, sym, ap, _∙_}
-use mathlib.Core.Logic.{_⊎_, inl, inr}
+use mathlib.Core.Logic.{inl, inr}
 use mathlib.Core.Bool.{Bool, true, false, not, cond, _&&_, and-eq-true-iff}
 use mathlib.Core.List.{List, [], _∷_, _++_, map, append-assoc, append-nil}
 use mathlib.Core.Option.{Option, none, some, Option·none-ne-some}
 use Prim.Native.Nat.{ℕ, zero, suc, _+_, _-_, _*_, _%_, _≤_, _<_}
 use native.Mathlib.Omega.{arith}
-use lib.ListN.{length, take, drop}
+use lib.ListN.{length, take, drop, getD, take-append-drop}
 use lib.Seq.{take-take, take-all, drop-append-seam, length-take-le}
 use lib.Dec.{leb, eqb}
 use borrow.Author.Tests.{leb-true, leb-false, ne-eqb, not-false}
 use Rattle.model.specs.Yard.{Yard, size, maxSize, below}
 use Rattle.model.specs.Judge.{Fault, row, fault, firstOf, judge, totalsFault}
-use Rattle.model.specs.Push.{Move}
+use Rattle.model.specs.Push.{Move, push}
 use Rattle.model.specs.Calls.Answers.{Answer, answered, refused, answer, mapAnswer, range, Row}
 use Rattle.model.specs.Plan.{plan}
 use Rattle.model.specs.Calls.Plans.{bytes, movesOf, planFault}
 use Rattle.model.specs.Calls.Checks.{Verdict, maxPlanBytes, bytesFault, obeyTests, checkFault, checkAnswer}
 use Rattle.model.specs.Sheets.{text, digits, decimal, stopBefore, line, lines, space, lineFeed, header, yardSheet, nodeValues, same, field, cut, begins, moveHead, reportHead, moveLines, report, moveSheet, sheetOf, printedOf, programPlanBytes, program, Line, readLine, readYard}
 use Rattle.model.specs.CheckSheets.{digitFirst, yardPart, moveValues, readMoves, movesRead, readPlan, andThen, checkSheets, verdictSheet, checkedBytes, checks}
-use Rattle.laws.specs.CheckSheets.{ByteMoves, SheetsChecked}
+use Rattle.laws.specs.CheckSheets.{Ends, Judged, ByteMoves, SheetsChecked, Printed}
 use Rattle.laws.proofs.Basics.{All, not-so, below-none}
-use Rattle.laws.proofs.Lines.{plain, decimal-sound, Values, length-line, readLine-begins, readLine-some, cutLine, readLine-take}
+use Rattle.laws.proofs.Lines.{plain, decimal-sound, same-true, Values, length-line, readLine-begins, readLine-some, cutLine, readLine-take}
 use Rattle.laws.proofs.Judged.{facts}
 use Rattle.laws.proofs.Step.{ends}
 use Rattle.laws.proofs.Runs.{Obeys}
 use Rattle.laws.proofs.Moves.{accepted-obeys}
 use Rattle.laws.proofs.Demand2.{check-plan}
 use Rattle.laws.proofs.Demand3.{plan-optimal}
-use Rattle.laws.proofs.Calls.{answer-answered, plan-none, length-bytes}
-use Rattle.laws.proofs.Sheets.{YardBytes, drop-take, read-cut, read-length, read-sizes, read-bytes, write-read, program-cut, AtLine, further}
+use Rattle.laws.proofs.Calls.{answer-answered, plan-none, length-bytes, movesOf-bytes}
+use Rattle.laws.proofs.Places.{few-checked}
+use Rattle.laws.proofs.Sheets.{refused-ne-answered, answered-injective, mapAnswer-answered, YardBytes, drop-take, read-cut, read-length, read-sizes, read-bytes, write-read, program-cut, AtLine, further}
 
 -- yardPart: of a list that is cut it is cut
 cond-same : {A : Type 0} (t : Bool) (a : A) → cond t a a ≡ a
@@ -50,6 +51,20 @@ yardPart-take (suc (suc m)) (b ∷ []) = ap (λ (l : List ℕ). b ∷ l) (cond-t
 yardPart-take (suc (suc m)) (b ∷ c ∷ bs) =
     let t : Bool = (eqb b lineFeed) && (not (digitFirst (c ∷ bs))) in
     ap (λ (l : List ℕ). b ∷ cond t [] l) (yardPart-take (suc m) (c ∷ bs)) ∙ ap (λ (l : List ℕ). b ∷ l) (cond-take t m (yardPart (c ∷ bs)))
+
+-- it is the front of the list
+abbrev begun : ℕ → List ℕ → Bool → List ℕ
+begun b part t = b ∷ cond t [] part
+
+pub yardPart-front : (l : List ℕ) → (take (length (yardPart l)) l ≡ yardPart l) × (length (yardPart l) ≤ length l)
+unfolding yardPart
+yardPart-front [] = (refl, omega arith)
+yardPart-front (b ∷ bs) = go ((eqb b lineFeed) && (not (digitFirst bs))) (yardPart-front bs)
+  where
+    go : (t : Bool) → (take (length (yardPart bs)) bs ≡ yardPart bs) × (length (yardPart bs) ≤ length bs)
+        → (take (length (begun b (yardPart bs) t)) (b ∷ bs) ≡ begun b (yardPart bs) t) × (length (begun b (yardPart bs) t) ≤ length (b ∷ bs))
+    go true h = (refl, omega arith)
+    go false h = (ap (λ (l : List ℕ). b ∷ l) (h .0), omega (arith, h .1))
 
 -- a value's decimal begins with a digit; all 256 are tried
 all-first : below 256 (λ v. not (digitFirst (decimal v))) ≡ []
@@ -260,9 +275,6 @@ moveRow m = m .from ∷ m .to ∷ []
 abbrev pub MoveBytes : List Move → Type 0
 MoveBytes = All (λ m. Values (moveRow m))
 
-abbrev pub Ends : List ℕ → Type 0
-Ends rest = (rest ≡ []) ⊎ (begins reportHead rest ≡ true)
-
 no-report : (bs : List ℕ) → digitFirst bs ≡ true → begins reportHead bs ≡ false
 unfolding digitFirst text same
 no-report [] e = cc
@@ -357,3 +369,93 @@ module _ (sheet : List ℕ) (y : Yard) (said : readYard sheet ≡ answered y) wh
         let b = rw (a .1) at (obeys-bytes o (facts y (n .0) .few .1)) in
         ap (λ (l : List ℕ). checks (sheet ++ l)) p ∙ checks-said ms b (report y ms) (inr refl) ∙ ap verdictSheet (rw (a .1) at (check-plan y (n .0) (n .1)));
   }
+
+-- What is read is there: the moves are lines of the list, up to what ends them, or as many as are read.
+pub pair : (vs : List ℕ) → length vs ≡ moveValues → vs ≡ moveRow (push (getD vs 0 0) (getD vs 1 0))
+pair (a ∷ b ∷ []) e = refl
+pair [] e = absurd (omega arith)
+pair (a ∷ []) e = absurd (omega arith)
+pair (a ∷ b ∷ c ∷ vs) e = absurd (omega arith)
+
+record MovesSaid (k : ℕ) (bs plan : List ℕ) : Type 0 where
+  moves : List Move
+  rest : List ℕ
+  is : bs ≡ lines (map moveRow moves) ++ rest
+  bytes-are : plan ≡ bytes moves
+  ends : length moves < k → Ends rest
+
+readMoves-said : (k l : ℕ) (bs plan : List ℕ) → readMoves k l bs ≡ answered plan → MovesSaid k bs plan
+unfolding lines bytes
+readMoves-said zero l bs plan e = record { moves = []; rest = bs; is = refl; bytes-are = answered-injective (sym e ∙ readMoves-none l bs); ends = λ h. absurd (omega arith) }
+readMoves-said (suc k) l [] plan e = record { moves = []; rest = []; is = refl; bytes-are = answered-injective (sym e ∙ readMoves-end (suc k) l); ends = λ _. inl refl }
+readMoves-said (suc k) l (b ∷ bs) plan e =
+    either (begins reportHead (b ∷ bs))
+    (λ r. record { moves = []; rest = b ∷ bs; is = refl; bytes-are = answered-injective (sym e ∙ readMoves-report (suc k) l (b ∷ bs) r); ends = λ _. inr r })
+    (λ r. readMoves-cases k l b bs r (λ a. a ≡ answered plan → MovesSaid (suc k) (b ∷ bs) plan)
+    (λ _ e. absurd (refused-ne-answered e))
+    (λ m q e.
+    let g = readLine-some moveValues (b ∷ bs) q in
+    let p = mapAnswer-answered (_++_ (m .values)) (readMoves k (suc l) (m .rest)) e in
+    let s = readMoves-said k (suc l) (m .rest) (p .0) (p .1) in
+    let v = pair (m .values) (g .count) in
+    record {
+      moves = push (getD (m .values) 0 0) (getD (m .values) 1 0) ∷ s .moves;
+      rest = s .rest;
+      is = g .text ∙ ap (λ (l : List ℕ). line (m .values) ++ l) (s .is) ∙ ap (λ (vs : List ℕ). line vs ++ (lines (map moveRow (s .moves)) ++ s .rest)) v
+          ∙ sym (append-assoc (line (moveRow (push (getD (m .values) 0 0) (getD (m .values) 1 0)))) (lines (map moveRow (s .moves))) (s .rest));
+      bytes-are = sym (p .2) ∙ ap (λ (l : List ℕ). m .values ++ l) (s .bytes-are) ∙ ap (λ (vs : List ℕ). vs ++ bytes (s .moves)) v;
+      ends = λ h. s .ends (omega arith);
+    })
+    e)
+
+-- and they stand behind their head
+readPlan-said : (l : ℕ) (bs plan : List ℕ) → readPlan l bs ≡ answered plan → (bs ≡ moveHead ++ drop (length moveHead) bs) × (readMoves movesRead (suc l) (drop (length moveHead) bs) ≡ answered plan)
+unfolding readPlan
+readPlan-said l bs plan e = go (begins moveHead bs) refl e
+  where
+    go : (t : Bool) → begins moveHead bs ≡ t → headed l t (drop (length moveHead) bs) ≡ answered plan
+        → (bs ≡ moveHead ++ drop (length moveHead) bs) × (readMoves movesRead (suc l) (drop (length moveHead) bs) ≡ answered plan)
+    go true q e = (sym (take-append-drop (length moveHead) bs) ∙ ap (λ (h : List ℕ). h ++ drop (length moveHead) bs) (same-true _ _ q), e)
+    go false q e = absurd (refused-ne-answered e)
+
+-- So a verdict is printed only of moves that stand behind the sheet of their yard.
+checks-judged : (bs : List ℕ) (v : Verdict) → checkSheets bs ≡ answered v → Judged bs v
+unfolding checkSheets moveLines
+checks-judged bs v e = go (readYard (yardPart bs)) refl e
+  where
+    back : List ℕ
+    back = drop (length (yardPart bs)) bs
+
+    whole : (y : Yard) → readYard (yardPart bs) ≡ answered y → bs ≡ yardSheet y ++ back
+    whole y q = sym (take-append-drop (length (yardPart bs)) bs) ∙ ap (λ (l : List ℕ). l ++ back) (yardPart-front bs .0 ∙ sym (write-read (yardPart bs) y q))
+
+    planned : (y : Yard) → readYard (yardPart bs) ≡ answered y → (r : Answer (List ℕ)) → readPlan (size y + 2) back ≡ r → andThen r (checkAnswer y) ≡ answered v → Judged bs v
+    planned y q (refused f) p e = absurd (refused-ne-answered e)
+    planned y q (answered plan) p e =
+        let h = readPlan-said (size y + 2) back plan p in
+        let s = readMoves-said movesRead (suc (size y + 2)) (drop (length moveHead) back) plan (h .1) in
+        let a = answer-answered (checkFault y plan) _ v e in
+        let n : length (s .moves) ≤ 131_072 = omega (arith, few-checked y plan (a .0), ap (λ (l : List ℕ). length (movesOf l)) (s .bytes-are), ap length (movesOf-bytes (s .moves))) in
+        record {
+          yard = y;
+          moves = s .moves;
+          rest = s .rest;
+          is = whole y q ∙ ap (λ (l : List ℕ). yardSheet y ++ l) (h .0 ∙ ap (λ (l : List ℕ). moveHead ++ l) (s .is) ∙ sym (append-assoc moveHead (lines (map moveRow (s .moves))) (s .rest)));
+          ends = s .ends (omega arith);
+          answer = sym (ap (checkAnswer y) (s .bytes-are)) ∙ e;
+        }
+
+    go : (r : Answer Yard) → readYard (yardPart bs) ≡ r → checkedAs bs (yardPart bs) r ≡ answered v → Judged bs v
+    go (refused f) q e = absurd (refused-ne-answered e)
+    go (answered y) q e = planned y q (readPlan (size y + 2) back) refl e
+
+pub checks-printed : (input : List ℕ) → Printed input
+unfolding verdictSheet
+checks-printed input = go (checkSheets input) refl
+  where
+    told : (a : Answer Verdict) → checkSheets input ≡ a → checks input ≡ verdictSheet a
+    told a e = checks-cut input ∙ ap verdictSheet e
+
+    go : (a : Answer Verdict) → checkSheets input ≡ a → Printed input
+    go (answered v) e = inl (v, told (answered v) e, checks-judged input v e)
+    go (refused f) e = inr (f, told (refused f) e)

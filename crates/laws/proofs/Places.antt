@@ -238,7 +238,7 @@ module _ (y : Yard) where
     check-small = small 0 check-low (λ _. omega arith)
 
     -- and its two values
-    few-checked : checkFault y bs ≡ none → length (movesOf bs) ≤ 131_072
+    pub few-checked : checkFault y bs ≡ none → length (movesOf bs) ≤ 131_072
     unfolding checkFault
     few-checked e = few-moves bs (none-all (checkTests y bs) e .1 .1 .0)
 

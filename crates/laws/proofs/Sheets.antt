@@ -39,10 +39,10 @@ values-bytes (v ∷ vs) b = bytes-cons vs (b .0) (values-bytes vs (b .1))
 pub refused-ne-answered : {A : Type 0} {f : Fault} {a : A} → refused f ≡ answered a → ⊥
 refused-ne-answered e = let z : _≡_ {A = ℕ} 0 1 = cc in omega arith
 
-answered-injective : {A : Type 0} {a b : A} → answered a ≡ answered b → a ≡ b
+pub answered-injective : {A : Type 0} {a b : A} → answered a ≡ answered b → a ≡ b
 answered-injective e = cc
 
-mapAnswer-answered : {A B : Type 0} (f : A → B) (a : Answer A) {b : B} → mapAnswer f a ≡ answered b → (z : A) × (a ≡ answered z) × (f z ≡ b)
+pub mapAnswer-answered : {A B : Type 0} (f : A → B) (a : Answer A) {b : B} → mapAnswer f a ≡ answered b → (z : A) × (a ≡ answered z) × (f z ≡ b)
 mapAnswer-answered f (answered z) e = (z, refl, answered-injective e)
 mapAnswer-answered f (refused r) e = absurd (refused-ne-answered e)
 

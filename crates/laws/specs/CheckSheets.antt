@@ -1,14 +1,17 @@
 -- The check program: what it prints of a yard sheet and the moves behind it.
 use mathlib.Core.Path.{_≡_}
-use mathlib.Core.List.{List, _++_}
+use mathlib.Core.Bool.{true}
+use mathlib.Core.List.{List, [], _++_}
+use mathlib.Core.Logic.{_⊎_}
 use Prim.Native.Nat.{ℕ, _<_}
 use lib.ListN.{length, getD}
 use Rattle.model.specs.Yard.{Yard}
+use Rattle.model.specs.Judge.{Fault}
 use Rattle.model.specs.Push.{Move}
 use Rattle.model.specs.Calls.Answers.{answered}
 use Rattle.model.specs.Calls.Plans.{bytes}
-use Rattle.model.specs.Calls.Checks.{checkAnswer}
-use Rattle.model.specs.Sheets.{moveLines, report, programPlan, program}
+use Rattle.model.specs.Calls.Checks.{Verdict, checkAnswer}
+use Rattle.model.specs.Sheets.{yardSheet, begins, moveLines, reportHead, report, refusalSheet, programPlan, program}
 use Rattle.model.specs.CheckSheets.{verdictSheet, checks}
 
 -- moves that a sheet can hold: of numbers below 256
@@ -24,3 +27,20 @@ pub record SheetsChecked (sheet : List ℕ) (y : Yard) : Type 0 where
       → checks (sheet ++ (moveLines ms ++ (report z ns ++ rest))) ≡ verdictSheet (checkAnswer y (bytes ms))
   -- with what the move program printed for it, the number of moves printed, and that none is spare
   pub own : (ms : List Move) → programPlan y ≡ answered ms → checks (sheet ++ program sheet) ≡ verdictSheet (answered (record { moves = length ms; excess = 0 }))
+
+-- what ends the moves: the end of the input, or the head of a report
+abbrev pub Ends : List ℕ → Type 0
+Ends rest = (rest ≡ []) ⊎ (begins reportHead rest ≡ true)
+
+-- an input that the checker's answer is about: a yard sheet, a move sheet directly behind it, and what ends that
+pub record Judged (input : List ℕ) (v : Verdict) : Type 0 where
+  pub yard : Yard
+  pub moves : List Move
+  pub rest : List ℕ
+  pub is : input ≡ yardSheet yard ++ (moveLines moves ++ rest)
+  pub ends : Ends rest
+  pub answer : checkAnswer yard (bytes moves) ≡ answered v
+
+-- of whatever input: a verdict is printed only of moves that stand there, behind the sheet of their yard, and else a refusal
+abbrev pub Printed : List ℕ → Type 0
+Printed input = ((v : Verdict) × (checks input ≡ verdictSheet (answered v)) × Judged input v) ⊎ ((f : Fault) × (checks input ≡ refusalSheet f))

@@ -11,16 +11,16 @@ use Rattle.model.specs.Sheets.{readAnswer}
 use Rattle.model.specs.CheckSheets.{yardPart}
 use Rattle.model.specs.Paper.{paper}
 use Rattle.laws.proofs.Sheets.{read-sizes}
+use Rattle.laws.proofs.CheckSheets.{yardPart-front}
 use Rattle.sheet.proofs.Writing.{printed-as}
 use Rattle.reader.proofs.Blank.{blank, Found, read-number, read-refused}
-use Rattle.checks.proofs.YardEnd.{part-front}
 use Rattle.checks.proofs.Printed.{checked, unread}
 use Rattle.checks.proofs.program.program.Statement.{statement}
 use Rattle.checks.proofs.program.program.Tie as tie
 
 -- the part in front, within the input
 ended : (c : tie.After-yard-bytes) → (c .yard-bytes .result ≡ length (yardPart (c .before .before .args .input .now))) × (c .yard-bytes .result ≤ length (c .before .before .args .input .now))
-ended c = let e = c .yard-bytes .ensures in (e, omega (arith, part-front (c .before .before .args .input .now) .1))
+ended c = let e = c .yard-bytes .ensures in (e, omega (arith, yardPart-front (c .before .before .args .input .now) .1))
 
 abbrev front : tie.After-n → tie.After-yard-bytes
 front c = c .before .before .before .before .before .before .before .before .before .before .before .before
