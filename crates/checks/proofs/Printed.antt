@@ -10,7 +10,8 @@ use Rattle.model.specs.Calls.Checks.{Verdict, checkAnswer}
 use Rattle.model.specs.Sheets.{text, line, readYard, refusalSheet}
 use Rattle.model.specs.CheckSheets.{yardPart, readPlan, andThen, checkSheets, verdictSheet, checks}
 use Rattle.laws.proofs.Places.{checked-small, excess-small, read-row}
-use Rattle.laws.proofs.CheckSheets.{yardPart-front, checks-cut}
+use Rattle.laws.proofs.YardPart.{yardPart-front}
+use Rattle.laws.proofs.CheckSheets.{checks-cut}
 use Rattle.checks.specs.Reading.{Told}
 
 -- the checker's answer

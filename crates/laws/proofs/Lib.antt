@@ -52,6 +52,7 @@ pub mod Sheets
 pub mod Report
 pub mod Shallow
 pub mod Places
+pub mod YardPart
 pub mod CheckSheets
 pub mod Bits
 pub mod Blocks

@@ -11,7 +11,7 @@ use Rattle.model.specs.Sheets.{readAnswer}
 use Rattle.model.specs.CheckSheets.{yardPart}
 use Rattle.model.specs.Paper.{paper}
 use Rattle.laws.proofs.Sheets.{read-sizes}
-use Rattle.laws.proofs.CheckSheets.{yardPart-front}
+use Rattle.laws.proofs.YardPart.{yardPart-front}
 use Rattle.sheet.proofs.Writing.{printed-as}
 use Rattle.reader.proofs.Blank.{blank, Found, read-number, read-refused}
 use Rattle.checks.proofs.Printed.{checked, unread}
