@@ -46,7 +46,7 @@ module _ (need : ℕ → ℕ) (y : Yard) (u : ℕ) where
   unfolding needy
   needy-all Q a c k = below-all Q wanted (size y) a c (k .0 .lt) (needy-wanted c k)
 
-  nil-needy : needy need y u ≡ [] → (c : ℕ) → Needy need y u c → ⊥
+  pub nil-needy : needy need y u ≡ [] → (c : ℕ) → Needy need y u c → ⊥
   nil-needy e = needy-all (λ _. ⊥) (subst (All (λ _. ⊥)) (sym e) tt)
 
   pub none-needy : needy need y u ≡ [] → (c : ℕ) → Child (y .parents) u c → need c ≡ 0
@@ -239,7 +239,7 @@ pub choice-sound : Sound choice
 unfolding choice
 choice-sound = neediest-sound
 
-choice-none : (need : ℕ → ℕ) (y : Yard) (u : ℕ) → ((v : ℕ) → Child (y .parents) u v → need v ≡ 0) → u ≡ choice need y u
+pub choice-none : (need : ℕ → ℕ) (y : Yard) (u : ℕ) → ((v : ℕ) → Child (y .parents) u v → need v ≡ 0) → u ≡ choice need y u
 unfolding choice
 choice-none = neediest-none
 

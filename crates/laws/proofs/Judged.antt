@@ -9,7 +9,7 @@ use native.Mathlib.Omega.{arith}
 use native.Mathlib.Decide.{decLe}
 use lib.ListN.{length, getD}
 use lib.Dec.{leb, ltb, eqb}
-use borrow.Author.Tests.{ltb-true, ltb-false, leb-true, leb-false, eqb-true, eq-eqb, ne-eqb, le-ltb, lt-leb, not-false}
+use borrow.Author.Tests.{ltb-true, ltb-false, leb-true, leb-false, eqb-true, eq-eqb, ne-eqb, lt-ltb, le-ltb, le-leb, lt-leb, not-false}
 use Rattle.model.specs.Yard.{Yard, yardOf, size, maxDepth, parent, pebble, target, capacity, up, below, headOr, roots, root, climbs, inside}
 use Rattle.model.specs.Judge.{firstOf, atLowest, rootFault, listTests, shapeTests, tests, judge, Tree}
 use Rattle.laws.proofs.Basics.{All, none-below, all-below, below-all, below-none, none-all, all-none, unless-none, atLowest-none}
@@ -144,6 +144,25 @@ module _ {ps : List ℕ} {r : ℕ} (f : Wood ps r) where
   pub shape-wood : (qs ts ds : List ℕ) → firstOf (shapeTests (yardOf ps qs ts ds)) ≡ none
   unfolding inside
   shape-wood qs ts ds = rw (roots-wood, none-below (length ps) (λ v. not (climbs (length ps) ps v r)) (λ v l. rw (f .to-root v l)))
+
+-- so what refusals 1 to 4 leave, with such a root, is a tree
+pub flat-tree : (y : Yard) {r : ℕ} → Flat y → Wood (y .parents) r → Tree y
+flat-tree y f w = tree y (
+  rw (lt-ltb 0 (size y) (f .few .0), le-leb (size y) 256 (f .few .1)),
+  (
+    rw (eq-eqb _ _ (f .pebbles-size), eq-eqb _ _ (f .targets-size), eq-eqb _ _ (f .depths-size)),
+    (
+      ap (atLowest 26) (none-below (size y) _ (λ v l. rw (lt-ltb 0 (capacity y v) (f .capacity-pos v l), le-leb (capacity y v) maxDepth (f .capacity-le v l)))),
+      (
+        ap (atLowest 27) (none-below (size y) _ (λ v l. le-ltb _ _ (f .pebble-le v l))),
+        (
+          ap (atLowest 27) (none-below (size y) _ (λ v l. le-ltb _ _ (f .target-le v l))),
+          (ap (atLowest 4) (none-below (size y) _ (λ v l. lt-leb (size y) (parent y v) (f .parent-lt v l))), none-all (shapeTests y) (shape-wood w (y .pebbles) (y .targets) (y .depths))),
+        ),
+      ),
+    ),
+  ),
+)
 
 -- of a yard past refusal 4, refusal 6's test by as many steps as there are nodes says that no number of steps reaches the root
 pub never-root : (y : Yard) → firstOf (listTests y) ≡ none → (v : ℕ) → v < size y

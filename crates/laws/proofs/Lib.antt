@@ -40,9 +40,12 @@ pub mod Kept
 pub mod Struck
 pub mod Striking
 pub mod Own
+pub mod Numbering
+pub mod Renaming
 pub mod Parts
 pub mod Mingling
 pub mod PartTurns
+pub mod TakenOut
 pub mod PartsCall
 pub mod Wear
 pub mod Listed

@@ -51,7 +51,7 @@ pub balances-first : {y : Yard} {c : ℕ} {cs : List ℕ} {ms : List Move} → B
 balances-first {y} {c} (Balances.next {ms = ms} {ns = ns} {ps = ps} s b r) = (ms ++ ns, ps, subst (Balances fills choice y (c ∷ [])) (append-nil (ms ++ ns)) (Balances.next s b Balances.none), r, refl)
 
 -- where all is even, balancing moves nothing
-settles-still : (y : Yard) (u : ℕ) → ((c : ℕ) → Child (y .parents) u c → Even y c) → Settles fills choice y u []
+pub settles-still : (y : Yard) (u : ℕ) → ((c : ℕ) → Child (y .parents) u c → Even y c) → Settles fills choice y u []
 unfolding needy
 settles-still y u h = settled (none-below (size y) _ (λ c l. go c l (isChild (y .parents) u c) refl))
   where
@@ -236,7 +236,7 @@ module _ (p : ℕ → Bool) where
       good-append x (ms ++ ns) ps g (balancesIn-good r (good-tree x t (ms ++ ns) g) (fit-run x t (ms ++ ns) g us (a .1)))
 
   -- children that fail the test, with nothing due inside, may be balanced too
-  fill : (y : Yard) → Tree y → (cs : List ℕ) (ms : List Move) → All (Fit y) cs → All (λ c. p c ≡ false → Done y c) cs → Balances fills choice y (sifted p cs) ms → Balances fills choice y cs ms
+  pub fill : (y : Yard) → Tree y → (cs : List ℕ) (ms : List Move) → All (Fit y) cs → All (λ c. p c ≡ false → Done y c) cs → Balances fills choice y (sifted p cs) ms → Balances fills choice y cs ms
   unfolding sifted after
   fill y t [] ms f a b = b
   fill y t (c ∷ cs) ms f a b = go (p c) refl b (λ z h ns. fill z h cs ns)

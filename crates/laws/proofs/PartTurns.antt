@@ -57,7 +57,7 @@ module _ (y : Yard) (t : Tree y) (m : Matched y) where
   top-even s o = eqb-true (imbalance y s) 0 (top-cut y t m s (o .lt) .0 o)
 
   -- in a part's own yard pebbles are due only strictly inside its topmost node
-  part-due : (s : ℕ) → Top y s → Only (partYard y s) (part-tree y t m s) s
+  pub part-due : (s : ℕ) → Top y s → Only (partYard y s) (part-tree y t m s) s
   part-due s o v l n = go (inPart y s v) refl (part-imbalance y t m s v l)
     where
       go : (b : Bool) → inPart y s v ≡ b → imbalance (partYard y s) v ≡ cond b (imbalance y v) 0 → (inside (y .parents) s v ≡ true) × (v ≢ s)
@@ -73,7 +73,7 @@ module _ (y : Yard) (t : Tree y) (m : Matched y) where
 
   -- a part has no node inside a child that is not in it: climbing from it would end before it met that child, and so the part's topmost node
   -- would be inside the child too
-  part-whole : (s : ℕ) → Whole (inPart y s) y
+  pub part-whole : (s : ℕ) → Whole (inPart y s) y
   part-whole s u c k a b v l i = ne-eqb (topmost y v) s (λ e. child-above (wood y t) u c k (inside-trans (wood y t) c s u (top-lt v l e) u-lt (meets v l i e) u-inside))
     where
       u-lt : u < size y

@@ -22,6 +22,7 @@ use Rattle.laws.proofs.Ranges.{getD-listed}
 use Rattle.laws.proofs.Parts.{part-matched, part-struck}
 use Rattle.laws.proofs.Mingling.{mingled-checked, mingled-optimal}
 use Rattle.laws.proofs.PartTurns.{parts-mingling, partsPlan-length}
+use Rattle.laws.proofs.TakenOut.{taken-tree, taken-matched, taken-plan, taken-sheet}
 
 module _ (y : Yard) (list parts : List ℕ) where
   -- refusals 1 to 7 as the planner
@@ -85,4 +86,12 @@ module _ (y : Yard) (list parts : List ℕ) where
       )
 
 pub two-pushers : (y : Yard) → Tree y → Matched y → TwoPushers y
-two-pushers y t m = record { matched = part-matched y t m; as-long = partsPlan-length y t m; struck = part-struck y t m; mingled = mingled-checked y t m; own = parts-mingling y t m }
+two-pushers y t m = record {
+  matched = part-matched y t m;
+  as-long = partsPlan-length y t m;
+  taken = λ s o. (taken-tree y t m s o, taken-matched y t m s o, taken-plan y t m s o);
+  sheet = taken-sheet y t m;
+  struck = part-struck y t m;
+  mingled = mingled-checked y t m;
+  own = parts-mingling y t m;
+}
