@@ -17,7 +17,6 @@ use Rattle.model.specs.Calls.Answers.{refused, range}
 use Rattle.model.specs.Calls.Parts.{partsFault, partsAnswer, partsPlanList, partsList}
 use Rattle.laws.specs.Parts.{Top}
 use Rattle.laws.proofs.Ranges.{length-range, getD-listed}
-use Rattle.laws.proofs.Demands.{weight-le}
 use Rattle.laws.proofs.Shortest.{Good, good-nil, keeps}
 use Rattle.laws.proofs.PartTurns.{top-even, partsBefore, partsBefore-none, partsBefore-all, parts-pass, parts-turn}
 use Rattle.laws.proofs.Demand3.{plan-length}
@@ -79,13 +78,12 @@ module _ {y : Yard} {t : List ℕ} {s₀ : List ℤ} {before parts : List ℕ} (
       top : Top y i
       top = record { lt = l; own = sym (name-is i l) ∙ q }
 
-      pub part-asked : AskedEven (run y (partsBefore y i)) t s (rest plan k) i (length parts)
+      pub part-asked : AskedEven (run y (partsBefore y i)) t s (rest plan k) i
       part-asked = record {
         described = describes-after (a .described) (b .good) (b .made);
         node = l;
         even = omega (arith, top-even y (a .described .tree) (a .matched) i top, keeps y (a .described .tree) (partsBefore y i) (b .good) i l);
         room = room-left (b .good) (a .room) (b .made);
-        high = omega (arith, parts-long, weight-le (y .parents) i);
       }
 
       pub before-next : {s′ : List ℤ} {part : List ℕ} {m : ℕ} → Balanced (entered parts) (run y (partsBefore y i)) i s′ (rest plan k) part m → Before y s′ before (back plan k part) (k + m) (i + 1)

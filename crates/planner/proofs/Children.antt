@@ -45,30 +45,29 @@ unfolding sifted
 left-none l = record { moves = l .begun .moves; balances = ended (l .begun) none; made = l .begun .made }
 
 -- the loop at u has ended, in a yard that was asked to be balanced there
-pub record LoopEnded (y : Yard) (before t : List ℕ) (s : List ℤ) (plan : List ℕ) (k u h : ℕ) : Type 0 where
+pub record LoopEnded (y : Yard) (before t : List ℕ) (s : List ℤ) (plan : List ℕ) (k u : ℕ) : Type 0 where
   pub entry : List ℤ
-  pub asked : AskedEven y t entry before u h
+  pub asked : AskedEven y t entry before u
   pub loop : Settled y u s before plan k
 
-module _ {y : Yard} {t : List ℕ} {s₀ : List ℤ} {before : List ℕ} {u h : ℕ} (a : AskedEven y t s₀ before u h) where
+module _ {y : Yard} {t : List ℕ} {s₀ : List ℤ} {before : List ℕ} {u : ℕ} (a : AskedEven y t s₀ before u) where
   left-all : {p : ℕ → Bool} {s : List ℤ} {plan : List ℕ} {k : ℕ} → Settled y u s before plan k → ChildrenLeft p y u s before plan k (children y u)
   left-all v =
       let e = settles-good fills choice choice-sound (v .settles) (a .described .tree) (fills-steers y) (a .node) (a .even) in
       record { begun = record { moves = v .moves; good = e .good; made = v .made; onward = λ ns b. rw append-nil at (next (v .settles) b none) }; even = e .kids }
 
   module _ {c : ℕ} (f : Child (y .parents) u c) where
-    pub child-lower : weight (y .parents) c < h
-    child-lower = omega (arith, a .high, weight-child (wood y (a .described .tree)) u c (a .node) f)
+    pub child-lower : weight (y .parents) c < weight (y .parents) u
+    child-lower = weight-child (wood y (a .described .tree)) u c (a .node) f
 
     module _ {p : ℕ → Bool} {s : List ℤ} {plan : List ℕ} {k : ℕ} {cs : List ℕ} (l : ChildrenLeft p y u s before plan k (c ∷ cs)) where
       -- what the next child asks, and what is left after it, if it passes
-      pub child-asked : AskedEven (run y (l .begun .moves)) t s (rest plan k) c (h - 1)
+      pub child-asked : AskedEven (run y (l .begun .moves)) t s (rest plan k) c
       child-asked = record {
         described = describes-after (a .described) (l .begun .good) (l .begun .made);
         node = f .lt;
         even = l .even c f;
         room = room-left (l .begun .good) (a .room) (l .begun .made);
-        high = omega (arith, child-lower);
       }
 
       pub left-next : p c ≡ true → {s′ : List ℤ} {part : List ℕ} {m : ℕ} → Balanced p (run y (l .begun .moves)) c s′ (rest plan k) part m → ChildrenLeft p y u s′ before (back plan k part) (k + m) cs
@@ -106,7 +105,7 @@ pub record LeftFrom (p : ℕ → Bool) (y : Yard) (u : ℕ) (s : List ℤ) (befo
   pub lowest : Lowest (y .parents) u low c
   pub left : ChildrenLeft p y u s before plan k (childrenFrom (y .parents) u low)
 
-module _ {p : ℕ → Bool} {y : Yard} {t : List ℕ} {s₀ : List ℤ} {before : List ℕ} {u h : ℕ} (a : AskedEven y t s₀ before u h) {s : List ℤ} {plan : List ℕ} {k c : ℕ} where
+module _ {p : ℕ → Bool} {y : Yard} {t : List ℕ} {s₀ : List ℤ} {before : List ℕ} {u : ℕ} (a : AskedEven y t s₀ before u) {s : List ℤ} {plan : List ℕ} {k c : ℕ} where
   pub left-first : Settled y u s before plan k → c ≡ getD t (256 + u) 0 → LeftFrom p y u s before plan k c
   left-first v e = record { low = 0; lowest = rw e (a .described .tables .first u (a .node)); left = rw (from-0 (y .parents) u) (left-all a v) }
 

@@ -20,7 +20,7 @@ use Rattle.model.specs.Calls.Demands.{demandsOf}
 use Rattle.model.specs.Calls.Plans.{bytes, planFault}
 use Rattle.laws.proofs.Sums.{sum-cong}
 use Rattle.laws.proofs.Judged.{facts, wood}
-use Rattle.laws.proofs.Demands.{root-even, weight-le}
+use Rattle.laws.proofs.Demands.{root-even}
 use Rattle.laws.proofs.Signed.{demand-size, demand-range}
 use Rattle.laws.proofs.Balance.{plan-only}
 use Rattle.laws.proofs.Own.{balancesIn-all}
@@ -136,13 +136,12 @@ module _ (y : Yard) (t : Tree y) (m : Matched y) (list : List ℕ) (l : ℕ) (e 
     pub room : 2 * shortest y ≤ length list
     room = omega (arith, le-div-iff-mul-le {k = 2} (omega arith) .0 h)
 
-    pub root-asked : (tab : List ℕ) (s : List ℤ) → Tables (y .parents) tab → Kept y s → (r : ℕ) → r ≡ root y → AskedEven y tab s list r (size y)
+    pub root-asked : (tab : List ℕ) (s : List ℤ) → Tables (y .parents) tab → Kept y s → (r : ℕ) → r ≡ root y → AskedEven y tab s list r
     root-asked tab s a k r q = rw q (record {
       described = record { tree = t; tables = a; kept = k };
       node = wood y t .root-lt;
       even = root-even y t m;
       room = room;
-      high = weight-le (y .parents) (root y);
     })
 
     pub plan-accepted : planFault y (length list) ≡ none

@@ -10,23 +10,21 @@ use lib.IntN.{ℤ, pos}
 use Rattle.model.specs.Yard.{Yard, size, shortest}
 use Rattle.model.specs.Push.{Move}
 use Rattle.model.specs.Plan.{choice, fills}
-use Rattle.laws.proofs.Demands.{weight}
 use Rattle.laws.proofs.Step.{need}
 use Rattle.laws.proofs.Balance.{Even, Settles}
 use Rattle.laws.proofs.Own.{BalancesIn}
 use Rattle.serve.specs.Serving.{lastAt, Describes, Made, Served}
 
 -- what balancing u asks, and its loop
-pub record AskedEven (y : Yard) (t : List ℕ) (s : List ℤ) (plan : List ℕ) (u height : ℕ) : Type 0 where
+pub record AskedEven (y : Yard) (t : List ℕ) (s : List ℤ) (plan : List ℕ) (u : ℕ) : Type 0 where
   pub described : Describes y t s
   pub node : u < size y
   pub even : Even y u
   pub room : 2 * shortest y ≤ length plan
-  pub high : weight (y .parents) u ≤ height
 
 -- what a turn of the loop at u asks that fills (true) or draws: where a child is chosen for it, that is the side of the turn
-pub record AskedTurn (b : Bool) (y : Yard) (t : List ℕ) (s : List ℤ) (plan : List ℕ) (u height : ℕ) : Type 0 where
-  pub asked : AskedEven y t s plan u height
+pub record AskedTurn (b : Bool) (y : Yard) (t : List ℕ) (s : List ℤ) (plan : List ℕ) (u : ℕ) : Type 0 where
+  pub asked : AskedEven y t s plan u
   pub side : choice (need y b) y u ≢ u → fills y u ≡ b
 
 -- what it gives: no move, and all as before, where no child is chosen; else the moves that serve the one that is

@@ -7,74 +7,60 @@ ghost use lib.ListN.{length, getD};
 ghost use Rattle.model.specs.Yard.{Yard, size};
 ghost use Rattle.model.specs.Plan.{fills};
 ghost use Rattle.model.specs.Given.{was, became};
+ghost use Rattle.laws.proofs.Demands.{weight};
 ghost use Rattle.planner.specs.Balancing.{entered, AskedEven, AskedTurn, TurnTaken, Settled, Balanced};
 use serve::choose::pick;
 use serve::choose::wide;
-use serve::pebble::extract_start;
-use serve::pebble::inject_start;
-use serve::pebble::move_pebbles;
+use serve::pebble::draw_child;
+use serve::pebble::fill_child;
 
 // A turn of the loop at u, which holds a pebble: fills the child that is picked. Answers how many moves it took, which is none if no child lacks a pebble.
-fn inject_turn(
-    t: &[u8; 768],
-    s: &mut [i16; 1280],
-    plan: &mut [u8],
-    u: usize,
-    height: usize,
-) -> usize
-    requires { ⌜ ((y : Yard) × AskedTurn true y (now t) (now s) (now plan) u height) ⌝ }
-    ensures { λ r. ⌜ ((y : Yard) → AskedTurn true y (was t) (was s) (was plan) u height → TurnTaken true y u (was s) (became s) (was plan) (became plan) r) ⌝ }
+fn inject_turn(t: &[u8; 768], s: &mut [i16; 1280], plan: &mut [u8], u: usize) -> usize
+    requires { ⌜ ((y : Yard) × AskedTurn true y (now t) (now s) (now plan) u) ⌝ }
+    ensures { λ r. ⌜ ((y : Yard) → AskedTurn true y (was t) (was s) (was plan) u → TurnTaken true y u (was s) (became s) (was plan) (became plan) r) ⌝ }
 {
     let c = pick(t, s, u, true);
     if c == u {
         return 0;
     }
-    let low = inject_start(t, s, c, height);
-    move_pebbles(t, s, plan, low, c, true)
+    fill_child(t, s, plan, u, c)
 }
 
 // A turn of the loop at u that does not fill: draws from the child that is picked.
-fn extract_turn(
-    t: &[u8; 768],
-    s: &mut [i16; 1280],
-    plan: &mut [u8],
-    u: usize,
-    height: usize,
-) -> usize
-    requires { ⌜ ((y : Yard) × AskedTurn false y (now t) (now s) (now plan) u height) ⌝ }
-    ensures { λ r. ⌜ ((y : Yard) → AskedTurn false y (was t) (was s) (was plan) u height → TurnTaken false y u (was s) (became s) (was plan) (became plan) r) ⌝ }
+fn extract_turn(t: &[u8; 768], s: &mut [i16; 1280], plan: &mut [u8], u: usize) -> usize
+    requires { ⌜ ((y : Yard) × AskedTurn false y (now t) (now s) (now plan) u) ⌝ }
+    ensures { λ r. ⌜ ((y : Yard) → AskedTurn false y (was t) (was s) (was plan) u → TurnTaken false y u (was s) (became s) (was plan) (became plan) r) ⌝ }
 {
     let c = pick(t, s, u, false);
     if c == u {
         return 0;
     }
-    let low = extract_start(t, s, c, height);
-    move_pebbles(t, s, plan, low, c, false)
+    draw_child(t, s, plan, u, c)
 }
 
 // A turn of the loop at u: if it holds a pebble a child that lacks one is filled; where it holds none, or no child lacks one, one is drawn from a child.
-fn turn(t: &[u8; 768], s: &mut [i16; 1280], plan: &mut [u8], u: usize, height: usize) -> usize
-    requires { ⌜ ((y : Yard) × AskedEven y (now t) (now s) (now plan) u height) ⌝ }
-    ensures { λ r. ⌜ ((y : Yard) → AskedEven y (was t) (was s) (was plan) u height → TurnTaken (fills y u) y u (was s) (became s) (was plan) (became plan) r) ⌝ }
+fn turn(t: &[u8; 768], s: &mut [i16; 1280], plan: &mut [u8], u: usize) -> usize
+    requires { ⌜ ((y : Yard) × AskedEven y (now t) (now s) (now plan) u) ⌝ }
+    ensures { λ r. ⌜ ((y : Yard) → AskedEven y (was t) (was s) (was plan) u → TurnTaken (fills y u) y u (was s) (became s) (was plan) (became plan) r) ⌝ }
 {
     if s[256 + u] == 0 {
-        return extract_turn(t, s, plan, u, height);
+        return extract_turn(t, s, plan, u);
     }
-    let m = inject_turn(t, s, plan, u, height);
+    let m = inject_turn(t, s, plan, u);
     if m != 0 {
         return m;
     }
-    extract_turn(t, s, plan, u, height)
+    extract_turn(t, s, plan, u)
 }
 
 // The loop at u: turns, until none makes a move; then no child has a demand, as u's own demand is 0.
-fn settle(t: &[u8; 768], s: &mut [i16; 1280], plan: &mut [u8], u: usize, height: usize) -> usize
-    requires { ⌜ ((y : Yard) × AskedEven y (now t) (now s) (now plan) u height) ⌝ }
-    ensures { λ r. ⌜ ((y : Yard) → AskedEven y (was t) (was s) (was plan) u height → Settled y u (became s) (was plan) (became plan) r) ⌝ }
+fn settle(t: &[u8; 768], s: &mut [i16; 1280], plan: &mut [u8], u: usize) -> usize
+    requires { ⌜ ((y : Yard) × AskedEven y (now t) (now s) (now plan) u) ⌝ }
+    ensures { λ r. ⌜ ((y : Yard) → AskedEven y (was t) (was s) (was plan) u → Settled y u (became s) (was plan) (became plan) r) ⌝ }
 {
     let mut k = 0;
     loop {
-        let m = turn(t, s, &mut plan[2 * k..], u, height);
+        let m = turn(t, s, &mut plan[2 * k..], u);
         if m == 0 {
             return k;
         }
@@ -104,10 +90,10 @@ pub fn balance_subtrees(
     u: usize,
     height: usize,
 ) -> usize
-    requires { ⌜ ((y : Yard) × AskedEven y (now t) (now s) (now plan) u height × (size y ≤ length (now parts))) ⌝ }
-    ensures { λ r. ⌜ ((y : Yard) → AskedEven y (was t) (was s) (was plan) u height → Balanced (entered (was parts)) y u (became s) (was plan) (became plan) r) ⌝ }
+    requires { ⌜ ((y : Yard) × AskedEven y (now t) (now s) (now plan) u × (weight (y .parents) u ≤ height) × (size y ≤ length (now parts))) ⌝ }
+    ensures { λ r. ⌜ ((y : Yard) → AskedEven y (was t) (was s) (was plan) u → Balanced (entered (was parts)) y u (became s) (was plan) (became plan) r) ⌝ }
 {
-    let mut k = settle(t, s, plan, u, height);
+    let mut k = settle(t, s, plan, u);
     let mut c = wide(t[256 + u]);
     while c != u {
         let v = c;

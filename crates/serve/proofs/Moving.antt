@@ -1,30 +1,27 @@
--- A move on the planner's state and list: the demand of the edge's node changes by one, the pebble goes, and two bytes are written behind those of
--- the moves before.
+-- A move on the planner's state: the demand of the edge's node changes by one, and the pebble goes. Its two bytes in a list.
 use mathlib.Core.Path.{_≡_, refl, sym, ap, _∙_}
 use mathlib.Core.Logic.{_≢_}
 use mathlib.Core.Bool.{Bool, true, false, not}
-use mathlib.Core.List.{List, [], _∷_, _++_, append-assoc}
-use Prim.Native.Nat.{ℕ, suc, _+_, _*_, _≤_, _<_}
+use mathlib.Core.List.{List, [], _∷_, _++_}
+use Prim.Native.Nat.{ℕ, suc, _+_, _≤_, _<_}
 use native.Mathlib.Nat.{suc-add}
 use native.Mathlib.Omega.{arith}
 use native.Mathlib.Decide.{ℕ-discrete}
-use lib.ListN.{length, getD, set, drop, length-set, length-append}
+use lib.ListN.{length, getD, set, drop, length-set}
 use lib.Seq.{getD-set-same, getD-set-other}
 use borrow.Author.Tests.{eq-eqb, ne-eqb}
 use lib.IntN.{ℤ, pos}
 use Rattle.model.specs.Yard.{Yard, size, one, parent, pebble, demand}
-use Rattle.model.specs.Push.{Move, push, moved, after, run}
-use Rattle.model.specs.Calls.Answers.{overwrite}
+use Rattle.model.specs.Push.{Move, moved, after, run}
 use Rattle.model.specs.Calls.Plans.{bytes}
 use Rattle.laws.proofs.Judged.{facts, wood}
 use Rattle.laws.proofs.Step.{need, Step, legal-step, ends, moved-pebble}
 use Rattle.laws.proofs.Runs.{after-append, run-one}
 use Rattle.laws.proofs.Signed.{nextℤ, demand-node, demand-other}
 use Rattle.laws.proofs.Choice.{Neediest}
-use Rattle.laws.proofs.Calls.{length-bytes}
-use Rattle.serve.specs.Serving.{Last, lastAt, Kept, shiftedState, Made}
+use Rattle.serve.specs.Serving.{Last, lastAt, Kept, pickedState, Made}
 use Rattle.serve.proofs.Looking.{last-here, last-there}
-use Rattle.serve.proofs.Picking.{last-place, last-other}
+use Rattle.serve.proofs.Picking.{last-place, last-other, shiftedState}
 
 -- bytes of two lists of moves
 pub bytes-append : (ms ns : List Move) → bytes (ms ++ ns) ≡ bytes ms ++ bytes ns
@@ -33,17 +30,12 @@ bytes-append [] ns = refl
 bytes-append (m ∷ ms) ns = ap (λ (l : List ℕ). m .from ∷ m .to ∷ l) (bytes-append ms ns)
 
 -- two bytes behind the front
-two-behind : (xs l : List ℕ) (a b : ℕ) → length xs + 2 ≤ length l → set (set (xs ++ drop (length xs) l) (length xs) a) (length xs + 1) b ≡ xs ++ (a ∷ b ∷ drop (length xs + 2) l)
+pub two-behind : (xs l : List ℕ) (a b : ℕ) → length xs + 2 ≤ length l → set (set (xs ++ drop (length xs) l) (length xs) a) (length xs + 1) b ≡ xs ++ (a ∷ b ∷ drop (length xs + 2) l)
 two-behind [] [] a b h = absurd (omega arith)
 two-behind [] (p ∷ []) a b h = absurd (omega arith)
 two-behind [] (p ∷ q ∷ l) a b h = refl
 two-behind (x ∷ xs) [] a b h = absurd (omega arith)
 two-behind (x ∷ xs) (p ∷ l) a b h = rw (suc-add (length xs) 1, suc-add (length xs) 2) (ap (λ (r : List ℕ). x ∷ r) (two-behind xs l a b (omega arith)))
-
-write-move : (ms : List Move) (plan : List ℕ) (a b : ℕ) → 2 * length ms + 2 ≤ length plan
-    → set (set (overwrite (bytes ms) plan) (2 * length ms) a) (2 * length ms + 1) b ≡ overwrite (bytes (ms ++ (push a b ∷ []))) plan
-unfolding bytes
-write-move ms plan a b h = rw (← (length-bytes ms), two-behind (bytes ms) plan a b (omega (arith, length-bytes ms)), bytes-append ms (push a b ∷ []), append-assoc, length-append (bytes ms) (a ∷ b ∷ []))
 
 -- the state after a legal push over the edge of the child that is chosen: the demand of its node, the child served last, and the two counts
 module _ (y : Yard) (m : Move) (g : Step y m) (n : Neediest (need y (g .away)) y (parent y (g .node)) (g .node)) (s : List ℤ) (k : Kept y s) (d : ℤ) (e : d ≡ nextℤ (g .away) (demand y (g .node))) where
@@ -154,16 +146,12 @@ module _ (y : Yard) (m : Move) (g : Step y m) (n : Neediest (need y (g .away)) y
         ∙ getD-set-other s (g .node) (1024 + v) d (pos 0) (omega (arith, small (g .node) (g .node-lt))) ∙ k .depths v l;
   }
 
--- no move, and one more
+-- the same behind other moves
+pub kept-next : (y : Yard) (ms : List Move) (m : Move) (s : List ℤ) → Kept (run y ms) s → (g : Step (run y ms) m) → Neediest (need (run y ms) (g .away)) (run y ms) (parent y (g .node)) (g .node)
+    → Kept (run y (ms ++ (m ∷ []))) (shiftedState (m .from) (m .to) (pickedState (g .away) (parent y (g .node)) (g .node) s))
+kept-next y ms m s k g n = rw (after-append ms (m ∷ []) y, run-one (run y ms) m (legal-step (run y ms) m g) .0) (kept-move (run y ms) m g n s k (nextℤ (g .away) (getD s (g .node) (pos 0))) (ap (nextℤ (g .away)) (k .demands (g .node) (g .node-lt))))
+
+-- no move
 pub made-nil : (y : Yard) (s : List ℤ) (plan : List ℕ) → Kept y s → Made y [] s plan plan 0
 unfolding after bytes
 made-nil y s plan k = record { kept = k; written = refl; counted = refl }
-
-pub made-move : (y : Yard) (ms : List Move) (m : Move) (s : List ℤ) (before after : List ℕ) (count : ℕ) → Made y ms s before after count → (g : Step (run y ms) m)
-    → Neediest (need (run y ms) (g .away)) (run y ms) (parent y (g .node)) (g .node) → 2 * length ms + 2 ≤ length before → (d : ℤ) → d ≡ nextℤ (g .away) (getD s (g .node) (pos 0))
-    → Made y (ms ++ (m ∷ [])) (shiftedState (m .from) (m .to) (set (set s (g .node) d) (lastAt (g .away) (parent y (g .node))) (pos (g .node)))) before (set (set after (2 * count) (m .from)) (2 * count + 1) (m .to)) (count + 1)
-made-move y ms m s before after count h g n room d e = record {
-  kept = rw (after-append ms (m ∷ []) y, run-one (run y ms) m (legal-step (run y ms) m g) .0) (kept-move (run y ms) m g n s (h .kept) d (e ∙ ap (nextℤ (g .away)) (h .kept .demands (g .node) (g .node-lt))));
-  written = rw (h .written, h .counted) (write-move ms before (m .from) (m .to) room);
-  counted = rw (h .counted, length-append ms (m ∷ []));
-}

@@ -6,13 +6,13 @@ use mathlib.Core.List.{List, [], _∷_}
 use Prim.Native.Nat.{ℕ, zero, suc, _+_, _≤_, _<_}
 use native.Mathlib.Omega.{arith}
 use native.Mathlib.Decide.{ℕ-discrete, decLt}
-use lib.ListN.{length, getD, set, length-set}
+use lib.ListN.{length, getD, set}
 use lib.Seq.{getD-set-same, getD-set-other, set-getD, set-out}
 use lib.IntN.{ℤ, pos, negsuc, natAbs}
 use Rattle.model.specs.Yard.{up}
 use Rattle.laws.proofs.Step.{crossing}
 use Rattle.laws.proofs.Signed.{nextℤ}
-use Rattle.serve.specs.Serving.{lastAt, stepped, shiftedState, pickedState}
+use Rattle.serve.specs.Serving.{lastAt, stepped, pickedState}
 
 -- two entries set, and one set twice
 set-swap : {A : Type 0} (l : List A) (i j : ℕ) (a b : A) → i ≢ j → set (set l i a) j b ≡ set (set l j b) i a
@@ -38,10 +38,6 @@ next-undo false (negsuc (suc n)) = refl
 
 pub step-undo : (b : Bool) (i : ℕ) (s : List ℤ) → i < length s → stepped (not b) i (stepped b i s) ≡ s
 step-undo b i s l = rw (getD-set-same s i (nextℤ b (getD s i (pos 0))) (pos 0) l, next-undo b (getD s i (pos 0)), set-twice s i (nextℤ b (getD s i (pos 0))) (getD s i (pos 0))) (set-getD s i (pos 0))
-
-pub step-redo : (b : Bool) (i : ℕ) (s : List ℤ) → i < length s → stepped b i (stepped (not b) i s) ≡ s
-step-redo true i s l = step-undo false i s l
-step-redo false i s l = step-undo true i s l
 
 -- no entry goes farther from 0 than by one
 next-near : (b : Bool) (k : ℤ) → natAbs (nextℤ b k) ≤ natAbs k + 1
@@ -96,7 +92,11 @@ module _ (b : Bool) {u c : ℕ} (h : u < 256) (k : c < 256) where
       ∙ set-swap (stepped b w (stepped b c s)) (lastAt b v) (lastAt b u) (pos w) (pos c) (last-other b b v u l h (λ q. d (sym q)))
       ∙ ap (λ (z : List ℤ). set z (lastAt b v) (pos w)) (sym (step-set b w (lastAt b u) (pos c) (stepped b c s) (λ q. absurd (omega (arith, last-place b u h)))))
 
--- the counts of a move
+-- one pebble less at the first node, and one more at the second
+abbrev pub shiftedState : ℕ → ℕ → List ℤ → List ℤ
+shiftedState from to s = stepped false (256 + to) (stepped true (256 + from) s)
+
+-- so the counts of a move change
 pub shift-steps : (t : List ℕ) (b : Bool) (v : ℕ) (s : List ℤ) → v ≢ up t v → shiftedState (crossing t b v .from) (crossing t b v .to) s ≡ stepped (not b) (256 + v) (stepped b (256 + up t v) s)
 shift-steps t true v s d = refl
 shift-steps t false v s d = step-step false true (256 + up t v) (256 + v) s (λ e. d (omega arith))

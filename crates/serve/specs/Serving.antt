@@ -3,9 +3,9 @@
 use mathlib.Core.Path.{_≡_}
 use mathlib.Core.Logic.{_≢_}
 use mathlib.Core.Bool.{Bool, true, false, not, cond, _&&_}
-use mathlib.Core.List.{List}
+use mathlib.Core.List.{List, [], _∷_, _++_}
 use Prim.Native.Nat.{ℕ, _+_, _*_, _≤_, _<_}
-use lib.ListN.{length, getD, set}
+use lib.ListN.{length, getD, set, take, drop}
 use lib.Dec.{leb}
 use lib.IntN.{ℤ, pos, natAbs}
 use lib.Signed.{ltZ}
@@ -20,7 +20,7 @@ use Rattle.laws.proofs.Demands.{weight}
 use Rattle.laws.proofs.Step.{crossing, need}
 use Rattle.laws.proofs.Signed.{nextℤ}
 use Rattle.laws.proofs.Choice.{Neediest}
-use Rattle.laws.proofs.Serve.{Due, Serves, blocked}
+use Rattle.laws.proofs.Serve.{Due, Serves, direct, behind}
 
 -- the children of u from number i on, rising; and the lowest of them, or u itself if there is none
 abbrev pub isChildFrom : List ℕ → ℕ → ℕ → ℕ → Bool
@@ -84,22 +84,11 @@ stepped b i s = set s i (nextℤ b (getD s i (pos 0)))
 abbrev pub Room : List ℤ → ℕ → ℕ → ℕ → Type 0
 Room s v p d = (getD s (256 + v) (pos 0) ≡ pos p) × (getD s (1024 + v) (pos 0) ≡ pos d) × (p < 256) × (d < 256)
 
--- one pebble less at the first node, and one more at the second
-abbrev pub shiftedState : ℕ → ℕ → List ℤ → List ℤ
-shiftedState from to s = stepped false (256 + to) (stepped true (256 + from) s)
-
 -- the state with the child c of u picked: its demand is one nearer to 0, and it is the one served last
 abbrev pub pickedState : Bool → ℕ → ℕ → List ℤ → List ℤ
 pickedState b u c s = set (stepped b c s) (lastAt b u) (pos c)
 
--- the state after a move over the edge of v, away from the root (true) or towards it, and the list with it at place k
-abbrev pub movedState : List ℕ → Bool → ℕ → List ℤ → List ℤ
-movedState t b v s = shiftedState (crossing t b v .from) (crossing t b v .to) (pickedState b (up t v) v s)
-
-abbrev pub movedPlan : List ℕ → Bool → ℕ → ℕ → List ℕ → List ℕ
-movedPlan t b v k plan = set (set plan (2 * k) (crossing t b v .from)) (2 * k + 1) (crossing t b v .to)
-
--- the same, with v's parent p
+-- the list with a move over the edge of v, whose parent is p, at place k
 abbrev pub recorded : Bool → ℕ → ℕ → ℕ → List ℕ → List ℕ
 recorded b p v k plan = set (set plan (2 * k) (cond b p v)) (2 * k + 1) (cond b v p)
 
@@ -147,38 +136,46 @@ pub record Halfway (y : Yard) (t : List ℕ) (s : List ℤ) (v : ℕ) : Type 0 w
   pub lasts : (b : Bool) (u : ℕ) → u < size y → weight (y .parents) u ≤ weight (y .parents) v → Last b y u (getD s (lastAt b u) (pos 0))
   pub depths : (u : ℕ) → u < size y → getD s (1024 + u) (pos 0) ≡ pos (capacity y u)
 
--- what filling v (true) or drawing from it (false) asks: that a pebble is due over its edge, and a height that bounds the nodes inside v
-pub record AskedStart (b : Bool) (y : Yard) (t : List ℕ) (s : List ℤ) (v height : ℕ) : Type 0 where
+-- what filling v (true) or drawing from it (false) asks: that a pebble is due over its edge, and places before `end` for as many moves as there are nodes
+-- inside v
+pub record AskedFill (b : Bool) (y : Yard) (t : List ℕ) (s : List ℤ) (end v : ℕ) : Type 0 where
   pub halfway : Halfway y t s v
   pub due : Due y b v
-  pub high : weight (y .parents) v ≤ height
+  pub places : weight (y .parents) v ≤ end
+  pub few : end ≤ 256
 
--- the nodes that must make way before a pebble can go over the edge of top: from each that is blocked on to the child that is chosen
-pub data Chain (b : Bool) (y : Yard) (top : ℕ) : ℕ → Type 0 where
-  at-top : Chain b y top top
-  down : {u : ℕ} → Chain b y top u → blocked y b u ≡ true → Chain b y top (choice (need y b) y u)
+-- the state after the moves by which a pebble goes over the edge of v, which was picked for it, but for the count at v's parent: each node that is blocked
+-- has picked a child, and the one at the lower end, which is not, takes a pebble, or gives one. In between each node that loses one gets one
+unfoldable pub servedState : {b : Bool} {y : Yard} {v : ℕ} {ms : List Move} → Serves choice y b v ms → List ℤ → List ℤ
+servedState {b} (direct {v = v} e) s = stepped (not b) (256 + v) s
+servedState {b} {y} (behind {v = v} e r) s = servedState r (pickedState b v (choice (need y b) y v) s)
 
--- the state with all of them picked, but for top
-unfoldable pub picked : {b : Bool} {y : Yard} {top v : ℕ} → Chain b y top v → List ℤ → List ℤ
-picked at-top s = s
-picked {b} {y} (down {u = u} c e) s = picked c (pickedState b u (choice (need y b) y u) s)
+-- the list with some moves from place k up to place `end`, all else as it was
+abbrev pub writtenUpTo : ℕ → ℕ → List Move → List ℕ → List ℕ
+writtenUpTo k end ms list = take (2 * k) list ++ (bytes ms ++ drop (2 * end) list)
 
--- where the moves start: at the end of that chain
-pub record Start (b : Bool) (y : Yard) (top low : ℕ) : Type 0 where
-  pub chain : Chain b y top low
-  pub unblocked : blocked y b low ≡ false
+-- what it gives: the moves of Algorithm 2 or 3 stand from place k up to `end`, and the state is the one after them, but for the count at v's parent
+pub record Filled (b : Bool) (y : Yard) (end v : ℕ) (s s′ : List ℤ) (list list′ : List ℕ) (k : ℕ) : Type 0 where
+  pub moves : List Move
+  pub serves : Serves choice y b v moves
+  pub counted : k + length moves ≡ end
+  pub written : list′ ≡ writtenUpTo k end moves list
+  pub state : s′ ≡ servedState serves s
 
--- what the way down gives
-pub record Found (b : Bool) (y : Yard) (top low : ℕ) (before after : List ℤ) : Type 0 where
-  pub start : Start b y top low
-  pub picks : after ≡ picked (start .chain) before
+-- what clearing v gives: the moves that make way for the one over its edge, which is the last of the filling; in the state it is counted at v already
+pub record Cleared (b : Bool) (y : Yard) (end v : ℕ) (s s′ : List ℤ) (list list′ : List ℕ) (k : ℕ) : Type 0 where
+  pub moves : List Move
+  pub serves : Serves choice y b v (moves ++ (crossing (y .parents) b v ∷ []))
+  pub counted : k + length moves ≡ end
+  pub written : list′ ≡ writtenUpTo k end moves list
+  pub state : s′ ≡ servedState serves s
 
--- what the moves ask, from there up to top: that no sibling of top needs more, the state as it was before the way down, and room in the list too
-pub record AskedMoves (b : Bool) (y : Yard) (t : List ℕ) (s₀ s : List ℤ) (plan : List ℕ) (low top : ℕ) : Type 0 where
+-- what a turn at u asks that fills v or draws from it: that no child of u needs more, the state with v picked, and room in the plan
+pub record AskedServe (b : Bool) (y : Yard) (t : List ℕ) (s₀ s : List ℤ) (plan : List ℕ) (u v : ℕ) : Type 0 where
   pub described : Describes y t s₀
-  pub due : Due y b top
-  pub chosen : Neediest (need y b) y (up (y .parents) top) top
-  pub found : Found b y top low (pickedState b (up (y .parents) top) top s₀) s
+  pub due : Due y b v
+  pub chosen : Neediest (need y b) y u v
+  pub picked : s ≡ pickedState b u v s₀
   pub room : 2 * shortest y ≤ length plan
 
 -- moves that were made, written at the front of the list, and counted
@@ -187,12 +184,8 @@ pub record Made (y : Yard) (ms : List Move) (s : List ℤ) (before after : List 
   pub written : after ≡ overwrite (bytes ms) before
   pub counted : count ≡ length ms
 
--- what they give: the moves of Algorithm 2 or 3
+-- what it gives: the moves of Algorithm 2 or 3
 pub record Served (b : Bool) (y : Yard) (v : ℕ) (s : List ℤ) (before after : List ℕ) (count : ℕ) : Type 0 where
   pub moves : List Move
   pub serves : Serves choice y b v moves
   pub made : Made y moves s before after count
-
--- the same, for every yard that was asked about
-abbrev pub ServedAll : Bool → List ℕ → List ℤ → List ℕ → ℕ → ℕ → List ℤ → List ℕ → ℕ → Type 0
-ServedAll b t s plan low top s′ plan′ count = (y : Yard) (s₀ : List ℤ) → AskedMoves b y t s₀ s plan low top → Served b y top s′ plan plan′ count

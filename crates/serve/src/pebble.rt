@@ -1,18 +1,19 @@
-// Algorithms 2, 3 and 4: where filling, clearing and drawing begin, found on the way down; and their moves, made on the way up.
+// Algorithms 2, 3 and 4: filling and clearing, which call each other down the tree, drawing, and their moves.
 ghost use mathlib.Core.Path.{_≡_};
-ghost use mathlib.Core.Bool.{true, false};
+ghost use mathlib.Core.Logic.{_≢_};
+ghost use mathlib.Core.Bool.{true, false, not};
 ghost use Prim.Native.Nat.{ℕ, _+_, _*_, _<_, _≤_};
 ghost use mathlib.Core.List.{List};
-ghost use lib.ListN.{length};
+ghost use lib.ListN.{length, drop};
 ghost use lib.IntN.{ℤ};
 ghost use lib.Dec.{ltb};
-ghost use Rattle.model.specs.Yard.{Yard};
+ghost use Rattle.model.specs.Yard.{Yard, up};
 ghost use Rattle.model.specs.Given.{was, became};
-ghost use Rattle.laws.proofs.Serve.{blocked};
-ghost use Rattle.serve.specs.Serving.{Small, Room, stepped, recorded, AskedStart, Found, AskedMoves, ServedAll};
+ghost use Rattle.model.specs.Calls.Answers.{overwrite};
+ghost use Rattle.serve.specs.Serving.{Small, Room, stepped, recorded, AskedFill, Filled, Cleared, AskedServe, Served};
 use crate::choose::nearer;
 use crate::choose::pick;
-use crate::choose::wide;
+use lists::copy::copy;
 
 // Whether a node has a place for one more pebble.
 fn has_place(s: &[i16; 1280], v: usize) -> bool
@@ -44,63 +45,110 @@ pub fn record_move(plan: &mut [u8], k: usize, p: usize, v: usize, away: bool)
     plan[2 * k + 1] = p as u8;
 }
 
-// Algorithm 2: where filling v from its parent begins. A full v is cleared first. Each node on the way down has picked its child then.
-pub fn inject_start(t: &[u8; 768], s: &mut [i16; 1280], v: usize, height: usize) -> usize
-    requires { ⌜ ((y : Yard) × AskedStart true y (now t) (now s) v height) ⌝ }
-    ensures { λ r. ⌜ ((y : Yard) → AskedStart true y (was t) (was s) v height → Found true y v r (was s) (became s)) ⌝ }
-{
-    if has_place(s, v) {
-        return v;
-    }
-    clear_start(t, s, v, height)
-}
-
-// Where clearing v begins, which is full: to clear it, fill the child that is picked.
-fn clear_start(t: &[u8; 768], s: &mut [i16; 1280], v: usize, height: usize) -> usize
-    requires { ⌜ ((y : Yard) × AskedStart true y (now t) (now s) v height × (blocked y true v ≡ true)) ⌝ }
-    ensures { λ r. ⌜ ((y : Yard) → AskedStart true y (was t) (was s) v height → blocked y true v ≡ true → Found true y v r (was s) (became s)) ⌝ }
-{
-    let c = pick(t, s, v, true);
-    inject_start(t, s, c, height - 1)
-}
-
-// Algorithm 3: where drawing from v into its parent begins. Into an empty v a pebble is drawn first.
-pub fn extract_start(t: &[u8; 768], s: &mut [i16; 1280], v: usize, height: usize) -> usize
-    requires { ⌜ ((y : Yard) × AskedStart false y (now t) (now s) v height) ⌝ }
-    ensures { λ r. ⌜ ((y : Yard) → AskedStart false y (was t) (was s) v height → Found false y v r (was s) (became s)) ⌝ }
-{
-    if s[256 + v] != 0 {
-        return v;
-    }
-    let c = pick(t, s, v, false);
-    extract_start(t, s, c, height - 1)
-}
-
-// The moves of filling `top`, or of drawing from it, which begin at `low`: from there up to `top` a pebble goes over the edge of each node and
-// makes way for the next. In between each node that loses one gets one, so only the counts at the two ends change. The moves go to the front of the list; answers
-// how many.
-pub fn move_pebbles(
+// Algorithm 2: fills v, which was picked for it, from its parent u. The last move of a filling is known first: it is written to the place before `end`, and v
+// is cleared into the places before that one. Answers where the moves begin.
+pub fn inject_pebble(
     t: &[u8; 768],
     s: &mut [i16; 1280],
-    plan: &mut [u8],
-    low: usize,
-    top: usize,
-    away: bool,
+    moves: &mut [u8; 512],
+    end: usize,
+    u: usize,
+    v: usize,
 ) -> usize
-    requires { ⌜ ((y : Yard) × (s₀ : List ℤ) × AskedMoves away y (now t) s₀ (now s) (now plan) low top) ⌝ }
-    ensures { λ r. ⌜ ServedAll away (was t) (was s) (was plan) low top (became s) (became plan) r ⌝ }
+    requires { ⌜ ((y : Yard) × AskedFill true y (now t) (now s) end v × (u ≡ up (y .parents) v)) ⌝ }
+    ensures { λ r. ⌜ ((y : Yard) → AskedFill true y (was t) (was s) end v → u ≡ up (y .parents) v → Filled true y end v (was s) (became s) (was moves) (became moves) r) ⌝ }
 {
-    count_pebble(s, low, !away);
-    let mut k = 0;
-    let mut v = low;
-    loop {
-        let p = wide(t[v]);
-        record_move(plan, k, p, v, away);
-        k += 1;
-        if v == top {
-            count_pebble(s, p, away);
-            return k;
-        }
-        v = p;
+    record_move(moves, end - 1, u, v, true);
+    clear_node(t, s, moves, end - 1, v)
+}
+
+// Clears v, so that it has a place, and takes that place. To clear a full v, fill the child that is picked.
+fn clear_node(
+    t: &[u8; 768],
+    s: &mut [i16; 1280],
+    moves: &mut [u8; 512],
+    end: usize,
+    v: usize,
+) -> usize
+    requires { ⌜ ((y : Yard) × AskedFill true y (now t) (now s) (end + 1) v) ⌝ }
+    ensures { λ r. ⌜ ((y : Yard) → AskedFill true y (was t) (was s) (end + 1) v → Cleared true y end v (was s) (became s) (was moves) (became moves) r) ⌝ }
+{
+    if has_place(s, v) {
+        count_pebble(s, v, false);
+        return end;
     }
+    let c = pick(t, s, v, true);
+    inject_pebble(t, s, moves, end, v, c)
+}
+
+// Algorithm 3: draws from v, which was picked for it, into its parent u. Into an empty v a pebble is drawn first.
+pub fn extract_pebble(
+    t: &[u8; 768],
+    s: &mut [i16; 1280],
+    moves: &mut [u8; 512],
+    end: usize,
+    u: usize,
+    v: usize,
+) -> usize
+    requires { ⌜ ((y : Yard) × AskedFill false y (now t) (now s) end v × (u ≡ up (y .parents) v)) ⌝ }
+    ensures { λ r. ⌜ ((y : Yard) → AskedFill false y (was t) (was s) end v → u ≡ up (y .parents) v → Filled false y end v (was s) (became s) (was moves) (became moves) r) ⌝ }
+{
+    record_move(moves, end - 1, u, v, false);
+    if s[256 + v] != 0 {
+        count_pebble(s, v, true);
+        return end - 1;
+    }
+    let c = pick(t, s, v, false);
+    extract_pebble(t, s, moves, end - 1, v, c)
+}
+
+// A single move over the edge of v, whose parent is u, to the front of the plan.
+fn move_pebble(s: &mut [i16; 1280], plan: &mut [u8], u: usize, v: usize, away: bool)
+    requires { ⌜ (u < 256) × (v < 256) × (u ≢ v) × Small (now s) (256 + u) × Small (now s) (256 + v) × (2 ≤ length (now plan)) ⌝ }
+    ensures { λ _. ⌜ became s ≡ stepped away (256 + u) (stepped (not away) (256 + v) (was s)) ⌝ }
+    ensures { λ _. ⌜ became plan ≡ recorded away u v 0 (was plan) ⌝ }
+{
+    count_pebble(s, v, !away);
+    count_pebble(s, u, away);
+    record_move(plan, 0, u, v, away);
+}
+
+// Copies the moves from place k of a list to the front of the plan. Answers how many.
+fn hand_over(moves: &[u8], k: usize, plan: &mut [u8]) -> usize
+    requires { ⌜ (length (now moves) ≡ 512) × (k ≤ 256) × (512 ≤ length (now plan) + 2 * k) ⌝ }
+    ensures { λ r. ⌜ r + k ≡ 256 ⌝ }
+    ensures { λ _. ⌜ became plan ≡ overwrite (drop (2 * k) (was moves)) (was plan) ⌝ }
+{
+    copy(&moves[2 * k..], &mut plan[..512 - 2 * k]);
+    256 - k
+}
+
+// Fills the child c of u that was picked, by moves at the front of the plan; answers how many. Mostly c has a place, and it is one.
+pub fn fill_child(t: &[u8; 768], s: &mut [i16; 1280], plan: &mut [u8], u: usize, c: usize) -> usize
+    requires { ⌜ ((y : Yard) × (s₀ : List ℤ) × AskedServe true y (now t) s₀ (now s) (now plan) u c) ⌝ }
+    ensures { λ r. ⌜ ((y : Yard) (s₀ : List ℤ) → AskedServe true y (was t) s₀ (was s) (was plan) u c → Served true y c (became s) (was plan) (became plan) r) ⌝ }
+{
+    if has_place(s, c) {
+        move_pebble(s, plan, u, c, true);
+        return 1;
+    }
+    let mut moves = [0u8; 512];
+    let k = inject_pebble(t, s, &mut moves, 256, u, c);
+    count_pebble(s, u, true);
+    hand_over(&moves, k, plan)
+}
+
+// Draws from the child c of u that was picked, in the same way.
+pub fn draw_child(t: &[u8; 768], s: &mut [i16; 1280], plan: &mut [u8], u: usize, c: usize) -> usize
+    requires { ⌜ ((y : Yard) × (s₀ : List ℤ) × AskedServe false y (now t) s₀ (now s) (now plan) u c) ⌝ }
+    ensures { λ r. ⌜ ((y : Yard) (s₀ : List ℤ) → AskedServe false y (was t) s₀ (was s) (was plan) u c → Served false y c (became s) (was plan) (became plan) r) ⌝ }
+{
+    if s[256 + c] != 0 {
+        move_pebble(s, plan, u, c, false);
+        return 1;
+    }
+    let mut moves = [0u8; 512];
+    let k = extract_pebble(t, s, &mut moves, 256, u, c);
+    count_pebble(s, u, false);
+    hand_over(&moves, k, plan)
 }

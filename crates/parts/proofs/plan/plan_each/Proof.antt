@@ -8,6 +8,7 @@ use Rattle.model.specs.Yard.{Yard, size}
 use Rattle.serve.proofs.Stretches.{rest, back, made-length}
 use Rattle.model.specs.Push.{run}
 use Rattle.laws.proofs.PartTurns.{partsBefore}
+use Rattle.laws.proofs.Demands.{weight-le}
 use Rattle.planner.specs.Balancing.{AskedEven}
 use Rattle.parts.specs.Planning.{AskedParts}
 use Rattle.parts.proofs.Planning.{Before, parts-long, before-none, before-all, before-pass, part-asked, before-next}
@@ -58,7 +59,7 @@ itself : (c : tie.Then1 Inv-loop μ-loop) → let l = turn c .before in getD (ca
 itself c = omega (arith, c .before .wide .ensures .0, c .if1 .taken)
 
 asks : (c : tie.Then1 Inv-loop μ-loop) (y : Yard) → let l = turn c .before in Asked l y
-    → AskedEven (run y (partsBefore y (l .loop .i))) (call l .args .t .now) (l .loop .s) (rest (l .loop .plan) (l .loop .k)) (l .loop .i) (length (call l .args .parts .now))
+    → AskedEven (run y (partsBefore y (l .loop .i))) (call l .args .t .now) (l .loop .s) (rest (l .loop .plan) (l .loop .k)) (l .loop .i)
 asks c y a = let i = turn c in part-asked a (i .before .loop .inv y a) (node i y a) (itself c)
 
 mul-balance-subtrees : tie.Need-mul-balance-subtrees Inv-loop μ-loop
@@ -77,7 +78,7 @@ balance-subtrees-requires : tie.Need-balance-subtrees-requires Inv-loop μ-loop
 balance-subtrees-requires c κs =
     let e = c .before .before in
     let p = call (turn e .before) .pre in
-    (_, asks e (p .0) (p .1), omega (arith, parts-long (p .1)))
+    (_, asks e (p .0) (p .1), omega (arith, parts-long (p .1), weight-le (p .0 .parents) (turn e .before .loop .i)), omega (arith, parts-long (p .1)))
 
 -- one part more
 planned : (c : tie.After-balance-subtrees Inv-loop μ-loop) (y : Yard)

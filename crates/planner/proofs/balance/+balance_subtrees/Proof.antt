@@ -40,7 +40,7 @@ abbrev claims : ℕ → lts.Claims
 claims n = (settle.Asked, settle.Learnt, wide.Asked, wide.Learnt, enters.Asked, enters.Learnt, tree-below n, tree.Post)
 
 abbrev Inv-loop : lts.InvT-loop
-Inv-loop t s₀ plan₀ parts u height k₀ c₀ s plan k c = (y : Yard) (before : List ℕ) → LoopEnded y before t s₀ plan₀ k₀ u height → LeftFrom (entered parts) y u s before plan k c
+Inv-loop t s₀ plan₀ parts u height k₀ c₀ s plan k c = (y : Yard) (before : List ℕ) → LoopEnded y before t s₀ plan₀ k₀ u → LeftFrom (entered parts) y u s before plan k c
 
 abbrev μ-loop : lts.MeasureT-loop
 μ-loop t s₀ plan₀ parts u height k₀ c₀ s plan k c = ahead u c
@@ -69,11 +69,11 @@ module _ (n : ℕ) where
   Ended c y before =
       let s = call c .args in
       let e = c .before .before .before .before .before .settle in
-      LoopEnded y before (s .t .now) (e .last .1 .0) (e .last .1 .1 .0) (e .result) (s .u) (s .height)
+      LoopEnded y before (s .t .now) (e .last .1 .0) (e .last .1 .1 .0) (e .result) (s .u)
 
   ended : (c : lts.At-loop (claims n) (tree-at n) tree.Post Inv-loop μ-loop) (y : Yard)
       → let s = call c .args in
-      AskedEven y (s .t .now) (s .s .now) (s .plan .now) (s .u) (s .height) → Ended c y (s .plan .now)
+      AskedEven y (s .t .now) (s .s .now) (s .plan .now) (s .u) → Ended c y (s .plan .now)
   ended c y a = record { entry = _; asked = a; loop = c .before .before .before .before .before .settle .ensures y a }
 
   -- what is left at a loop's head, for the yard that the call asked for, and what was used of the list
@@ -100,7 +100,7 @@ module _ (n : ℕ) where
   wide-requires-2 c κs = search needs
 
   enters-requires : lts.Need-enters-requires (claims n) (tree-at n) tree.Post Inv-loop μ-loop
-  enters-requires c κs = let i = c .before .before in (small i, omega (arith, child i .lt, call (i .before) .pre .1 .2))
+  enters-requires c κs = let i = c .before .before in (small i, omega (arith, child i .lt, call (i .before) .pre .1 .3))
 
   -- a turn whose child is entered
   abbrev turn : lts.Then1 (claims n) (tree-at n) tree.Post Inv-loop μ-loop → lts.In-loop (claims n) (tree-at n) tree.Post Inv-loop μ-loop
@@ -121,20 +121,20 @@ module _ (n : ℕ) where
   -- what it asks
   asks : (c : lts.In-loop (claims n) (tree-at n) tree.Post Inv-loop μ-loop) (y : Yard) (before : List ℕ) (a : Ended (c .before) y before)
       → let l = c .before in
-      AskedEven (run y (left-here (a .asked) (l .loop .inv y before a) (c .loop-test .taken) .begun .moves)) (call l .args .t .now) (l .loop .s) (rest (l .loop .plan) (l .loop .k)) (l .loop .c) (call l .args .height - 1)
+      AskedEven (run y (left-here (a .asked) (l .loop .inv y before a) (c .loop-test .taken) .begun .moves)) (call l .args .t .now) (l .loop .s) (rest (l .loop .plan) (l .loop .k)) (l .loop .c)
   asks c y before a =
       let l = c .before .loop .inv y before a in
       let d = c .loop-test .taken in
       child-asked (a .asked) (left-child (a .asked) l d) (left-here (a .asked) l d)
 
   sub-tree-2 : lts.Need-sub-balance-subtrees-2 (claims n) (tree-at n) tree.Post Inv-loop μ-loop
-  sub-tree-2 c = let i = turn (c .before .before) in omega (arith, child-lower (call (i .before) .pre .1 .1) (child i))
+  sub-tree-2 c = let i = turn (c .before .before) in let p = call (i .before) .pre .1 in omega (arith, p .2, child-lower (p .1) (child i))
 
   tree-requires : lts.Need-balance-subtrees-requires (claims n) (tree-at n) tree.Post Inv-loop μ-loop
   tree-requires c κs =
       let i = turn (c .before .before) in
       let p = call (i .before) .pre in
-      (omega (arith, p .0, child-lower (p .1 .1) (child i)), (_, asks i _ _ (ended (i .before) _ (p .1 .1)), p .1 .2))
+      (omega (arith, p .0, p .1 .2, child-lower (p .1 .1) (child i)), (_, asks i _ _ (ended (i .before) _ (p .1 .1)), omega (arith, p .1 .2, child-lower (p .1 .1) (child i)), p .1 .3))
 
   -- one child more
   stepped : (c : lts.After-balance-subtrees (claims n) (tree-at n) tree.Post Inv-loop μ-loop) (y : Yard) (before : List ℕ)

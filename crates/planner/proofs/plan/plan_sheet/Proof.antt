@@ -8,6 +8,7 @@ use lib.ListN.{length}
 use Rattle.model.specs.Yard.{Yard, yardOf, root, shortest, Matched}
 use Rattle.model.specs.Judge.{Tree, matchedFault}
 use Rattle.laws.proofs.Judged.{facts, wood}
+use Rattle.laws.proofs.Demands.{weight-le}
 use Rattle.laws.proofs.Calls.{sees, matched-tree, plan-matched}
 use Rattle.lists.proofs.Root.{root-found}
 use Rattle.serve.specs.Serving.{Kept}
@@ -92,7 +93,7 @@ balance-subtrees-requires c κs =
     let o = f .before .before in
     let e = f .before .before .before .before .before in
     let y = yard (begin e) in
-    (y, root-asked y (tree e) (matched e) _ _ (shortest-is (o .before)) (fits o) _ _ (f .before .tables .ensures) (kept e) _ (found f), omega arith)
+    (y, root-asked y (tree e) (matched e) _ _ (shortest-is (o .before)) (fits o) _ _ (f .before .tables .ensures) (kept e) _ (found f), weight-le (y .parents) _, omega arith)
 
 same-length : tie.Need-same-length
 same-length c = search needs
