@@ -18,9 +18,9 @@ use Rattle.model.specs.Calls.Answers.{Answer, answered, refused, answer, mapAns
 use Rattle.model.specs.Plan.{plan}
 use Rattle.model.specs.Calls.Plans.{bytes, movesOf, planFault}
 use Rattle.model.specs.Calls.Checks.{Verdict, maxPlanBytes, bytesFault, obeyTests, checkFault, checkAnswer}
-use Rattle.model.specs.Sheets.{text, line, lines, yardSheet, same, field, cut, begins, moveHead, reportHead, moveLines, report, moveSheet, sheetOf, printedOf, programPlanBytes, program, Line, readLine, readYard}
+use Rattle.model.specs.Sheets.{text, line, lines, yardSheet, same, field, cut, begins, moveHead, reportHead, moveLines, report, moveSheet, sheetOf, printedOf, refusalSheet, programPlanBytes, program, Line, readLine, readYard}
 use Rattle.model.specs.CheckSheets.{digitFirst, yardPart, moveValues, readMoves, movesRead, readPlan, andThen, checkSheets, verdictSheet, checkedBytes, checks}
-use Rattle.laws.specs.CheckSheets.{Ends, Judged, ByteMoves, SheetsChecked, Printed}
+use Rattle.laws.specs.CheckSheets.{Ends, NoMove, Judged, ByteMoves, SheetsChecked, Printed}
 use Rattle.laws.proofs.Basics.{All, not-so}
 use Rattle.laws.proofs.Lines.{same-true, Values, length-line, readLine-begins, readLine-some, cutLine, readLine-take}
 use Rattle.laws.proofs.Judged.{facts}
@@ -180,6 +180,24 @@ moveRow m = m .from ∷ m .to ∷ []
 abbrev pub MoveBytes : List Move → Type 0
 MoveBytes = All (λ m. Values (moveRow m))
 
+-- the two values of a line are a move's, and where no line of a move stands none is read
+pub pair : (vs : List ℕ) → length vs ≡ moveValues → vs ≡ moveRow (push (getD vs 0 0) (getD vs 1 0))
+pair (a ∷ b ∷ []) e = refl
+pair [] e = absurd (omega arith)
+pair (a ∷ []) e = absurd (omega arith)
+pair (a ∷ b ∷ c ∷ vs) e = absurd (omega arith)
+
+no-move : (rest : List ℕ) → NoMove rest → readLine moveValues rest ≡ none
+no-move rest n = go (readLine moveValues rest) refl
+  where
+    go : (o : Option Line) → readLine moveValues rest ≡ o → readLine moveValues rest ≡ none
+    go none e = e
+    go (some l) e =
+        let g = readLine-some moveValues rest e in
+        let v = pair (l .values) (g .count) in
+        let b = rw v at (g .small) in
+        absurd (n (push (getD (l .values) 0 0) (getD (l .values) 1 0)) (l .rest) (b .0) (b .1 .0) (g .text ∙ ap (λ (vs : List ℕ). line vs ++ l .rest) v))
+
 no-report : (bs : List ℕ) → digitFirst bs ≡ true → begins reportHead bs ≡ false
 unfolding digitFirst text same
 no-report [] e = cc
@@ -191,22 +209,45 @@ ended : (k l : ℕ) (rest : List ℕ) → Ends rest → readMoves k l rest ≡ a
 ended k l rest (inl e) = rw e (readMoves-end k l)
 ended k l rest (inr e) = readMoves-report k l rest e
 
+readMoves-line : (k l : ℕ) (m : Move) (ms : List Move) (rest : List ℕ) → Values (moveRow m)
+    → readMoves (suc k) l (lines (map moveRow (m ∷ ms)) ++ rest) ≡ mapAnswer (_++_ (moveRow m)) (readMoves k (suc l) (lines (map moveRow ms) ++ rest))
+unfolding lines
+readMoves-line k l m ms rest b =
+    let tail : List ℕ = lines (map moveRow ms) ++ rest in
+    let n = no-report (line (moveRow m) ++ tail) (row-first (moveRow m) tail (omega arith, b)) in
+    let q = readLine-begins {l = record { values = moveRow m; rest = tail }} (record { count = refl; small = b; text = refl }) in
+    ap (readMoves (suc k) l) (append-assoc (line (moveRow m)) (lines (map moveRow ms)) rest) ∙ readMoves-next k l (line (moveRow m) ++ tail) n q
+
 readMoves-lines : (k l : ℕ) (ms : List Move) (rest : List ℕ) → MoveBytes ms → Ends rest → readMoves k l (lines (map moveRow ms) ++ rest) ≡ answered (bytes (take k ms))
 unfolding lines bytes
 readMoves-lines zero l ms rest b e = readMoves-none l _
 readMoves-lines (suc k) l [] rest b e = ended (suc k) l rest e
-readMoves-lines (suc k) l (m ∷ ms) rest b e =
-    let tail : List ℕ = lines (map moveRow ms) ++ rest in
-    let n = no-report (line (moveRow m) ++ tail) (row-first (moveRow m) tail (omega arith, b .0)) in
-    let q = readLine-begins {l = record { values = moveRow m; rest = tail }} (record { count = refl; small = b .0; text = refl }) in
-    ap (readMoves (suc k) l) (append-assoc (line (moveRow m)) (lines (map moveRow ms)) rest)
-    ∙ readMoves-next k l (line (moveRow m) ++ tail) n q
-    ∙ ap (mapAnswer (_++_ (moveRow m))) (readMoves-lines k (suc l) ms rest (b .1) e)
+readMoves-lines (suc k) l (m ∷ ms) rest b e = readMoves-line k l m ms rest (b .0) ∙ ap (mapAnswer (_++_ (moveRow m))) (readMoves-lines k (suc l) ms rest (b .1) e)
+
+-- and where something else stands behind them
+readMoves-damaged : (k l : ℕ) (ms : List Move) (rest : List ℕ) → MoveBytes ms → length ms < k → ¬ Ends rest → readLine moveValues rest ≡ none
+    → readMoves k l (lines (map moveRow ms) ++ rest) ≡ refused (row 16 (l + length ms))
+unfolding lines
+readMoves-damaged zero l ms rest b h e q = absurd (omega arith)
+readMoves-damaged (suc k) l [] [] b h e q = absurd (e (inl refl))
+readMoves-damaged (suc k) l [] (c ∷ rest) b h e q =
+    readMoves-shape k l c rest (not-so (begins reportHead (c ∷ rest)) (λ r. e (inr r))) q ∙ ap (λ (n : ℕ). refused (row 16 n)) (omega arith)
+readMoves-damaged (suc k) l (m ∷ ms) rest b h e q =
+    readMoves-line k l m ms rest (b .0) ∙ ap (mapAnswer (_++_ (moveRow m))) (readMoves-damaged k (suc l) ms rest (b .1) (omega arith) e q) ∙ ap (λ (n : ℕ). refused (row 16 n)) (omega arith)
 
 -- readPlan: of a move sheet, and what ends it
 readPlan-lines : (l : ℕ) (ms : List Move) (rest : List ℕ) → MoveBytes ms → Ends rest → readPlan l (moveLines ms ++ rest) ≡ answered (bytes (take movesRead ms))
 unfolding readPlan moveLines text same
 readPlan-lines l ms rest b e = readMoves-lines movesRead (suc l) ms rest b e
+
+readPlan-damaged : (l : ℕ) (ms : List Move) (rest : List ℕ) → MoveBytes ms → length ms < movesRead → ¬ Ends rest → readLine moveValues rest ≡ none
+    → readPlan l (moveLines ms ++ rest) ≡ refused (row 16 (suc l + length ms))
+unfolding readPlan moveLines text same
+readPlan-damaged l ms rest b h e q = readMoves-damaged movesRead (suc l) ms rest b h e q
+
+readPlan-headless : (l : ℕ) (bs : List ℕ) → begins moveHead bs ≡ false → readPlan l bs ≡ refused (row 15 l)
+unfolding readPlan
+readPlan-headless l bs e = ap (λ (t : Bool). headed l t (drop (length moveHead) bs)) e
 
 -- a plan that is too long is refused by its first 131,073 moves as it is whole
 first-of-three : {A : Type 0} (a b : Option Fault) (f : Fault) (xs ys : List (Option Fault)) (u v : A)
@@ -246,23 +287,24 @@ unfolding digitFirst moveLines text
 moves-first ms rest = refl
 
 module _ (sheet : List ℕ) (y : Yard) (said : readYard sheet ≡ answered y) where
-  checks-said : (ms : List Move) → MoveBytes ms → (rest : List ℕ) → Ends rest → checks (sheet ++ (moveLines ms ++ rest)) ≡ verdictSheet (checkAnswer y (bytes ms))
+  -- what is read behind it
+  checks-read : (back : List ℕ) → digitFirst back ≡ false → {a : Answer (List ℕ)} → readPlan (size y + 2) back ≡ a → checks (sheet ++ back) ≡ verdictSheet (andThen a (checkAnswer y))
   unfolding checkSheets
-  checks-said ms c rest e =
-      let back : List ℕ = moveLines ms ++ rest in
-      let part : yardPart (sheet ++ back) ≡ sheet =
-      rw (← (write-read sheet y said)) (yardPart-sheet y back (omega (arith, read-sizes sheet y said)) (read-bytes sheet y said) (moves-first ms rest)) in
+  checks-read back e q =
+      let part : yardPart (sheet ++ back) ≡ sheet = rw (← (write-read sheet y said)) (yardPart-sheet y back (omega (arith, read-sizes sheet y said)) (read-bytes sheet y said) e) in
       checks-cut (sheet ++ back)
       ∙ ap verdictSheet (
       ap (λ (p : List ℕ). checkedAs (sheet ++ back) p (readYard p)) part
       ∙ ap (checkedAs (sheet ++ back) sheet) said
       ∙ ap (λ (l : List ℕ). andThen (readPlan (size y + 2) l) (checkAnswer y)) (drop-append-seam sheet back)
-      ∙ ap (λ (a : Answer (List ℕ)). andThen a (checkAnswer y)) (readPlan-lines (size y + 2) ms rest c e)
-      ∙ check-long y ms
+      ∙ ap (λ (a : Answer (List ℕ)). andThen a (checkAnswer y)) q
       )
 
+  checks-said : (ms : List Move) → MoveBytes ms → (rest : List ℕ) → Ends rest → checks (sheet ++ (moveLines ms ++ rest)) ≡ verdictSheet (checkAnswer y (bytes ms))
+  checks-said ms c rest e = checks-read (moveLines ms ++ rest) (moves-first ms rest) (readPlan-lines (size y + 2) ms rest c e) ∙ ap verdictSheet (check-long y ms)
+
   pub sheets-checked : SheetsChecked sheet y
-  unfolding report moveSheet text same
+  unfolding report moveSheet text same verdictSheet
   sheets-checked = record {
     bare = λ ms b. ap (λ (l : List ℕ). checks (sheet ++ l)) (sym (append-nil (moveLines ms))) ∙ checks-said ms (byte-moves ms b) [] (inl refl);
     reported = λ ms b z ns rest. checks-said ms (byte-moves ms b) (report z ns ++ rest) (inr refl);
@@ -273,15 +315,13 @@ module _ (sheet : List ℕ) (y : Yard) (said : readYard sheet ≡ answered y) wh
         let o = accepted-obeys y (n .0) (plan y) (plan-optimal y (n .0) (n .1) .obeyed) in
         let b = rw (a .1) at (obeys-bytes o (facts y (n .0) .few .1)) in
         ap (λ (l : List ℕ). checks (sheet ++ l)) p ∙ checks-said ms b (report y ms) (inr refl) ∙ ap verdictSheet (rw (a .1) at (check-plan y (n .0) (n .1)));
+    damaged = λ ms b h rest e n.
+        checks-read (moveLines ms ++ rest) (moves-first ms rest) (readPlan-damaged (size y + 2) ms rest (byte-moves ms b) h e (no-move rest n))
+        ∙ ap (λ (l : ℕ). refusalSheet (row 16 l)) (omega arith);
+    headless = λ rest e q. checks-read rest e (readPlan-headless (size y + 2) rest q);
   }
 
 -- What is read is there: the moves are lines of the list, up to what ends them, or as many as are read.
-pub pair : (vs : List ℕ) → length vs ≡ moveValues → vs ≡ moveRow (push (getD vs 0 0) (getD vs 1 0))
-pair (a ∷ b ∷ []) e = refl
-pair [] e = absurd (omega arith)
-pair (a ∷ []) e = absurd (omega arith)
-pair (a ∷ b ∷ c ∷ vs) e = absurd (omega arith)
-
 record MovesSaid (k : ℕ) (bs plan : List ℕ) : Type 0 where
   moves : List Move
   rest : List ℕ

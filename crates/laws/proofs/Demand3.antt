@@ -72,6 +72,10 @@ module _ (y : Yard) (t : Tree y) where
     pub rules-length : length (planBy fills neediestChild y) ≡ length (planBy fills lowestChild y)
     rules-length = planBy-length m fills (fills-steers y) neediestChild neediest-sound ∙ sym (planBy-length m fills (fills-steers y) lowestChild lowest-sound)
 
+    pub plan-lowest : length (plan y) ≡ length (planBy fills lowestChild y)
+    unfolding plan choice
+    plan-lowest = rules-length
+
     -- Corollary 15, and the same against the number of nodes: so checker and trial can read every plan, and where all depths are 1 the program's
     -- plan list has room for it
     pub plan-bound : length (plan y) ≤ pebbleCount y * (size y - 1)

@@ -1,12 +1,11 @@
 -- The displaced figure (request 2.4), by what holds of any list of pushes (Least, Outgoing) and of the plan (Demand3). Of each node's pebbles those move that are
 -- beyond the least that it ever holds; and with room for one at each node, the demands tell which.
-use mathlib.Core.Path.{_≡_, refl, sym, ap, _∙_}
+use mathlib.Core.Path.{_≡_}
 use mathlib.Core.Bool.{not, _&&_}
 use mathlib.Core.Logic.{_↔_, _⊎_}
 use mathlib.Core.List.{List, []}
-use Prim.Native.Nat.{ℕ, zero, suc, _+_, _-_, _*_, _≤_, _<_}
+use Prim.Native.Nat.{ℕ, zero, suc, _-_, _≤_, _<_}
 use native.Mathlib.Omega.{arith}
-use native.Mathlib.Decide.{ℕ-discrete}
 use lib.ListN.{length, getD}
 use lib.Dec.{ltb}
 use borrow.Author.Tests.{lt-ltb}
@@ -15,13 +14,12 @@ use Rattle.model.specs.Judge.{Tree}
 use Rattle.model.specs.Push.{accepted}
 use Rattle.model.specs.Plan.{plan}
 use Rattle.model.specs.Follow.{starts, occurs, At, Follows, LastFirst, lifo, movers, displaced}
-use Rattle.laws.proofs.Sums.{sum-cong, sum-mono, sum-scale, length-below}
+use Rattle.laws.proofs.Sums.{sum-mono, length-below}
 use Rattle.laws.proofs.Trees.{Child}
-use Rattle.laws.proofs.Judged.{facts}
 use Rattle.laws.proofs.Runs.{obeys}
 use Rattle.laws.proofs.Follow.{starts-counts, follows-only, follows-solved, follows-onto, follows-apart}
 use Rattle.laws.proofs.LastIn.{lifo-follows, lifo-last}
-use Rattle.laws.proofs.Least.{least, occurs-sum, stays, movers-stays, movers-le, movers-least, movers-last, movers-targets}
+use Rattle.laws.proofs.Least.{least, movers-le, movers-least, movers-last, movers-targets}
 use Rattle.laws.proofs.Demand3.{plan-optimal, plan-length}
 use Rattle.laws.proofs.Outgoing.{outgoing, outgoing-some, part-outgoing}
 
@@ -52,6 +50,15 @@ module _ (y : Yard) (t : Tree y) (m : Matched y) where
   pub displaced-targets : sum (size y) (λ v. pebble y v - target y v) ≤ displaced y
   unfolding displaced
   displaced-targets = movers-targets y t (plan y) (followed .1) (plan-optimal y t m .solves)
+
+  -- nor less than the number of starting nodes that are not targets, whatever the depths
+  pub displaced-strays : length (below (size y) (λ v. (held y v) && (not (ltb 0 (target y v))))) ≤ displaced y
+  displaced-strays = omega (arith, length-below (size y) (λ v. (held y v) && (not (ltb 0 (target y v)))), displaced-targets, sum-mono (size y) _ _ (λ v _. stray (pebble y v) (target y v)))
+    where
+      stray : (p q : ℕ) → one ((ltb 0 p) && (not (ltb 0 q))) ≤ p - q
+      stray zero q = omega arith
+      stray (suc p) zero = rw (lt-ltb 0 (suc p) (omega arith)) (omega arith)
+      stray (suc p) (suc q) = rw (lt-ltb 0 (suc p) (omega arith), lt-ltb 0 (suc q) (omega arith)) (omega arith)
 
   -- where followed pebbles end: at each node as many as it has targets
   module _ {is qs : List ℕ} (f : Follows (starts y) (plan y) is qs) where
@@ -84,12 +91,3 @@ module _ (y : Yard) (t : Tree y) (m : Matched y) where
       where
         part : (0 < occurs i (lifo y (plan y))) ↔ (0 < outgoing y (getD (starts y) i 0))
         part = part-outgoing y t (plan y) (plan-optimal y t m .solves) (rw obeyed (plan-length y t m)) room (followed .1) i l
-
-    -- never less than the number of starting nodes that are not targets
-    pub displaced-strays : length (below (size y) (λ v. (held y v) && (not (ltb 0 (target y v))))) ≤ displaced y
-    displaced-strays = omega (arith, length-below (size y) (λ v. (held y v) && (not (ltb 0 (target y v)))), displaced-targets, sum-mono (size y) _ _ (λ v l. stray (pebble y v) (target y v) (omega (arith, room v l, facts y t .target-le v l))))
-      where
-        stray : (p q : ℕ) → q ≤ 1 → one ((ltb 0 p) && (not (ltb 0 q))) ≤ p - q
-        stray zero q h = omega arith
-        stray (suc p) zero h = rw (lt-ltb 0 (suc p) (omega arith)) (omega arith)
-        stray (suc p) (suc q) h = rw (lt-ltb 0 (suc p) (omega arith), lt-ltb 0 (suc q) (omega arith)) (omega arith)

@@ -2,6 +2,7 @@
 -- other: so a demand list that belongs to the yard belongs to the altered yard once the entries on the way to the root have changed by one.
 use mathlib.Core.Path.{_≡_, refl, sym, ap, _∙_}
 use mathlib.Core.Bool.{Bool, true, false, cond}
+use mathlib.Core.Logic.{_↔_}
 use mathlib.Core.List.{List}
 use Prim.Native.Nat.{ℕ, suc, _+_, _-_, _*_, _≤_, _<_}
 use native.Mathlib.Omega.{arith}
@@ -10,13 +11,14 @@ use lib.ListN.{length, getD, length-set}
 use lib.Seq.{getD-set-same, getD-set-other}
 use lib.Dec.{ltb, eqb}
 use lib.IntN.{ℤ, pos, natAbs, subℕ, sucℤ, predℤ, negℤ, _-ℤ_, suc-pred, pred-suc, sucℤ-+ℤ, predℤ-+ℤ, +ℤ-invr}
-use borrow.Author.Tests.{ltb-true, eq-eqb, ne-eqb}
+use borrow.Author.Tests.{ltb-true, lt-ltb, eq-eqb, ne-eqb}
 use Rattle.model.specs.declared.Event.{Event}
 use Rattle.model.specs.declared.Event.the-variants.{PebbleArrives, PebbleLeaves, TargetSet, TargetCleared}
 use Rattle.model.specs.Yard.{Yard, yardOf, size, pebble, target, capacity, one, sum, inside, subtotal, targetsIn, pebblesIn, demand, entry}
 use Rattle.model.specs.Judge.{Tree}
 use Rattle.model.specs.Calls.Demands.{demandsFault, demandsOf, demandsList}
 use Rattle.model.specs.Calls.Events.{oneMore, oneLess, pebblesAfter, targetsAfter, altered, changed, entryAfter, demandsAfter, possible}
+use Rattle.laws.specs.Events.{CanHappen, JustPossible}
 use Rattle.laws.proofs.Sums.{sum-cong, sum-add, sum-pick}
 use Rattle.laws.proofs.Judged.{facts, counted-tree}
 use Rattle.laws.proofs.Signed.{sub-suc, suc-sub}
@@ -85,6 +87,9 @@ module _ (y : Yard) (t : Tree y) (v : ℕ) (l : v < size y) where
       → (u : ℕ) → u < size y → getD (oneLess list v) u 0 ≤ capacity y u
   less-le list e h k u m = omega (arith, k u m, getD-less list v (omega arith) (ltb-true 0 (getD list v 0) h) u)
 
+  room : (list : List ℕ) → length list ≡ size y → getD (oneMore list v) v 0 ≤ capacity y v → ltb (getD list v 0) (capacity y v) ≡ true
+  room list e h = lt-ltb (getD list v 0) (capacity y v) (omega (arith, getD-more list v (omega arith) v, ap one (eq-eqb v v refl)))
+
   -- the altered yard is a tree again
   pub altered-tree : (e : Event) → possible y e v ≡ true → Tree (altered y e v)
   unfolding altered
@@ -102,6 +107,14 @@ module _ (y : Yard) (t : Tree y) (v : ℕ) (l : v < size y) where
       go TargetSet h = counted-tree y t _ _ pl (simp length-set tl) (facts y t .pebble-le) (more-le (y .targets) tl h (facts y t .target-le))
       go TargetCleared h = counted-tree y t _ _ pl (simp length-set tl) (facts y t .pebble-le) (less-le (y .targets) tl h (facts y t .target-le))
 
+  -- which is so only if there was room; so an event can happen exactly if its 20 is not given
+  can-happen : (e : Event) → (possible y e v ≡ true) ↔ CanHappen y e v
+  unfolding altered
+  can-happen PebbleArrives = (altered-tree PebbleArrives, λ a. room (y .pebbles) (facts y t .pebbles-size) (facts (altered y PebbleArrives v) a .pebble-le v l))
+  can-happen PebbleLeaves = (ltb-true 0 (pebble y v), lt-ltb 0 (pebble y v))
+  can-happen TargetSet = (altered-tree TargetSet, λ a. room (y .targets) (facts y t .targets-size) (facts (altered y TargetSet v) a .target-le v l))
+  can-happen TargetCleared = (ltb-true 0 (target y v), lt-ltb 0 (target y v))
+
   -- and its demands are those of before, but for the nodes on the way from v to the root, where they change by one
   pub demand-altered : (e : Event) → possible y e v ≡ true → (u : ℕ) → demand (altered y e v) u ≡ cond (inside (y .parents) u v) (changed e (demand y u)) (demand y u)
   unfolding altered
@@ -118,6 +131,9 @@ module _ (y : Yard) (t : Tree y) (v : ℕ) (l : v < size y) where
       go PebbleLeaves h = rises-right (targetsIn y u) (pebblesIn y u) (pebblesIn (altered y PebbleLeaves v) u) (inside (y .parents) u v) (subtotal-more (y .parents) (pebble (altered y PebbleLeaves v)) (pebble y) v l (getD-less (y .pebbles) v pl (ltb-true 0 (pebble y v) h)) u)
       go TargetSet h = rises-left (targetsIn y u) (pebblesIn y u) (targetsIn (altered y TargetSet v) u) (inside (y .parents) u v) (subtotal-more (y .parents) (target y) (target (altered y TargetSet v)) v l (getD-more (y .targets) v tl) u)
       go TargetCleared h = falls-left (targetsIn y u) (pebblesIn y u) (targetsIn (altered y TargetCleared v) u) (inside (y .parents) u v) (subtotal-more (y .parents) (target (altered y TargetCleared v)) (target y) v l (getD-less (y .targets) v tl (ltb-true 0 (target y v) h)) u)
+
+pub just-possible : (y : Yard) → JustPossible y
+just-possible y t v l = can-happen y t v l
 
 -- the demand list after an event: entries on the way to the root change by one, the others stay
 pub changed-one : (e : Event) (k : ℤ) → natAbs (changed e k -ℤ k) ≡ 1

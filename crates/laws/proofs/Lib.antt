@@ -35,6 +35,7 @@ pub mod Tidy
 pub mod Longest
 pub mod Moves
 pub mod Demand2
+pub mod Spare
 pub mod Trial
 pub mod Kept
 pub mod Struck
@@ -54,6 +55,8 @@ pub mod Lines
 pub mod Sheets
 pub mod Report
 pub mod Shallow
+pub mod Before
+pub mod SheetsBefore
 pub mod Places
 pub mod YardPart
 pub mod CheckSheets

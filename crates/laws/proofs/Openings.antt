@@ -1,13 +1,11 @@
 -- Openings (request 2.13). A legal push lowers the shortest length by one if its edge wants it, and else raises it by one. So a shortest plan
--- starts with m exactly if m's edge wants m: what is left is then planned in one move less. And the number of moves of an accepted list is even
--- or odd as the difference of the shortest lengths is.
+-- starts with m exactly if m's edge wants m: what is left is then planned in one move less.
 use mathlib.Core.Path.{_≡_, refl, sym, ap, _∙_}
 use mathlib.Core.Bool.{Bool, true, false, not, _&&_, _||_, or-false, and-true, and-eq-true-iff}
 use mathlib.Core.List.{List, [], _∷_, _++_, map}
 use mathlib.Core.Option.{some}
-use mathlib.Core.Logic.{_↔_, _⊎_, inl, inr}
-use Prim.Native.Nat.{ℕ, suc, _+_, _-_, _*_, _%_, _≤_, _<_}
-use native.Mathlib.Nat.{mul-mod-right}
+use mathlib.Core.Logic.{_↔_, inl, inr}
+use Prim.Native.Nat.{ℕ, _+_, _-_, _*_, _≤_, _<_}
 use native.Mathlib.Omega.{arith}
 use native.Mathlib.Decide.{ℕ-discrete, decLe, decLt}
 use lib.ListN.{length, take, drop, length-map}
@@ -20,20 +18,18 @@ use Rattle.model.specs.Plan.{plan}
 use Rattle.model.specs.Openings.{wants, opening, openingsFrom, openings}
 use Rattle.model.specs.Calls.Answers.{answered}
 use Rattle.model.specs.Calls.Plans.{bytes, movesOf}
-use Rattle.model.specs.Calls.Checks.{Verdict, checkTests, checkFault, checkAnswer}
 use Rattle.model.specs.Calls.Openings.{openingsTests, openingsFault, openingsAnswer, openingsList}
 use Rattle.laws.specs.Openings.{ShortestPlan, Opens, Listed, Sorted, Before, EveryOpening}
-use Rattle.laws.proofs.Basics.{one-le, none-all, first-refused}
+use Rattle.laws.proofs.Basics.{one-le, first-refused}
 use Rattle.laws.proofs.Sums.{sum-cong, sum-mono, sum-ones, sum-add, sum-swap, sum-pick, length-below}
 use Rattle.laws.proofs.Judged.{wood}
 use Rattle.laws.proofs.Demands.{solved-iff, root-even}
 use Rattle.laws.proofs.Step.{Step, step, ends, legal-step, need, crossing, crosses, moved-tree}
-use Rattle.laws.proofs.Runs.{Obeys, obeys, run-tree, pebbleCount-run, run-one}
-use Rattle.laws.proofs.Shortest.{shortest-least, shortest-falls, shortest-grows, shortest-by-one}
-use Rattle.laws.proofs.Calls.{answer-answered, movesOf-bytes, length-bytes, take-overwrite, totals-none}
+use Rattle.laws.proofs.Runs.{Obeys, pebbleCount-run, run-one}
+use Rattle.laws.proofs.Shortest.{shortest-least, shortest-falls, shortest-grows}
+use Rattle.laws.proofs.Calls.{answer-answered, movesOf-bytes, length-bytes, take-overwrite}
 use Rattle.laws.proofs.Moves.{obeys-accepted, accepted-obeys}
 use Rattle.laws.proofs.Demand3.{plan-optimal, plan-length}
-use Rattle.laws.proofs.Demand2.{checkFault-none}
 use Rattle.laws.proofs.Listed.{sorted-once, collect-listed, listed-collect, sorted-collect, length-collect, listed-map, map-listed, sorted-map, listed-below, below-listed, sorted-below}
 
 -- what is wanted of a legal push
@@ -246,32 +242,6 @@ module _ (y : Yard) (t : Tree y) where
       each : (v : ℕ) → Dec (v ≡ root y) → upwards v + downwards v + one (eqb v (root y)) * 1 ≤ 1
       each v (yes q) = rw (q, le-ltb 0 (surplus y (root y)) (omega (arith, root-even y t m)), le-ltb 0 (lacking y (root y)) (omega (arith, root-even y t m)), eq-eqb (root y) (root y) refl) (omega arith)
       each v (no d) = rw (ne-eqb v (root y) d) (omega (arith, sign (pebblesIn y v) (targetsIn y v) (decLe (pebblesIn y v) (targetsIn y v))))
-
--- each accepted push changes the shortest length by one, so their number is even or odd as that length's change is
-pub parity-obeys : {y z : Yard} {ms : List Move} → Obeys y ms z → (h : ℕ) × (shortest z + length ms ≡ shortest y + 2 * h)
-parity-obeys Obeys.done = (0, omega arith)
-parity-obeys (Obeys.next {y} {z} {m} {ms} s o) = go (shortest-by-one y m s) (parity-obeys o)
-  where
-    go : (shortest y ≡ shortest (moved y m) + 1) ⊎ (shortest (moved y m) ≡ shortest y + 1) → (h : ℕ) × (shortest z + length ms ≡ shortest (moved y m) + 2 * h)
-        → (h : ℕ) × (shortest z + length (m ∷ ms) ≡ shortest y + 2 * h)
-    go (inl e) r = (r .0, omega (arith, r .1))
-    go (inr e) r = (suc (r .0), omega (arith, r .1))
-
-pub parity-run : (y : Yard) → Tree y → (ms : List Move) → (h : ℕ) × (shortest (run y ms) + length (accepted y ms) ≡ shortest y + 2 * h)
-parity-run y t ms = parity-obeys (obeys ms y t)
-
--- the excess of every accepted plan is even
-pub excess-even : (y : Yard) (bs : List ℕ) (v : Verdict) → checkAnswer y bs ≡ answered v → v .excess % 2 ≡ 0
-unfolding checkFault
-excess-even y bs v e =
-    let a = answer-answered (checkFault y bs) _ v e in
-    let p = none-all (checkTests y bs) (a .0) in
-    let h = checkFault-none y (p .0) (totals-none y .0 (p .1 .0)) bs .0 (a .0) in
-    let r = parity-run y (p .0) (movesOf bs) in
-    let z = solved-iff (run y (movesOf bs)) (run-tree (obeys (movesOf bs) y (p .0)) (p .0)) .0 (h .2) in
-    let l : length (accepted y (movesOf bs)) ≡ length (movesOf bs) = ap length (h .1) in
-    let q : v .excess ≡ 2 * r .0 = omega (arith, r .1, ap (λ (w : Verdict). w .excess) (a .1)) in
-    rw q (mul-mod-right 2 (r .0))
 
 -- refusals 1 to 7 as the planner
 pub openings-matched : (y : Yard) (f : Fault) → matchedFault y ≡ some f → (room : ℕ) → openingsFault y room ≡ some f

@@ -204,7 +204,7 @@ afterHeader t rest = elim t [
   | true ↦ elim rest [ [] ↦ refused (row 1 2) | (b ∷ bs) ↦ mapAnswer columns (readNodes maxSize 0 (b ∷ bs)) ]
 ]
 
-readYard-header : (rest : List ℕ) → 0 < length rest → readYard (header ++ rest) ≡ mapAnswer columns (readNodes maxSize 0 rest)
+pub readYard-header : (rest : List ℕ) → 0 < length rest → readYard (header ++ rest) ≡ mapAnswer columns (readNodes maxSize 0 rest)
 unfolding readYard
 readYard-header [] l = absurd (omega arith)
 readYard-header (b ∷ rest) l = rw (take-append-seam header (b ∷ rest), same-self header, readYard) (rw (drop-append-seam header (b ∷ rest)))

@@ -1,22 +1,30 @@
 -- The check program: what it prints of a yard sheet and the moves behind it.
 use mathlib.Core.Path.{_≡_}
-use mathlib.Core.Bool.{true}
-use mathlib.Core.List.{List, [], _++_}
+use mathlib.Core.Bool.{true, false}
+use mathlib.Core.List.{List, [], _∷_, _++_}
 use mathlib.Core.Logic.{_⊎_}
-use Prim.Native.Nat.{ℕ, _<_}
+use Prim.Native.Nat.{ℕ, _+_, _<_}
 use lib.ListN.{length, getD}
-use Rattle.model.specs.Yard.{Yard}
-use Rattle.model.specs.Judge.{Fault}
+use Rattle.model.specs.Yard.{Yard, size}
+use Rattle.model.specs.Judge.{Fault, row}
 use Rattle.model.specs.Push.{Move}
 use Rattle.model.specs.Calls.Answers.{answered}
 use Rattle.model.specs.Calls.Plans.{bytes}
 use Rattle.model.specs.Calls.Checks.{Verdict, checkAnswer}
-use Rattle.model.specs.Sheets.{yardSheet, begins, moveLines, reportHead, report, refusalSheet, programPlan, program}
-use Rattle.model.specs.CheckSheets.{verdictSheet, checks}
+use Rattle.model.specs.Sheets.{line, yardSheet, begins, moveHead, moveLines, reportHead, report, refusalSheet, programPlan, program}
+use Rattle.model.specs.CheckSheets.{digitFirst, movesRead, verdictSheet, checks}
 
 -- moves that a sheet can hold: of numbers below 256
 abbrev pub ByteMoves : List Move → Type 0
 ByteMoves ms = (i : ℕ) → getD (bytes ms) i 0 < 256
+
+-- what ends the moves: the end of the input, or the head of a report
+abbrev pub Ends : List ℕ → Type 0
+Ends rest = (rest ≡ []) ⊎ (begins reportHead rest ≡ true)
+
+-- no line of a move stands in front
+abbrev pub NoMove : List ℕ → Type 0
+NoMove rest = (m : Move) (behind : List ℕ) → m .from < 256 → m .to < 256 → rest ≡ line (m .from ∷ m .to ∷ []) ++ behind → ⊥
 
 -- of a sheet that says the yard (`readYard sheet ≡ answered y`; `yardSheet y` is one for every yard that can be written)
 pub record SheetsChecked (sheet : List ℕ) (y : Yard) : Type 0 where
@@ -27,10 +35,12 @@ pub record SheetsChecked (sheet : List ℕ) (y : Yard) : Type 0 where
       → checks (sheet ++ (moveLines ms ++ (report z ns ++ rest))) ≡ verdictSheet (checkAnswer y (bytes ms))
   -- with what the move program printed for it, the number of moves printed, and that none is spare
   pub own : (ms : List Move) → programPlan y ≡ answered ms → checks (sheet ++ program sheet) ≡ verdictSheet (answered (record { moves = length ms; excess = 0 }))
-
--- what ends the moves: the end of the input, or the head of a report
-abbrev pub Ends : List ℕ → Type 0
-Ends rest = (rest ≡ []) ⊎ (begins reportHead rest ≡ true)
+  -- with something behind the moves that neither ends them nor begins with a move, 16 and the line where it stands, if no more moves stand before it than the checker takes:
+  -- the yard's lines are 1 to n + 1, the head of the moves is line n + 2
+  pub damaged : (ms : List Move) → ByteMoves ms → length ms < movesRead → (rest : List ℕ) → ¬ Ends rest → NoMove rest
+      → checks (sheet ++ (moveLines ms ++ rest)) ≡ refusalSheet (row 16 (size y + 3 + length ms))
+  -- with anything behind it but the head of a move sheet, or with nothing, 15 and that line; a line that begins with a digit would be one of the yard sheet
+  pub headless : (rest : List ℕ) → digitFirst rest ≡ false → begins moveHead rest ≡ false → checks (sheet ++ rest) ≡ refusalSheet (row 15 (size y + 2))
 
 -- an input that the checker's answer is about: a yard sheet, a move sheet directly behind it, and what ends that
 pub record Judged (input : List ℕ) (v : Verdict) : Type 0 where
