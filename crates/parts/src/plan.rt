@@ -20,13 +20,14 @@ fn plan_each(t: &[u8; 768], s: &mut [i16; 1280], plan: &mut [u8], parts: &[u8]) 
     requires { ⌜ ((y : Yard) × AskedParts y (now t) (now s) (now plan) (now parts)) ⌝ }
     ensures { λ r. ⌜ ((y : Yard) → AskedParts y (was t) (was s) (was plan) (was parts) → PlannedParts y (was plan) (became plan) r) ⌝ }
 {
+    let mut moves = [0u8; 512];
     let mut k = 0;
     let mut i = 0;
     while i < parts.len() {
         let v = i;
         i += 1;
         if wide(parts[v]) == v {
-            let m = balance_subtrees(t, s, &mut plan[2 * k..], parts, v, parts.len());
+            let m = balance_subtrees(t, s, &mut plan[2 * k..], &mut moves, parts, v, parts.len());
             k += m;
         }
     }

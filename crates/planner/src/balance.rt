@@ -15,7 +15,13 @@ use serve::pebble::draw_child;
 use serve::pebble::fill_child;
 
 // A turn of the loop at u, which holds a pebble: fills the child that is picked. Answers how many moves it took, which is none if no child lacks a pebble.
-fn inject_turn(t: &[u8; 768], s: &mut [i16; 1280], plan: &mut [u8], u: usize) -> usize
+fn inject_turn(
+    t: &[u8; 768],
+    s: &mut [i16; 1280],
+    plan: &mut [u8],
+    moves: &mut [u8; 512],
+    u: usize,
+) -> usize
     requires { ⌜ ((y : Yard) × AskedTurn true y (now t) (now s) (now plan) u) ⌝ }
     ensures { λ r. ⌜ ((y : Yard) → AskedTurn true y (was t) (was s) (was plan) u → TurnTaken true y u (was s) (became s) (was plan) (became plan) r) ⌝ }
 {
@@ -23,11 +29,17 @@ fn inject_turn(t: &[u8; 768], s: &mut [i16; 1280], plan: &mut [u8], u: usize) ->
     if c == u {
         return 0;
     }
-    fill_child(t, s, plan, u, c)
+    fill_child(t, s, plan, moves, u, c)
 }
 
 // A turn of the loop at u that does not fill: draws from the child that is picked.
-fn extract_turn(t: &[u8; 768], s: &mut [i16; 1280], plan: &mut [u8], u: usize) -> usize
+fn extract_turn(
+    t: &[u8; 768],
+    s: &mut [i16; 1280],
+    plan: &mut [u8],
+    moves: &mut [u8; 512],
+    u: usize,
+) -> usize
     requires { ⌜ ((y : Yard) × AskedTurn false y (now t) (now s) (now plan) u) ⌝ }
     ensures { λ r. ⌜ ((y : Yard) → AskedTurn false y (was t) (was s) (was plan) u → TurnTaken false y u (was s) (became s) (was plan) (became plan) r) ⌝ }
 {
@@ -35,32 +47,44 @@ fn extract_turn(t: &[u8; 768], s: &mut [i16; 1280], plan: &mut [u8], u: usize) -
     if c == u {
         return 0;
     }
-    draw_child(t, s, plan, u, c)
+    draw_child(t, s, plan, moves, u, c)
 }
 
 // A turn of the loop at u: if it holds a pebble a child that lacks one is filled; where it holds none, or no child lacks one, one is drawn from a child.
-fn turn(t: &[u8; 768], s: &mut [i16; 1280], plan: &mut [u8], u: usize) -> usize
+fn turn(
+    t: &[u8; 768],
+    s: &mut [i16; 1280],
+    plan: &mut [u8],
+    moves: &mut [u8; 512],
+    u: usize,
+) -> usize
     requires { ⌜ ((y : Yard) × AskedEven y (now t) (now s) (now plan) u) ⌝ }
     ensures { λ r. ⌜ ((y : Yard) → AskedEven y (was t) (was s) (was plan) u → TurnTaken (fills y u) y u (was s) (became s) (was plan) (became plan) r) ⌝ }
 {
     if s[256 + u] == 0 {
-        return extract_turn(t, s, plan, u);
+        return extract_turn(t, s, plan, moves, u);
     }
-    let m = inject_turn(t, s, plan, u);
+    let m = inject_turn(t, s, plan, moves, u);
     if m != 0 {
         return m;
     }
-    extract_turn(t, s, plan, u)
+    extract_turn(t, s, plan, moves, u)
 }
 
 // The loop at u: turns, until none makes a move; then no child has a demand, as u's own demand is 0.
-fn settle(t: &[u8; 768], s: &mut [i16; 1280], plan: &mut [u8], u: usize) -> usize
+fn settle(
+    t: &[u8; 768],
+    s: &mut [i16; 1280],
+    plan: &mut [u8],
+    moves: &mut [u8; 512],
+    u: usize,
+) -> usize
     requires { ⌜ ((y : Yard) × AskedEven y (now t) (now s) (now plan) u) ⌝ }
     ensures { λ r. ⌜ ((y : Yard) → AskedEven y (was t) (was s) (was plan) u → Settled y u (became s) (was plan) (became plan) r) ⌝ }
 {
     let mut k = 0;
     loop {
-        let m = turn(t, s, &mut plan[2 * k..], u);
+        let m = turn(t, s, &mut plan[2 * k..], moves, u);
         if m == 0 {
             return k;
         }
@@ -86,6 +110,7 @@ pub fn balance_subtrees(
     t: &[u8; 768],
     s: &mut [i16; 1280],
     plan: &mut [u8],
+    moves: &mut [u8; 512],
     parts: &[u8],
     u: usize,
     height: usize,
@@ -93,13 +118,13 @@ pub fn balance_subtrees(
     requires { ⌜ ((y : Yard) × AskedEven y (now t) (now s) (now plan) u × (weight (y .parents) u ≤ height) × (size y ≤ length (now parts))) ⌝ }
     ensures { λ r. ⌜ ((y : Yard) → AskedEven y (was t) (was s) (was plan) u → Balanced (entered (was parts)) y u (became s) (was plan) (became plan) r) ⌝ }
 {
-    let mut k = settle(t, s, plan, u);
+    let mut k = settle(t, s, plan, moves, u);
     let mut c = wide(t[256 + u]);
     while c != u {
         let v = c;
         c = wide(t[512 + v]);
         if enters(t, parts, v) {
-            let m = balance_subtrees(t, s, &mut plan[2 * k..], parts, v, height - 1);
+            let m = balance_subtrees(t, s, &mut plan[2 * k..], moves, parts, v, height - 1);
             k += m;
         }
     }

@@ -36,7 +36,8 @@ fn plan_sheet(
     }
     let t = tables(parents);
     let root = first_own(parents, 0);
-    let count = balance_subtrees(&t, &mut s, plan, parents, root, n);
+    let mut moves = [0u8; 512];
+    let count = balance_subtrees(&t, &mut s, plan, &mut moves, parents, root, n);
     Counted::Number(count)
 }
 

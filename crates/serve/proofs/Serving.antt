@@ -157,6 +157,7 @@ written-before ms x z k n list l h =
 pub filled-last : {b : Bool} {y : Yard} {n end u v k : ℕ} {s s′ : List ℤ} {list list′ : List ℕ}
     → end ≡ n + 1 → end ≤ 256 → length list ≡ 512 → u ≡ up (y .parents) v → Cleared b y n v s s′ (recorded b u v n list) list′ k → Filled b y end v s s′ list list′ k
 filled-last {b} {y} {n} {end} {u} {v} {k} {list = list} h f l q c = record {
+  long = l;
   moves = c .moves ++ (crossing (y .parents) b v ∷ []);
   serves = c .serves;
   counted = omega (arith, c .counted, length-append (c .moves) (crossing (y .parents) b v ∷ []));
@@ -274,16 +275,16 @@ module _ {b : Bool} {y : Yard} {t : List ℕ} {s₀ s : List ℤ} {plan : List �
     made = record { kept = serve-kept (direct e); written = rw (crossing-is (y .parents) b v, ← serve-up) (recorded-split b u v 0 plan (omega (arith, serve-room (direct e)))); counted = refl };
   }
 
-  module _ {s′ : List ℤ} {list list′ : List ℕ} {k : ℕ} (l : length list ≡ 512) (f : Filled b y 256 v s s′ list list′ k) where
+  module _ {s′ : List ℤ} {list list′ : List ℕ} {k : ℕ} (f : Filled b y 256 v s s′ list list′ k) where
     pub serve-few : Small s′ (256 + u)
     serve-few = rw (f .state) (omega (arith, few u u-lt, served-near y grown (f .serves) (a .due) u (serve-small .0) s))
 
     -- the list, and room for them
     front : length (take (2 * k) list) ≡ 2 * k
-    front = length-take-le (2 * k) list (omega (arith, f .counted))
+    front = length-take-le (2 * k) list (omega (arith, f .long, f .counted))
 
     pub serve-list : (length list′ ≡ 512) × (k ≤ 256) × (512 ≤ length plan + 2 * k)
-    serve-list = (ap length (f .written) ∙ omega (arith, front, f .counted, length-append (take (2 * k) list) (bytes (f .moves) ++ drop 512 list), length-append (bytes (f .moves)) (drop 512 list), length-bytes (f .moves), length-drop 512 list), omega (arith, f .counted), omega (arith, f .counted, serve-room (f .serves)))
+    serve-list = (ap length (f .written) ∙ omega (arith, front, f .counted, length-append (take (2 * k) list) (bytes (f .moves) ++ drop 512 list), length-append (bytes (f .moves)) (drop 512 list), length-bytes (f .moves), length-drop 512 list, f .long), omega (arith, f .counted), omega (arith, f .counted, serve-room (f .serves)))
 
     pub serve-all : {s″ : List ℤ} {plan′ : List ℕ} {count : ℕ} → s″ ≡ stepped b (256 + u) s′ → plan′ ≡ overwrite (drop (2 * k) list′) plan → count + k ≡ 256 → Served b y v s″ plan plan′ count
     serve-all p q c = record {
@@ -291,7 +292,7 @@ module _ {b : Bool} {y : Yard} {t : List ℕ} {s₀ s : List ℤ} {plan : List �
       serves = f .serves;
       made = record {
         kept = rw (p, f .state) (serve-kept (f .serves));
-        written = q ∙ rw (f .written, drop-at (take (2 * k) list) (bytes (f .moves) ++ drop 512 list) (2 * k) front, drop-of-length-le list {i = 512} (omega arith), append-nil (bytes (f .moves)));
+        written = q ∙ rw (f .written, drop-at (take (2 * k) list) (bytes (f .moves) ++ drop 512 list) (2 * k) front, drop-of-length-le list {i = 512} (omega (arith, f .long)), append-nil (bytes (f .moves)));
         counted = omega (arith, f .counted);
       };
     }

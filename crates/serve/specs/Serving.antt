@@ -156,6 +156,7 @@ writtenUpTo k end ms list = take (2 * k) list ++ (bytes ms ++ drop (2 * end) lis
 
 -- what it gives: the moves of Algorithm 2 or 3 stand from place k up to `end`, and the state is the one after them, but for the count at v's parent
 pub record Filled (b : Bool) (y : Yard) (end v : ℕ) (s s′ : List ℤ) (list list′ : List ℕ) (k : ℕ) : Type 0 where
+  pub long : length list ≡ 512
   pub moves : List Move
   pub serves : Serves choice y b v moves
   pub counted : k + length moves ≡ end

@@ -123,8 +123,16 @@ fn hand_over(moves: &[u8], k: usize, plan: &mut [u8]) -> usize
     256 - k
 }
 
-// Fills the child c of u that was picked, by moves at the front of the plan; answers how many. Mostly c has a place, and it is one.
-pub fn fill_child(t: &[u8; 768], s: &mut [i16; 1280], plan: &mut [u8], u: usize, c: usize) -> usize
+// Fills the child c of u that was picked, by moves at the front of the plan; answers how many. Mostly c has a place, and it is one;
+// else they are written to a list that is lent for it, and handed over.
+pub fn fill_child(
+    t: &[u8; 768],
+    s: &mut [i16; 1280],
+    plan: &mut [u8],
+    moves: &mut [u8; 512],
+    u: usize,
+    c: usize,
+) -> usize
     requires { ⌜ ((y : Yard) × (s₀ : List ℤ) × AskedServe true y (now t) s₀ (now s) (now plan) u c) ⌝ }
     ensures { λ r. ⌜ ((y : Yard) (s₀ : List ℤ) → AskedServe true y (was t) s₀ (was s) (was plan) u c → Served true y c (became s) (was plan) (became plan) r) ⌝ }
 {
@@ -132,14 +140,20 @@ pub fn fill_child(t: &[u8; 768], s: &mut [i16; 1280], plan: &mut [u8], u: usize,
         move_pebble(s, plan, u, c, true);
         return 1;
     }
-    let mut moves = [0u8; 512];
-    let k = inject_pebble(t, s, &mut moves, 256, u, c);
+    let k = inject_pebble(t, s, moves, 256, u, c);
     count_pebble(s, u, true);
-    hand_over(&moves, k, plan)
+    hand_over(moves, k, plan)
 }
 
 // Draws from the child c of u that was picked, in the same way.
-pub fn draw_child(t: &[u8; 768], s: &mut [i16; 1280], plan: &mut [u8], u: usize, c: usize) -> usize
+pub fn draw_child(
+    t: &[u8; 768],
+    s: &mut [i16; 1280],
+    plan: &mut [u8],
+    moves: &mut [u8; 512],
+    u: usize,
+    c: usize,
+) -> usize
     requires { ⌜ ((y : Yard) × (s₀ : List ℤ) × AskedServe false y (now t) s₀ (now s) (now plan) u c) ⌝ }
     ensures { λ r. ⌜ ((y : Yard) (s₀ : List ℤ) → AskedServe false y (was t) s₀ (was s) (was plan) u c → Served false y c (became s) (was plan) (became plan) r) ⌝ }
 {
@@ -147,8 +161,7 @@ pub fn draw_child(t: &[u8; 768], s: &mut [i16; 1280], plan: &mut [u8], u: usize,
         move_pebble(s, plan, u, c, false);
         return 1;
     }
-    let mut moves = [0u8; 512];
-    let k = extract_pebble(t, s, &mut moves, 256, u, c);
+    let k = extract_pebble(t, s, moves, 256, u, c);
     count_pebble(s, u, false);
-    hand_over(&moves, k, plan)
+    hand_over(moves, k, plan)
 }

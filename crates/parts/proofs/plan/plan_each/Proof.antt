@@ -17,10 +17,10 @@ use Rattle.parts.proofs.plan.plan_each.Statement.{statement}
 use Rattle.parts.proofs.plan.plan_each.Tie as tie
 
 abbrev Inv-loop : tie.InvT-loop
-Inv-loop t s₀ plan₀ parts k₀ i₀ s plan k i = (y : Yard) → AskedParts y t s₀ plan₀ parts → Before y s plan₀ plan k i
+Inv-loop t s₀ plan₀ parts moves₀ k₀ i₀ s plan moves k i = (y : Yard) → AskedParts y t s₀ plan₀ parts → Before y s plan₀ plan k i
 
 abbrev μ-loop : tie.MeasureT-loop
-μ-loop t s₀ plan₀ parts k₀ i₀ s plan k i = length parts - i
+μ-loop t s₀ plan₀ parts moves₀ k₀ i₀ s plan moves k i = length parts - i
 
 loop-holds : tie.Need-loop-holds Inv-loop μ-loop
 loop-holds c y a = before-none a
@@ -76,28 +76,28 @@ part-balance-subtrees-end c = omega arith
 
 balance-subtrees-requires : tie.Need-balance-subtrees-requires Inv-loop μ-loop
 balance-subtrees-requires c κs =
-    let e = c .before .before in
+    let e = c .before .before .before in
     let p = call (turn e .before) .pre in
     (_, asks e (p .0) (p .1), omega (arith, parts-long (p .1), weight-le (p .0 .parents) (turn e .before .loop .i)), omega (arith, parts-long (p .1)))
 
 -- one part more
 planned : (c : tie.After-balance-subtrees Inv-loop μ-loop) (y : Yard)
-    → let l = turn (c .before .before .before) .before in
+    → let l = turn (c .before .before .before .before) .before in
     Asked l y → Before y (c .balance-subtrees .last .1 .0) (call l .args .plan .now) (back (l .loop .plan) (l .loop .k) (c .balance-subtrees .last .1 .1 .0)) (l .loop .k + c .balance-subtrees .result) (l .loop .i + 1)
 planned c y a =
-    let e = c .before .before .before in
+    let e = c .before .before .before .before in
     let i = turn e in
     before-next a (i .before .loop .inv y a) (node i y a) (itself e) (c .balance-subtrees .ensures _ (asks e y a))
 
 add-k : tie.Need-add-k Inv-loop μ-loop
 add-k c =
     let m = c .before .before in
-    let p = call (turn (m .before .before .before) .before) in
+    let p = call (turn (m .before .before .before .before) .before) in
     let b = planned m (p .pre .0) (p .pre .1) in
     omega (arith, made-length (b .good) (p .pre .1 .room) (b .made), p .good)
 
 loop-less : tie.Need-loop-less Inv-loop μ-loop
-loop-less c = omega (arith, turn (c .before .before .before .before .before) .loop-test .taken)
+loop-less c = omega (arith, turn (c .before .before .before .before .before .before) .loop-test .taken)
 
 loop-again : tie.Need-loop-again Inv-loop μ-loop
 loop-again c y a = planned (c .before .before) y a

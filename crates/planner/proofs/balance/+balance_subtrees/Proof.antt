@@ -27,33 +27,33 @@ use Rattle.planner.proofs.balance.enters.Reads as enters
 use Rattle.planner.proofs.balance.+balance_subtrees.{statement}
 use Rattle.planner.proofs.balance.+balance_subtrees.Tie.{close}
 
-abbrev μ-tree : Measures 4 kinds.ps ℕ
-μ-tree κs a = a .1 .1 .1 .1 .1 .0
+abbrev μ-tree : Measures 5 kinds.ps ℕ
+μ-tree κs a = a .1 .1 .1 .1 .1 .1 .0
 
-abbrev tree-at : ℕ → In 4 kinds.ps
-tree-at n = and 4 kinds.ps (is 4 kinds.ps μ-tree n) tree.Pre
+abbrev tree-at : ℕ → In 5 kinds.ps
+tree-at n = and 5 kinds.ps (is 5 kinds.ps μ-tree n) tree.Pre
 
-abbrev tree-below : ℕ → In 4 kinds.ps
-tree-below n = and 4 kinds.ps (falls 4 kinds.ps _<_ μ-tree n) tree.Pre
+abbrev tree-below : ℕ → In 5 kinds.ps
+tree-below n = and 5 kinds.ps (falls 5 kinds.ps _<_ μ-tree n) tree.Pre
 
 abbrev claims : ℕ → lts.Claims
 claims n = (settle.Asked, settle.Learnt, wide.Asked, wide.Learnt, enters.Asked, enters.Learnt, tree-below n, tree.Post)
 
 abbrev Inv-loop : lts.InvT-loop
-Inv-loop t s₀ plan₀ parts u height k₀ c₀ s plan k c = (y : Yard) (before : List ℕ) → LoopEnded y before t s₀ plan₀ k₀ u → LeftFrom (entered parts) y u s before plan k c
+Inv-loop t s₀ plan₀ moves₀ parts u height k₀ c₀ s plan moves k c = (y : Yard) (before : List ℕ) → LoopEnded y before t s₀ plan₀ k₀ u → LeftFrom (entered parts) y u s before plan k c
 
 abbrev μ-loop : lts.MeasureT-loop
-μ-loop t s₀ plan₀ parts u height k₀ c₀ s plan k c = ahead u c
+μ-loop t s₀ plan₀ moves₀ parts u height k₀ c₀ s plan moves k c = ahead u c
 
 module _ (n : ℕ) where
   settle-requires : lts.Need-settle-requires (claims n) (tree-at n) tree.Post Inv-loop μ-loop
-  settle-requires c κs = let p = c .before .before .before .before .pre .1 in (p .0, p .1)
+  settle-requires c κs = let p = c .before .before .before .before .before .pre .1 in (p .0, p .1)
 
   add-wide : lts.Need-add-wide (claims n) (tree-at n) tree.Post Inv-loop μ-loop
-  add-wide c = let a = c .before .before .before .before .before .before .before .pre .1 .1 in omega (arith, node-small (a .described) (a .node))
+  add-wide c = let a = c .before .before .before .before .before .before .before .before .pre .1 .1 in omega (arith, node-small (a .described) (a .node))
 
   element-copy-out-wide : lts.Need-element-copy-out-wide (claims n) (tree-at n) tree.Post Inv-loop μ-loop
-  element-copy-out-wide c = let a = c .before .before .before .before .before .before .before .pre .1 .1 in omega (arith, node-small (a .described) (a .node))
+  element-copy-out-wide c = let a = c .before .before .before .before .before .before .before .before .pre .1 .1 in omega (arith, node-small (a .described) (a .node))
 
   wide-requires : lts.Need-wide-requires (claims n) (tree-at n) tree.Post Inv-loop μ-loop
   wide-requires c κs = search needs
@@ -63,7 +63,7 @@ module _ (n : ℕ) where
 
   -- the call that a loop's head belongs to, and what its loop at u left
   abbrev call : lts.At-loop (claims n) (tree-at n) tree.Post Inv-loop μ-loop → lts.Start (claims n) (tree-at n) tree.Post Inv-loop μ-loop
-  call c = c .before .before .before .before .before .before .before .before .before .before
+  call c = c .before .before .before .before .before .before .before .before .before .before .before
 
   abbrev Ended : lts.At-loop (claims n) (tree-at n) tree.Post Inv-loop μ-loop → Yard → List ℕ → Type 0
   Ended c y before =
@@ -128,21 +128,21 @@ module _ (n : ℕ) where
       child-asked (a .asked) (left-child (a .asked) l d) (left-here (a .asked) l d)
 
   sub-tree-2 : lts.Need-sub-balance-subtrees-2 (claims n) (tree-at n) tree.Post Inv-loop μ-loop
-  sub-tree-2 c = let i = turn (c .before .before) in let p = call (i .before) .pre .1 in omega (arith, p .2, child-lower (p .1) (child i))
+  sub-tree-2 c = let i = turn (c .before .before .before) in let p = call (i .before) .pre .1 in omega (arith, p .2, child-lower (p .1) (child i))
 
   tree-requires : lts.Need-balance-subtrees-requires (claims n) (tree-at n) tree.Post Inv-loop μ-loop
   tree-requires c κs =
-      let i = turn (c .before .before) in
+      let i = turn (c .before .before .before) in
       let p = call (i .before) .pre in
       (omega (arith, p .0, p .1 .2, child-lower (p .1 .1) (child i)), (_, asks i _ _ (ended (i .before) _ (p .1 .1)), omega (arith, p .1 .2, child-lower (p .1 .1) (child i)), p .1 .3))
 
   -- one child more
   stepped : (c : lts.After-balance-subtrees (claims n) (tree-at n) tree.Post Inv-loop μ-loop) (y : Yard) (before : List ℕ)
-      → let l = turn (c .before .before .before) .before in
+      → let l = turn (c .before .before .before .before) .before in
       Ended l y before
       → ChildrenLeft (entered (call l .args .parts .now)) y (call l .args .u) (c .balance-subtrees .last .1 .0) before (back (l .loop .plan) (l .loop .k) (c .balance-subtrees .last .1 .1 .0)) (l .loop .k + c .balance-subtrees .result) (childrenFrom (y .parents) (call l .args .u) (l .loop .c + 1))
   stepped c y before a =
-      let e = c .before .before .before in
+      let e = c .before .before .before .before in
       let i = turn e in
       let l = i .before .loop .inv y before a in
       let d = i .loop-test .taken in
@@ -151,7 +151,7 @@ module _ (n : ℕ) where
   add-k : lts.Need-add-k (claims n) (tree-at n) tree.Post Inv-loop μ-loop
   add-k c =
       let m = c .before .before in
-      let l = turn (m .before .before .before) .before in
+      let l = turn (m .before .before .before .before) .before in
       let p = call l in
       let b = stepped m _ _ (ended l _ (p .pre .1 .1)) .begun in
       omega (arith, made-length (b .good) (p .pre .1 .1 .room) (b .made), p .good)
@@ -163,13 +163,13 @@ module _ (n : ℕ) where
       rw (c .wide2 .ensures .0) (ahead-falls (i .loop-test .taken) (small i) (next-is (call (i .before) .pre .1 .1 .described .tables) (child i)))
 
   loop-less : lts.Need-loop-less (claims n) (tree-at n) tree.Post Inv-loop μ-loop
-  loop-less c = falls-on (c .before .before .before .before .before .before .before)
+  loop-less c = falls-on (c .before .before .before .before .before .before .before .before)
 
   loop-again : lts.Need-loop-again (claims n) (tree-at n) tree.Post Inv-loop μ-loop
   loop-again c y before a =
       let m = c .before .before in
-      let i = turn (m .before .before .before) in
-      let w = m .before .before .before .before .before in
+      let i = turn (m .before .before .before .before) in
+      let w = m .before .before .before .before .before .before in
       left-behind (a .asked) (i .before .loop .inv y before a) (i .loop-test .taken) (w .wide2 .ensures .0) (stepped m y before a)
 
   loop-less-2 : lts.Need-loop-less-2 (claims n) (tree-at n) tree.Post Inv-loop μ-loop

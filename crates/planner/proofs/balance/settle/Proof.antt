@@ -16,10 +16,10 @@ use Rattle.planner.proofs.balance.settle.Statement.{statement}
 use Rattle.planner.proofs.balance.settle.Tie as tie
 
 abbrev Inv-loop : tie.InvT-loop
-Inv-loop t s₀ plan₀ u k₀ s plan k = (y : Yard) → AskedEven y t s₀ plan₀ u → Turned y u s plan₀ plan k
+Inv-loop t s₀ plan₀ moves₀ u k₀ s plan moves k = (y : Yard) → AskedEven y t s₀ plan₀ u → Turned y u s plan₀ plan k
 
 abbrev μ-loop : tie.MeasureT-loop
-μ-loop t s₀ plan₀ u k₀ s plan k = length plan₀ - 2 * k
+μ-loop t s₀ plan₀ moves₀ u k₀ s plan moves k = length plan₀ - 2 * k
 
 loop-holds : tie.Need-loop-holds Inv-loop μ-loop
 loop-holds c y a = turn-first a
@@ -57,34 +57,34 @@ part-turn-end c = omega arith
 
 turn-requires : tie.Need-turn-requires Inv-loop μ-loop
 turn-requires c κs =
-    let l = c .before .before in
+    let l = c .before .before .before in
     let p = call l .pre in
     (_, here l (p .0) (p .1))
 
 -- the turn
 taken : (c : tie.After-turn Inv-loop μ-loop) (y : Yard)
-    → let l = c .before .before .before in
+    → let l = c .before .before .before .before in
     let s = call l .args in
     (a : AskedEven y (s .t .now) (s .s .now) (s .plan .now) (s .u))
     → TurnTaken (fills (run y (l .loop .inv y a .moves)) (s .u)) (run y (l .loop .inv y a .moves)) (s .u) (l .loop .s) (c .turn .last .1 .0) (rest (l .loop .plan) (l .loop .k)) (c .turn .last .1 .1 .0) (c .turn .result)
-taken c y a = c .turn .ensures _ (here (c .before .before .before) y a)
+taken c y a = c .turn .ensures _ (here (c .before .before .before .before) y a)
 
 -- no turn more
 last : (c : tie.Then1 Inv-loop μ-loop) (y : Yard)
     → let d = c .before .before .before in
-    let l = d .before .before .before in
+    let l = d .before .before .before .before in
     let s = call l .args in
     (a : AskedEven y (s .t .now) (s .s .now) (s .plan .now) (s .u))
     → let ms = l .loop .inv y a .moves in
     Settles fills choice y (s .u) ms × Made y ms (d .turn .last .1 .0) (s .plan .now) (back (l .loop .plan) (l .loop .k) (d .turn .last .1 .1 .0)) (l .loop .k)
 last c y a =
     let d = c .before .before .before in
-    let l = d .before .before .before in
+    let l = d .before .before .before .before in
     turn-last (l .loop .inv y a) (here l y a) (taken d y a) (c .if1 .taken)
 
 same-length : tie.Need-same-length Inv-loop μ-loop
 same-length c =
-    let l = c .before .before .before .before .before .before in
+    let l = c .before .before .before .before .before .before .before in
     let p = call l .pre in
     made-length (l .loop .inv (p .0) (p .1) .good) (p .1 .room) (last c (p .0) (p .1) .1) .0
 
@@ -94,24 +94,24 @@ returns c y a = let e = last c y a in record { moves = _; settles = e .0; made =
 -- one turn more
 next : (c : tie.Else1 Inv-loop μ-loop) (y : Yard)
     → let d = c .before .before .before in
-    let l = d .before .before .before in
+    let l = d .before .before .before .before in
     let s = call l .args in
     AskedEven y (s .t .now) (s .s .now) (s .plan .now) (s .u)
     → Turned y (s .u) (d .turn .last .1 .0) (s .plan .now) (back (l .loop .plan) (l .loop .k) (d .turn .last .1 .1 .0)) (l .loop .k + d .turn .result)
 next c y a =
     let d = c .before .before .before in
-    let l = d .before .before .before in
+    let l = d .before .before .before .before in
     turn-next (l .loop .inv y a) (here l y a) (taken d y a) (c .if1 .left)
 
 add-k : tie.Need-add-k Inv-loop μ-loop
 add-k c =
-    let p = call (c .before .before .before .before .before .before) in
+    let p = call (c .before .before .before .before .before .before .before) in
     let b = next c (p .pre .0) (p .pre .1) in
     omega (arith, made-length (b .good) (p .pre .1 .room) (b .made), p .good)
 
 loop-less : tie.Need-loop-less Inv-loop μ-loop
 loop-less c =
-    let p = call (c .before .before .before .before .before .before) .pre in
+    let p = call (c .before .before .before .before .before .before .before) .pre in
     let b = next c (p .0) (p .1) in
     omega (arith, c .if1 .left, made-length (b .good) (p .1 .room) (b .made))
 

@@ -89,7 +89,7 @@ found c = let e = c .before .before .before .before .before in root-found (yard 
 
 balance-subtrees-requires : tie.Need-balance-subtrees-requires
 balance-subtrees-requires c κs =
-    let f = c .before .before .before in
+    let f = c .before .before .before .before in
     let o = f .before .before in
     let e = f .before .before .before .before .before in
     let y = yard (begin e) in
@@ -101,7 +101,7 @@ same-length c = search needs
 returns-3 : tie.Need-returns-3
 returns-3 c =
     let a = c .before .before in
-    let f = a .before .before .before .before in
+    let f = a .before .before .before .before .before in
     let o = f .before .before in
     let e = f .before .before .before .before .before in
     let y = yard (begin e) in

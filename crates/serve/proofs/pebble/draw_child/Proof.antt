@@ -1,10 +1,9 @@
 -- `serve::pebble::draw_child` meets its contract: from a c that holds a pebble it goes by a single move, else by those that are handed over (the laws are in Serving).
 use borrow.Author.Needs.{needs}
-use mathlib.Core.Path.{_≡_, refl, sym, ap, _∙_}
+use mathlib.Core.Path.{_≡_, ap, _∙_}
 use mathlib.Core.Bool.{false}
 use mathlib.Core.List.{List}
 use native.Mathlib.Omega.{arith}
-use lib.ListN.{replicate}
 use lib.IntN.{ℤ}
 use mir.Syntax.{w16}
 use mir.Val.{ofZ}
@@ -53,26 +52,20 @@ extract-pebble-requires c κs = let p = c .before .before .before .before .befor
 filled : (c : tie.After-extract-pebble) (y : Yard) (s₀ : List ℤ)
     → let s = c .before .before .before .before .before .before .args in
     AskedServe false y (s .t .now) s₀ (s .s .now) (s .plan .now) (s .u) (s .c)
-    → Filled false y 256 (s .c) (s .s .now) (c .extract-pebble .last .1 .0) (replicate 512 0) (c .extract-pebble .last .1 .1 .0) (c .extract-pebble .result)
+    → Filled false y 256 (s .c) (s .s .now) (c .extract-pebble .last .1 .0) (s .moves .now) (c .extract-pebble .last .1 .1 .0) (c .extract-pebble .result)
 filled c y s₀ a = c .extract-pebble .ensures y (serve-asked a) (serve-up a)
 
 count-pebble-requires : tie.Need-count-pebble-requires
 count-pebble-requires c κs =
     let k = c .before in
     let p = k .before .before .before .before .before .before .pre in
-    (serve-small (p .2) .0, serve-few (p .2) refl (filled k (p .0) (p .1) (p .2)))
-
-slice-aggregate-hand-over : tie.Need-slice-aggregate-hand-over
-slice-aggregate-hand-over c =
-    let k = c .before .before .before in
-    let p = k .before .before .before .before .before .before .pre in
-    sym (serve-list (p .2) refl (filled k (p .0) (p .1) (p .2)) .0)
+    (serve-small (p .2) .0, serve-few (p .2) (filled k (p .0) (p .1) (p .2)))
 
 hand-over-requires : tie.Need-hand-over-requires
 hand-over-requires c κs =
-    let k = c .before .before .before .before in
+    let k = c .before .before .before .before .before in
     let p = k .before .before .before .before .before .before .pre in
-    serve-list (p .2) refl (filled k (p .0) (p .1) (p .2))
+    serve-list (p .2) (filled k (p .0) (p .1) (p .2))
 
 same-length-2 : tie.Need-same-length-2
 same-length-2 c = search needs
@@ -80,8 +73,8 @@ same-length-2 c = search needs
 returns-2 : tie.Need-returns-2
 returns-2 c y s₀ a =
     let h = c .before .before in
-    let n = c .before .before .before .before .before in
-    serve-all a refl (filled (n .before .before) y s₀ a) (n .count-pebble .ensures) (h .hand-over .ensures .1) (h .hand-over .ensures .0)
+    let n = h .before .before .before .before in
+    serve-all a (filled (n .before .before) y s₀ a) (n .count-pebble .ensures) (h .hand-over .ensures .1) (h .hand-over .ensures .0)
 
 pub draw-child-spec : {M : Type 1} → statement M
 draw-child-spec =
@@ -95,7 +88,6 @@ draw-child-spec =
     returns
     extract-pebble-requires
     count-pebble-requires
-    slice-aggregate-hand-over
     hand-over-requires
     same-length-2
     returns-2)

@@ -1,9 +1,8 @@
 -- `serve::pebble::fill_child` meets its contract: a c with a place is filled by a single move, a full one by those that are handed over (the laws are in Serving).
 use borrow.Author.Needs.{needs}
-use mathlib.Core.Path.{_≡_, refl, sym, ap, _∙_}
+use mathlib.Core.Path.{_≡_, ap, _∙_}
 use mathlib.Core.Bool.{true, not}
 use mathlib.Core.List.{List}
-use lib.ListN.{replicate}
 use lib.IntN.{ℤ}
 use Rattle.model.specs.Yard.{Yard, pebble, capacity, full}
 use Rattle.serve.specs.Serving.{AskedServe, Filled}
@@ -43,26 +42,20 @@ inject-pebble-requires c κs = let p = c .before .before .before .before .before
 filled : (c : tie.After-inject-pebble) (y : Yard) (s₀ : List ℤ)
     → let s = c .before .before .before .before .before .before .before .args in
     AskedServe true y (s .t .now) s₀ (s .s .now) (s .plan .now) (s .u) (s .c)
-    → Filled true y 256 (s .c) (s .s .now) (c .inject-pebble .last .1 .0) (replicate 512 0) (c .inject-pebble .last .1 .1 .0) (c .inject-pebble .result)
+    → Filled true y 256 (s .c) (s .s .now) (c .inject-pebble .last .1 .0) (s .moves .now) (c .inject-pebble .last .1 .1 .0) (c .inject-pebble .result)
 filled c y s₀ a = c .inject-pebble .ensures y (serve-asked a) (serve-up a)
 
 count-pebble-requires : tie.Need-count-pebble-requires
 count-pebble-requires c κs =
     let k = c .before in
     let p = k .before .before .before .before .before .before .before .pre in
-    (serve-small (p .2) .0, serve-few (p .2) refl (filled k (p .0) (p .1) (p .2)))
-
-slice-aggregate-hand-over : tie.Need-slice-aggregate-hand-over
-slice-aggregate-hand-over c =
-    let k = c .before .before .before in
-    let p = k .before .before .before .before .before .before .before .pre in
-    sym (serve-list (p .2) refl (filled k (p .0) (p .1) (p .2)) .0)
+    (serve-small (p .2) .0, serve-few (p .2) (filled k (p .0) (p .1) (p .2)))
 
 hand-over-requires : tie.Need-hand-over-requires
 hand-over-requires c κs =
-    let k = c .before .before .before .before in
+    let k = c .before .before .before .before .before in
     let p = k .before .before .before .before .before .before .before .pre in
-    serve-list (p .2) refl (filled k (p .0) (p .1) (p .2))
+    serve-list (p .2) (filled k (p .0) (p .1) (p .2))
 
 same-length-2 : tie.Need-same-length-2
 same-length-2 c = search needs
@@ -70,8 +63,8 @@ same-length-2 c = search needs
 returns-2 : tie.Need-returns-2
 returns-2 c y s₀ a =
     let h = c .before .before in
-    let n = c .before .before .before .before .before in
-    serve-all a refl (filled (n .before .before) y s₀ a) (n .count-pebble .ensures) (h .hand-over .ensures .1) (h .hand-over .ensures .0)
+    let n = h .before .before .before .before in
+    serve-all a (filled (n .before .before) y s₀ a) (n .count-pebble .ensures) (h .hand-over .ensures .1) (h .hand-over .ensures .0)
 
 pub fill-child-spec : {M : Type 1} → statement M
 fill-child-spec =
@@ -83,7 +76,6 @@ fill-child-spec =
     returns
     inject-pebble-requires
     count-pebble-requires
-    slice-aggregate-hand-over
     hand-over-requires
     same-length-2
     returns-2)
