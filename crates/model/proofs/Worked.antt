@@ -8,7 +8,7 @@ use Prim.Native.Nat.{ℕ, zero, suc, _≤_, _<_}
 use Prim.Native.String.{String}
 use native.Mathlib.Omega.{arith}
 use lib.Dec.{eqb}
-use lib.ListN.{length, take, replicate}
+use lib.ListN.{length, take, drop, replicate}
 use lib.IntN.{ℤ, pos, negsuc}
 use Rattle.model.specs.declared.Event.{Event}
 use Rattle.model.specs.declared.Event.the-variants.{PebbleArrives, PebbleLeaves, TargetSet, TargetCleared}
@@ -17,7 +17,7 @@ use Rattle.model.specs.Judge.{Fault, row, fault, judge, matchedFault}
 use Rattle.model.specs.Push.{Move, push, moveFault, pushFault, legal, shifted, after, accepted, count}
 use Rattle.model.specs.Plan.{needy, lowestChild, greatest, neediestChild, choice, fills, inject, extract, turn, settle, each, balance, planWithin, planBy, plan}
 use Rattle.model.specs.Follow.{placed, starts, occurs, At, Follows, route, crossings, came, LastFirst, firstAt, lastIn, lifo, displaced}
-use Rattle.model.specs.Calls.Answers.{Answer, answered, refused, range}
+use Rattle.model.specs.Calls.Answers.{Answer, answered, refused, mapAnswer, range, inC, zeroInC, noted}
 use Rattle.model.specs.Calls.Demands.{demandsFault, demandsList, Length, boundAnswer, displacedAnswer, longestAnswer}
 use Rattle.model.specs.Calls.Events.{demandsAfter, eventFault, eventPebbles, eventTargets, eventDemands, console, Happening, happens, leaves, runLeaves}
 use Rattle.model.specs.Distance.{anyOf, reaches, distance}
@@ -25,18 +25,20 @@ use Rattle.model.specs.Calls.Distances.{Nearest, nearest, nearestFault, 
 use Rattle.model.specs.Calls.Plans.{bytes, movesOf, planFault, planAnswer, planList}
 use Rattle.model.specs.Parts.{climbed, topmost, tops, masked, partsPlan}
 use Rattle.model.specs.Calls.Parts.{partsFault, partsAnswer, partsPlanList, partsList}
-use Rattle.model.specs.Calls.Checks.{movesFault, Verdict, checkFault, checkAnswer, Trial, trialFault, trialAnswer, trialPebbles}
+use Rattle.model.specs.Calls.Checks.{movesFault, Verdict, checkFault, checkAnswer, Trial, trialFault, trialAnswer, trialPebbles, trialInC}
 use Rattle.model.specs.Wear.{wearAt, Wear, wearOver}
 use Rattle.model.specs.Calls.Wear.{wearFault, wearAnswer}
 use Rattle.model.specs.Openings.{opening, openings}
 use Rattle.model.specs.Calls.Openings.{openingsFault, openingsAnswer, openingsList}
-use Rattle.model.specs.Calls.Registers.{blockOf, registersOf, bit, setBit, raised, registerFault, taskFault, stepFault, registersThen, pebblesThen, stepped}
+use Rattle.model.specs.Calls.Registers.{blockOf, registersOf, bit, setBit, raised, registerFault, taskFault, stepFault, registersThen, pebblesThen, stepped, lineInC}
 use Rattle.model.specs.Cabinet.{steps}
-use Rattle.model.specs.Sheets.{text, digits, decimal, stopBefore, line, lines, header, yardSheet, maxSheetBytes, judgedBytes, cut, same, value, field, readLine, readNodes, readYard, moveLines, edges, report, moveSheet, refusalSheet, program}
+use Rattle.model.specs.Sheets.{text, digits, decimal, stopBefore, line, lines, header, yardSheet, maxSheetBytes, judgedBytes, cut, same, value, field, readLine, readNodes, readYard, reader, readAnswer, filled, writeFault, writeAnswer, writeList, moveLines, edges, report, moveSheet, refusalSheet, program}
 use Rattle.model.proofs.Yards.{marks, yard, yardA, demandsA, yardB, planB}
 
 data Input : Type 0 where
   demandsOf : Yard → Input
+  -- the account call with a list
+  accountInto : List ℤ → Yard → Input
   lengthOf : Yard → Input
   testOf : Yard → Input
   -- the plan, and its first move alone
@@ -57,6 +59,11 @@ data Input : Type 0 where
   -- pushes, one after another, each on the yard that the one before gave back
   pushesOf : List Move → Yard → Input
   printOf : String → Input
+  -- the reader with lists of so many bytes, all 9, for parents, pebbles, targets and depths; and the writer with a list of so many, all 9
+  readInto : List ℕ → ℕ → ℕ → ℕ → ℕ → Input
+  -- what it finds in lines, if so many may follow, from a node on
+  rowsOf : ℕ → ℕ → String → Input
+  writeInto : ℕ → Yard → Input
   boundOf : Yard → Input
   longestOf : ℕ → Input
   displacedOf : Yard → Input
@@ -73,10 +80,23 @@ data Input : Type 0 where
   -- a step of the cabinet, told whether the pebble failed to arrive, with a plan and a block; and a first step with so many more
   stepOf : Bool → List ℕ → List ℕ → Yard → Input
   stepsOf : ℕ → List ℕ → List ℕ → Yard → Input
+  -- the bytes 4 to 6 of the block of the cabinet, with so many moves left; and how many are left by these bytes
+  blockOfLeft : ℕ → Input
+  leftOfBlock : ℕ → ℕ → ℕ → Input
+  -- the same calls as the C program sees them: the planner, the checker, the trial, the bound with what the number for its bytes held, and a step
+  planInC : ℕ → Yard → Input
+  checkInC : List ℕ → Yard → Input
+  trialOfInC : List ℕ → ℕ → Yard → Input
+  boundInC : ℕ → Yard → Input
+  stepInC : Bool → List ℕ → List ℕ → Yard → Input
 
 data Outcome : Type 0 where
   demands : List ℤ → Outcome
+  -- the answer, and the list then
+  accounted : Option Fault → List ℤ → Outcome
   number : ℕ → Outcome
+  -- the answer in C, and the number behind the pointer then
+  numbers : ℕ → ℕ → Outcome
   refusal : Option Fault → Outcome
   moves : List Move → Outcome
   planned : Answer ℕ → List ℕ → Outcome
@@ -89,6 +109,10 @@ data Outcome : Type 0 where
   measured : Answer Length → Outcome
   counted : Answer ℕ → Outcome
   printed : List ℕ → Outcome
+  -- the values of lines
+  rows : Answer (List (List ℕ)) → Outcome
+  -- the reader's answer, and its four lists then
+  read : Answer ℕ → List ℕ → List ℕ → List ℕ → List ℕ → Outcome
   -- the answer, and the pebbles, the targets and the demands then
   happened : Option Fault → List ℕ → List ℕ → List ℤ → Outcome
   console-left : List ℕ → List ℕ → List ℤ → Outcome
@@ -99,6 +123,7 @@ data Outcome : Type 0 where
 
 outcome : Input → Outcome
 outcome (demandsOf y) = demands (demandsList y (map (λ (_ : ℕ). pos 0) (y .parents)))
+outcome (accountInto list y) = accounted (demandsFault y list) (demandsList y list)
 outcome (lengthOf y) = number (shortest y)
 outcome (testOf y) = refusal (judge y)
 outcome (planOf y) = moves (plan y)
@@ -112,6 +137,9 @@ outcome (wearOf bs w y) = worn (wearAnswer y bs w)
 outcome (openingsInto n y) = planned (openingsAnswer y (replicate n 9)) (openingsList y (replicate n 9))
 outcome (pushesOf ms y) = left (after y ms)
 outcome (printOf sheet) = printed (program (text sheet))
+outcome (readInto sheet a b c d) = let found : Answer Yard = reader sheet (replicate a 9) (replicate b 9) (replicate c 9) (replicate d 9) in read (readAnswer sheet (replicate a 9) (replicate b 9) (replicate c 9) (replicate d 9)) (filled (λ (y : Yard). y .parents) found (replicate a 9)) (filled (λ (y : Yard). y .pebbles) found (replicate b 9)) (filled (λ (y : Yard). y .targets) found (replicate c 9)) (filled (λ (y : Yard). y .depths) found (replicate d 9))
+outcome (rowsOf k v sheet) = rows (readNodes k v (text sheet))
+outcome (writeInto n y) = planned (writeAnswer y (replicate n 9)) (writeList y (replicate n 9))
 outcome (boundOf y) = measured (boundAnswer y)
 outcome (longestOf n) = counted (longestAnswer n)
 outcome (displacedOf y) = counted (displacedAnswer y)
@@ -124,6 +152,13 @@ outcome (nearestOf a y) = located (nearestAnswer y a)
 outcome (reachOf list a reach y) = reached (reachAnswer y list a reach) (reachList y list a reach)
 outcome (stepOf failed bs block y) = let s = stepped y bs block failed in signalled (s .line) (s .block) (s .pebbles)
 outcome (stepsOf k bs block y) = let s = steps k y bs block in signalled (s .line) (s .block) (s .pebbles)
+outcome (blockOfLeft n) = left (take 3 (drop 4 (blockOf (record { command = 1; status = 1; from = 1; to = 1; left = n; mask = 1; flags = 1 }))))
+outcome (leftOfBlock a b c) = number (registersOf (1 ∷ 1 ∷ 1 ∷ 1 ∷ a ∷ b ∷ c ∷ 1 ∷ 1 ∷ []) .left)
+outcome (planInC n y) = number (inC (planAnswer y (replicate n 9)))
+outcome (checkInC bs y) = number (zeroInC (checkFault y bs))
+outcome (trialOfInC bs budget y) = number (inC (mapAnswer trialInC (trialAnswer y bs budget)))
+outcome (boundInC old y) = numbers (inC (mapAnswer (λ (l : Length). l .moves) (boundAnswer y))) (noted (boundAnswer y) (λ (l : Length). l .listBytes) old)
+outcome (stepInC failed bs block y) = number (lineInC (stepped y bs block failed .line))
 
 record Case : Type 0 where
   input : Input
@@ -188,6 +223,28 @@ rounds : ℕ → List ℕ
 rounds zero = []
 rounds (suc k) = 0 ∷ 1 ∷ 1 ∷ 0 ∷ rounds k
 
+-- a yard with so many pebbles and targets at node 1, which is two deep
+twoDeep : ℕ → ℕ → Yard
+twoDeep p t = yardOf (0 ∷ 0 ∷ []) (0 ∷ p ∷ []) (0 ∷ t ∷ []) (1 ∷ 2 ∷ [])
+
+-- an event there, accepted: the pebbles and targets at the node before and after, and both demands before and after; and one refused with 20
+deep : Event → ℕ → ℕ → ℤ → ℕ → ℕ → ℤ → Case
+deep e p t k p' t' k' = eventOf e 1 (k ∷ k ∷ []) (twoDeep p t) gives happened none (0 ∷ p' ∷ []) (0 ∷ t' ∷ []) (k' ∷ k' ∷ [])
+
+deepEnds : Event → ℕ → ℕ → ℤ → Case
+deepEnds e p t k = eventOf e 1 (k ∷ k ∷ []) (twoDeep p t) gives happened (fault 20 0) (0 ∷ p ∷ []) (0 ∷ t ∷ []) (k ∷ k ∷ [])
+
+-- a sheet of two nodes, in which what is held, what is wanted and the depth all differ: 51 bytes
+pair : String
+pair = "berth parent car target depth\n0 1 3 0 4\n1 1 0 25 6\n"
+
+pairYard : Yard
+pairYard = yardOf (1 ∷ 1 ∷ []) (3 ∷ 0 ∷ []) (0 ∷ 25 ∷ []) (4 ∷ 6 ∷ [])
+
+-- the reader refuses: all lists stay
+refusesRead : List ℕ → ℕ → ℕ → ℕ → ℕ → ℕ → ℕ → Case
+refusesRead sheet a b c d n p = readInto sheet a b c d gives read (refused (row n p)) (replicate a 9) (replicate b 9) (replicate c 9) (replicate d 9)
+
 nines : List ℕ
 nines = 9 ∷ 9 ∷ 9 ∷ 9 ∷ 9 ∷ []
 
@@ -195,19 +252,26 @@ cases : List Case
 cases =
     -- A
     (demandsOf yardA gives demands demandsA)
+    -- the account call: unequal totals are no fault; a list that is too short or too long is, and stays, but refusals 1 to 6 come first
+    ∷ (accountInto (pos 7 ∷ pos 7 ∷ []) (yard (0 ∷ 0 ∷ []) (0 ∷ 1 ∷ []) []) gives accounted none (negsuc 1 ∷ negsuc 0 ∷ []))
+    ∷ (accountInto (pos 7 ∷ pos 7 ∷ []) (yard (0 ∷ 0 ∷ []) [] (1 ∷ [])) gives accounted none (pos 1 ∷ pos 1 ∷ []))
+    ∷ (accountInto (pos 7 ∷ []) (yard (0 ∷ 0 ∷ []) (0 ∷ 1 ∷ []) []) gives accounted (fault 2 0) (pos 7 ∷ []))
+    ∷ (accountInto (pos 7 ∷ pos 7 ∷ pos 7 ∷ []) (yard (0 ∷ 0 ∷ []) (0 ∷ 1 ∷ []) []) gives accounted (fault 2 0) (pos 7 ∷ pos 7 ∷ pos 7 ∷ []))
+    ∷ (accountInto [] (yard (0 ∷ 2 ∷ 1 ∷ []) [] []) gives accounted (fault 6 1) [])
     ∷ (lengthOf yardA gives number 4)
     ∷ (planOf yardA gives moves (push 1 0 ∷ push 0 2 ∷ push 3 1 ∷ push 1 4 ∷ []))
     ∷ (printOf "berth parent car target depth\n0 0 0 0 1\n1 0 1 0 1\n2 0 0 1 1\n3 1 1 0 1\n4 1 0 1 1\n" gives printed (text "from to\n1 0\n0 2\n3 1\n1 4\ntrack up down\n1 1 0\n2 0 1\n3 1 0\n4 0 1\ntotal\n4\n"))
     -- B
     ∷ (planInto 4 yardB gives planned (answered 2) planB)
     -- C
-    ∷ (planOf (yard (0 ∷ []) (0 ∷ []) (0 ∷ [])) gives moves [])
-    ∷ (planOf (yard (0 ∷ []) [] []) gives moves [])
+    ∷ (planInto 2 (yard (0 ∷ []) (0 ∷ []) (0 ∷ [])) gives planned (answered 0) (9 ∷ 9 ∷ []))
+    ∷ (planInto 2 (yard (0 ∷ []) [] []) gives planned (answered 0) (9 ∷ 9 ∷ []))
+    ∷ (planInto 0 (yard (0 ∷ []) (0 ∷ []) (0 ∷ [])) gives planned (answered 0) [])
     -- D
-    ∷ (planOf (yard (0 ∷ 0 ∷ []) [] []) gives moves [])
-    ∷ (planOf (yard (0 ∷ 0 ∷ []) (0 ∷ []) (0 ∷ [])) gives moves [])
-    ∷ (planOf (yard (0 ∷ 0 ∷ []) (1 ∷ []) (1 ∷ [])) gives moves [])
-    ∷ (planOf (yard (0 ∷ 0 ∷ []) (0 ∷ 1 ∷ []) (0 ∷ 1 ∷ [])) gives moves [])
+    ∷ (planInto 2 (yard (0 ∷ 0 ∷ []) [] []) gives planned (answered 0) (9 ∷ 9 ∷ []))
+    ∷ (planInto 2 (yard (0 ∷ 0 ∷ []) (0 ∷ []) (0 ∷ [])) gives planned (answered 0) (9 ∷ 9 ∷ []))
+    ∷ (planInto 2 (yard (0 ∷ 0 ∷ []) (1 ∷ []) (1 ∷ [])) gives planned (answered 0) (9 ∷ 9 ∷ []))
+    ∷ (planInto 2 (yard (0 ∷ 0 ∷ []) (0 ∷ 1 ∷ []) (0 ∷ 1 ∷ [])) gives planned (answered 0) (9 ∷ 9 ∷ []))
     ∷ (checkOf (0 ∷ 1 ∷ 1 ∷ 0 ∷ []) (yard (0 ∷ 0 ∷ []) (0 ∷ []) (0 ∷ [])) gives checked (answered (record { moves = 2; excess = 2 })))
     -- E
     ∷ (planInto 7 yardA gives planned (refused (row 8 4)) (9 ∷ 9 ∷ 9 ∷ 9 ∷ 9 ∷ 9 ∷ 9 ∷ []))
@@ -223,13 +287,16 @@ cases =
     -- pushes in a list: a refused one gives back the yard, and the next goes on from it
     ∷ (pushesOf (push 0 1 ∷ push 1 2 ∷ push 0 1 ∷ []) yardB gives left (0 ∷ 1 ∷ 1 ∷ []))
     ∷ (pushesOf (push 1 2 ∷ push 0 2 ∷ push 7 300 ∷ []) yardB gives left (1 ∷ 0 ∷ 1 ∷ []))
-    -- H, and 5 with no root
+    -- H, and 5 with no root, and with three, of which the second-lowest is named
     ∷ (testOf (yard (1 ∷ 0 ∷ []) [] []) gives refusal (fault 5 0))
     ∷ (testOf (yard (0 ∷ 1 ∷ []) [] []) gives refusal (fault 5 1))
+    ∷ (testOf (yard (1 ∷ 1 ∷ 2 ∷ 3 ∷ []) [] []) gives refusal (fault 5 2))
     ∷ (testOf (yard (0 ∷ 2 ∷ 1 ∷ []) [] []) gives refusal (fault 6 1))
     ∷ (checkOf [] (yard (0 ∷ 0 ∷ []) (0 ∷ []) (1 ∷ [])) gives checked (refused (row 14 1)))
     -- the table's examples of the other refusals, and some more of the reader's
     ∷ (testOf (yard [] [] []) gives refusal (fault 1 0))
+    ∷ (testOf (yardOf (replicate 257 0) [] [] []) gives refusal (fault 1 0))
+    ∷ (testOf (yardOf (replicate 256 0) [] [] []) gives refusal (fault 2 0))
     ∷ (testOf (yardOf (0 ∷ 0 ∷ []) (1 ∷ []) (0 ∷ 0 ∷ []) (1 ∷ 1 ∷ [])) gives refusal (fault 2 0))
     ∷ (testOf (yardOf (0 ∷ 0 ∷ []) (0 ∷ 2 ∷ []) (0 ∷ 0 ∷ []) (1 ∷ 1 ∷ [])) gives refusal (fault 27 1))
     ∷ (testOf (yardOf (0 ∷ 0 ∷ 0 ∷ []) (0 ∷ 0 ∷ 2 ∷ []) (2 ∷ 0 ∷ 0 ∷ []) (1 ∷ 1 ∷ 1 ∷ [])) gives refusal (fault 27 2))
@@ -251,6 +318,38 @@ cases =
     ∷ (printOf "berth parent car target depth\n0 0 0 0 1\n1 0 0 0 1" gives printed (text "refusal place\n16 3\n"))
     ∷ (printOf "berth parent car target depth\n1 0 1 1 1\n" gives printed (text "refusal place\n17 2\n"))
     ∷ (printOf "berth parent car target depth\n0 0 2 0 1\n" gives printed (text "refusal place\n27 0\n"))
+    -- the numbers that the C program gets: a value as it is, a refusal's number × 1,000,000 plus its place, 0 from the checker; the trial adds 500,000 where the budget ended
+    ∷ (planInC 8 yardA gives number 4)
+    ∷ (planInC 7 yardA gives number 8_000_004)
+    ∷ (checkInC planB yardB gives number 0)
+    ∷ (checkInC (1 ∷ 2 ∷ 2 ∷ 2 ∷ []) yardB gives number 11_000_001)
+    ∷ (trialOfInC planB 0 yardB gives number 500_000)
+    ∷ (trialOfInC planB 1 yardB gives number 500_001)
+    ∷ (trialOfInC planB 2 yardB gives number 2)
+    ∷ (trialOfInC planB 3 yardB gives number 2)
+    ∷ (trialOfInC (1 ∷ 2 ∷ 1 ∷ 2 ∷ []) 2 yardB gives number 12_000_001)
+    ∷ (boundInC 7 yardA gives numbers 4 8)
+    ∷ (boundInC 7 (yard (0 ∷ []) (0 ∷ []) []) gives numbers 7_000_000 7)
+    -- the reader fills the first n entries of its four lists, whose marks are not tested, and no others; each list must have 256 bytes, which comes before the header
+    ∷ (readInto (text pair) 256 257 256 258 gives read (answered 2) (1 ∷ 1 ∷ replicate 254 9) (3 ∷ 0 ∷ replicate 255 9) (0 ∷ 25 ∷ replicate 254 9) (4 ∷ 6 ∷ replicate 256 9))
+    ∷ refusesRead (text pair) 255 256 256 256 18 0
+    ∷ refusesRead (text pair) 256 255 256 256 18 0
+    ∷ refusesRead (text pair) 256 256 255 256 18 0
+    ∷ refusesRead (text pair) 256 256 256 255 18 0
+    ∷ refusesRead [] 256 256 256 0 18 0
+    ∷ refusesRead [] 256 256 256 256 15 1
+    ∷ refusesRead (text "berth parent car target depth\n0 0 0 0 1\n0 0 0 0 1\n") 256 256 256 256 17 3
+    -- node 255 is the last, on line 257: a byte behind it is 1 with line 258 (a whole sheet of 257 nodes is in the comparison)
+    ∷ (rowsOf 1 255 "255 3 0 1 8\n" gives rows (answered ((255 ∷ 3 ∷ 0 ∷ 1 ∷ 8 ∷ []) ∷ [])))
+    ∷ (rowsOf 1 255 "255 3 0 1 8\n256" gives rows (refused (row 1 258)))
+    -- the writer, whose marks are not tested either: a byte too few, just enough, and one that stays behind; 1, 2 for each list, before 8
+    ∷ (writeInto 50 pairYard gives planned (refused (row 8 51)) (replicate 50 9))
+    ∷ (writeInto 51 pairYard gives planned (answered 51) (text pair))
+    ∷ (writeInto 52 pairYard gives planned (answered 51) (text "berth parent car target depth\n0 1 3 0 4\n1 1 0 25 6\n\t"))
+    ∷ (writeInto 1 (yardOf [] (0 ∷ []) [] []) gives planned (refused (row 1 0)) (9 ∷ []))
+    ∷ (writeInto 1 (yardOf (0 ∷ []) [] (0 ∷ []) (1 ∷ [])) gives planned (refused (row 2 0)) (9 ∷ []))
+    ∷ (writeInto 1 (yardOf (0 ∷ []) (0 ∷ []) [] (1 ∷ [])) gives planned (refused (row 2 0)) (9 ∷ []))
+    ∷ (writeInto 1 (yardOf (0 ∷ []) (0 ∷ []) (0 ∷ []) []) gives planned (refused (row 2 0)) (9 ∷ []))
     -- request 2.1: reports of one node, of two nodes and no move, and of a root that is not 0; a refused yard prints none
     ∷ (printOf "berth parent car target depth\n0 0 1 1 1\n" gives printed (text "from to\ntrack up down\ntotal\n0\n"))
     ∷ (printOf "berth parent car target depth\n0 0 1 1 1\n1 0 0 0 1\n" gives printed (text "from to\ntrack up down\n1 0 0\ntotal\n0\n"))
@@ -280,9 +379,10 @@ cases =
     ∷ (eventOf PebbleLeaves 3 demandsA yardA gives happened none (0 ∷ 1 ∷ 0 ∷ 0 ∷ 0 ∷ []) (0 ∷ 0 ∷ 1 ∷ 0 ∷ 1 ∷ []) (pos 1 ∷ pos 0 ∷ pos 1 ∷ pos 0 ∷ pos 1 ∷ []))
     ∷ (eventOf TargetSet 0 demandsA yardA gives happened none (0 ∷ 1 ∷ 0 ∷ 1 ∷ 0 ∷ []) (1 ∷ 0 ∷ 1 ∷ 0 ∷ 1 ∷ []) (pos 1 ∷ negsuc 0 ∷ pos 1 ∷ negsuc 0 ∷ pos 1 ∷ []))
     ∷ (eventOf TargetCleared 2 demandsA yardA gives happened none (0 ∷ 1 ∷ 0 ∷ 1 ∷ 0 ∷ []) (0 ∷ 0 ∷ 0 ∷ 0 ∷ 1 ∷ []) (negsuc 0 ∷ negsuc 0 ∷ pos 0 ∷ negsuc 0 ∷ pos 1 ∷ []))
-    -- two roots; a list that is too short, before 19; 19, before 20; each event with its mark already so, before 23
+    -- two roots; a list that is too short or too long, before 19; 19, before 20; each event with its mark already so, before 23
     ∷ (eventOf PebbleArrives 7 [] (yard (0 ∷ 1 ∷ []) [] []) gives happened (fault 5 1) (0 ∷ 0 ∷ []) (0 ∷ 0 ∷ []) [])
     ∷ keeps PebbleArrives 5 (pos 0 ∷ []) 2 0
+    ∷ keeps PebbleArrives 0 (pos 0 ∷ negsuc 0 ∷ pos 1 ∷ negsuc 0 ∷ pos 1 ∷ pos 0 ∷ []) 2 0
     ∷ keeps PebbleLeaves 5 demandsA 19 0
     ∷ keeps PebbleArrives 1 (pos 999 ∷ negsuc 0 ∷ pos 1 ∷ negsuc 0 ∷ pos 1 ∷ []) 20 0
     ∷ keeps PebbleLeaves 0 demandsA 20 0
@@ -315,13 +415,14 @@ cases =
     ∷ (nearestOf 9 (yard (0 ∷ 2 ∷ 1 ∷ []) [] []) gives located (refused (row 6 1)))
     ∷ (nearestOf 2 (yard (0 ∷ 0 ∷ []) [] (0 ∷ [])) gives located (refused (row 19 0)))
     ∷ (nearestOf 1 (yard (0 ∷ 0 ∷ []) [] (0 ∷ [])) gives located (refused (row 22 0)))
-    -- none, one and both pebbles in reach; no pebble at all; a list that is too short, before 19; 19
+    -- none, one and both pebbles in reach; no pebble at all; a list that is too short or too long, before 19; 19
     ∷ (reachOf nines 4 0 yardA gives reached (answered 0) (0 ∷ 0 ∷ 0 ∷ 0 ∷ 0 ∷ []))
     ∷ (reachOf nines 4 1 yardA gives reached (answered 1) (0 ∷ 1 ∷ 0 ∷ 0 ∷ 0 ∷ []))
     ∷ (reachOf nines 4 2 yardA gives reached (answered 2) (0 ∷ 1 ∷ 0 ∷ 1 ∷ 0 ∷ []))
     ∷ (reachOf nines 2 65_535 yardA gives reached (answered 2) (0 ∷ 1 ∷ 0 ∷ 1 ∷ 0 ∷ []))
     ∷ (reachOf (9 ∷ []) 0 65_535 (yard (0 ∷ []) [] []) gives reached (answered 0) (0 ∷ []))
     ∷ (reachOf (9 ∷ 9 ∷ []) 5 7 yardA gives reached (refused (row 2 0)) (9 ∷ 9 ∷ []))
+    ∷ (reachOf (9 ∷ nines) 4 2 yardA gives reached (refused (row 2 0)) (9 ∷ nines))
     ∷ (reachOf nines 5 7 yardA gives reached (refused (row 19 0)) nines)
     -- children are balanced in rising number
     ∷ (planOf (yard (0 ∷ 0 ∷ 0 ∷ 1 ∷ 1 ∷ 2 ∷ 2 ∷ []) (3 ∷ 5 ∷ []) (4 ∷ 6 ∷ [])) gives moves (push 3 1 ∷ push 1 4 ∷ push 5 2 ∷ push 2 6 ∷ []))
@@ -369,6 +470,17 @@ cases =
     -- the low byte of the moves left comes first
     ∷ (stepOf false (rounds 129) (1 ∷ 0 ∷ 0 ∷ 0 ∷ 0 ∷ 0 ∷ 0 ∷ 0 ∷ 0 ∷ []) (yardOf (0 ∷ 0 ∷ []) (1 ∷ 0 ∷ []) (1 ∷ 0 ∷ []) (1 ∷ 1 ∷ [])) gives signalled (answered false) (0 ∷ 1 ∷ 0 ∷ 0 ∷ 2 ∷ 1 ∷ 0 ∷ 0 ∷ 0 ∷ []) (1 ∷ 0 ∷ []))
     ∷ (stepOf false (rounds 129) (0 ∷ 1 ∷ 0 ∷ 0 ∷ 0 ∷ 1 ∷ 0 ∷ 0 ∷ 0 ∷ []) (yardOf (0 ∷ 0 ∷ []) (1 ∷ 0 ∷ []) (1 ∷ 0 ∷ []) (1 ∷ 1 ∷ [])) gives signalled (answered false) (0 ∷ 1 ∷ 0 ∷ 1 ∷ 255 ∷ 0 ∷ 0 ∷ 0 ∷ 0 ∷ []) (0 ∷ 1 ∷ []))
+    -- and the third byte last
+    ∷ (blockOfLeft 65_535 gives left (255 ∷ 255 ∷ 0 ∷ []))
+    ∷ (blockOfLeft 65_536 gives left (0 ∷ 0 ∷ 1 ∷ []))
+    ∷ (blockOfLeft 131_072 gives left (0 ∷ 0 ∷ 2 ∷ []))
+    ∷ (leftOfBlock 255 255 0 gives number 65_535)
+    ∷ (leftOfBlock 0 0 1 gives number 65_536)
+    ∷ (leftOfBlock 3 2 1 gives number 66_051)
+    -- in C the line is 1 or 0
+    ∷ (stepInC false planB (0 ∷ 1 ∷ 1 ∷ 2 ∷ 1 ∷ 0 ∷ 0 ∷ 1 ∷ 0 ∷ []) (holding yardB (1 ∷ 0 ∷ 1 ∷ [])) gives number 1)
+    ∷ (stepInC false planB (0 ∷ 1 ∷ 1 ∷ 2 ∷ 1 ∷ 0 ∷ 0 ∷ 2 ∷ 0 ∷ []) (holding yardB (1 ∷ 0 ∷ 1 ∷ [])) gives number 0)
+    ∷ (stepInC false planB (0 ∷ 1 ∷ 1 ∷ 2 ∷ 1 ∷ 0 ∷ 0 ∷ 2 ∷ 4 ∷ []) (holding yardB (1 ∷ 0 ∷ 1 ∷ [])) gives number 24_000_008)
     -- refusals 1 to 6 come first, then 2
     ∷ refusesStep false (yardOf ([]) ([]) ([]) []) [] [] 1 0
     ∷ refusesStep false (yardOf (0 ∷ 2 ∷ 1 ∷ []) (0 ∷ 0 ∷ 0 ∷ []) (0 ∷ 0 ∷ 0 ∷ []) (1 ∷ 1 ∷ 1 ∷ [])) [] (9 ∷ []) 6 1
@@ -415,6 +527,9 @@ cases =
     ∷ (testOf (yardOf (0 ∷ 0 ∷ []) (8 ∷ 0 ∷ []) (0 ∷ 8 ∷ []) (9 ∷ 8 ∷ [])) gives refusal (fault 26 0))
     ∷ (testOf (yardOf (0 ∷ 0 ∷ []) (8 ∷ 0 ∷ []) (0 ∷ 8 ∷ []) (8 ∷ 8 ∷ [])) gives refusal none)
     ∷ (testOf (yardOf (0 ∷ 0 ∷ []) (0 ∷ 4 ∷ []) (3 ∷ 0 ∷ []) (2 ∷ 3 ∷ [])) gives refusal (fault 27 1))
+    -- more targets than the depth, at the lowest such node; 27 before 4
+    ∷ (testOf (yardOf (0 ∷ 0 ∷ 0 ∷ 0 ∷ []) (0 ∷ 0 ∷ 2 ∷ 3 ∷ []) (1 ∷ 2 ∷ 3 ∷ 4 ∷ []) (1 ∷ 2 ∷ 2 ∷ 3 ∷ [])) gives refusal (fault 27 2))
+    ∷ (testOf (yardOf (9 ∷ 0 ∷ []) (0 ∷ 0 ∷ []) (0 ∷ 2 ∷ []) (1 ∷ 1 ∷ [])) gives refusal (fault 27 1))
     ∷ (testOf (yardOf (0 ∷ 0 ∷ []) (0 ∷ 0 ∷ []) (0 ∷ 0 ∷ []) (1 ∷ [])) gives refusal (fault 2 0))
     ∷ (printOf "berth parent car target depth\n0 0 0 0 9\n" gives printed (text "refusal place\n26 0\n"))
     ∷ (printOf "berth parent car target depth\n0 0 0 0\n" gives printed (text "refusal place\n16 2\n"))
@@ -431,11 +546,25 @@ cases =
     ∷ (trialOf (0 ∷ 1 ∷ 0 ∷ 1 ∷ 0 ∷ 1 ∷ []) 3 (yardOf (0 ∷ 0 ∷ []) (2 ∷ 0 ∷ []) (0 ∷ 0 ∷ []) (3 ∷ 3 ∷ [])) gives tried (refused (row 12 2)) (2 ∷ 0 ∷ []))
     ∷ (trialOf (0 ∷ 1 ∷ 0 ∷ 1 ∷ 0 ∷ 1 ∷ []) 3 (yardOf (0 ∷ 0 ∷ []) (3 ∷ 0 ∷ []) (0 ∷ 0 ∷ []) (3 ∷ 2 ∷ [])) gives tried (refused (row 13 2)) (3 ∷ 0 ∷ []))
     ∷ (checkOf [] (yardOf (0 ∷ 0 ∷ []) (1 ∷ 1 ∷ []) (2 ∷ 0 ∷ []) (2 ∷ 1 ∷ [])) gives checked (refused (row 14 0)))
+    ∷ (checkOf (0 ∷ 1 ∷ []) (yardOf (0 ∷ 0 ∷ 0 ∷ []) (2 ∷ 0 ∷ 1 ∷ []) (0 ∷ 1 ∷ 2 ∷ []) (2 ∷ 1 ∷ 2 ∷ [])) gives checked (refused (row 14 2)))
     -- of two pebbles one leaves; and a pebble that goes through a node leaves the one there alone, as the last in leaves first
     ∷ (displacedOf (yardOf (0 ∷ 0 ∷ []) (2 ∷ 0 ∷ []) (1 ∷ 1 ∷ []) (2 ∷ 2 ∷ [])) gives counted (answered 1))
     ∷ (displacedOf (yardOf (0 ∷ 0 ∷ 1 ∷ []) (1 ∷ 1 ∷ 0 ∷ []) (0 ∷ 1 ∷ 1 ∷ []) (1 ∷ 2 ∷ 1 ∷ [])) gives counted (answered 1))
     -- a second pebble arrives at a node two deep, and a third finds no place
     ∷ (eventsOf (happens PebbleArrives 0 ∷ happens PebbleArrives 0 ∷ []) (negsuc 0 ∷ pos 0 ∷ []) (yardOf (0 ∷ 0 ∷ []) (1 ∷ 0 ∷ []) (0 ∷ 0 ∷ []) (2 ∷ 1 ∷ [])) gives console-left (2 ∷ 0 ∷ []) (0 ∷ 0 ∷ []) (negsuc 1 ∷ pos 0 ∷ []))
+    -- each event at a node two deep, until there is no room for one more, or none to take
+    ∷ deep TargetSet 0 0 (pos 0) 0 1 (pos 1)
+    ∷ deep TargetSet 0 1 (pos 1) 0 2 (pos 2)
+    ∷ deepEnds TargetSet 0 2 (pos 2)
+    ∷ deep TargetCleared 0 2 (pos 2) 0 1 (pos 1)
+    ∷ deep TargetCleared 0 1 (pos 1) 0 0 (pos 0)
+    ∷ deepEnds TargetCleared 0 0 (pos 0)
+    ∷ deep PebbleArrives 0 0 (pos 0) 1 0 (negsuc 0)
+    ∷ deep PebbleArrives 1 0 (negsuc 0) 2 0 (negsuc 1)
+    ∷ deepEnds PebbleArrives 2 0 (negsuc 1)
+    ∷ deep PebbleLeaves 2 0 (negsuc 1) 1 0 (negsuc 0)
+    ∷ deep PebbleLeaves 1 0 (negsuc 0) 0 0 (pos 0)
+    ∷ deepEnds PebbleLeaves 0 0 (pos 0)
     -- pebbles 0 and 1 start at node 1, pebble 2 at node 2; the one that came back to 1 leaves it before the one that stayed
     ∷ (startsOf siding gives left (1 ∷ 1 ∷ 2 ∷ []))
     ∷ (takenOf (push 1 0 ∷ push 0 1 ∷ push 1 0 ∷ push 1 0 ∷ []) siding gives left (0 ∷ 0 ∷ 0 ∷ 1 ∷ []))
@@ -484,7 +613,7 @@ cases =
     ∷ []
 
 worked : map (λ (c : Case). outcome (c .input)) cases ≡ map (λ (c : Case). c .expected) cases
-unfolding wearFault wearOver wearAt most star thereAndBack wears twoParts between flatten climbed topmost tops masked partsPlan partsFault stepB refusesStep refusesB rounds blockOf registersOf bit setBit raised registerFault taskFault stepFault registersThen pebblesThen stepped steps near highRoot zeros nines anyOf reaches distance nearest nearestFault inReach reachFault demandsA siding placed occurs firstAt lastIn displaced demandsAfter eventFault leaves runLeaves keeps cases _gives_ outcome yard marks yardA yardB planB sum below roots climbs inside subtotal shortest judge moveFault pushFault legal shifted after accepted count needy lowestChild greatest neediestChild choice fills inject extract turn settle each balance planWithin planBy plan range demandsFault bytes movesOf planFault movesFault checkFault trialFault matchedFault text digits decimal stopBefore line lines header cut same value field readLine readNodes readYard moveLines edges report moveSheet refusalSheet program opening openings openingsFault
+unfolding twoDeep deep deepEnds pair pairYard refusesRead reader writeFault yardSheet wearFault wearOver wearAt most star thereAndBack wears twoParts between flatten climbed topmost tops masked partsPlan partsFault stepB refusesStep refusesB rounds blockOf registersOf bit setBit raised registerFault taskFault stepFault registersThen pebblesThen stepped steps near highRoot zeros nines anyOf reaches distance nearest nearestFault inReach reachFault demandsA siding placed occurs firstAt lastIn displaced demandsAfter eventFault leaves runLeaves keeps cases _gives_ outcome yard marks yardA yardB planB sum below roots climbs inside subtotal shortest judge moveFault pushFault legal shifted after accepted count needy lowestChild greatest neediestChild choice fills inject extract turn settle each balance planWithin planBy plan range demandsFault bytes movesOf planFault movesFault checkFault trialFault matchedFault text digits decimal stopBefore line lines header cut same value field readLine readNodes readYard moveLines edges report moveSheet refusalSheet program opening openings openingsFault
 worked = refl
 
 -- two pebbles start at node 1, and one at node 2: whichever is taken, pebble 1 may go the second time, and each has its own route
