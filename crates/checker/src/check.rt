@@ -6,6 +6,7 @@ ghost use Rattle.model.specs.Judge.{firstOf, Tree};
 ghost use Rattle.model.specs.Calls.Plans.{movesOf};
 ghost use Rattle.model.specs.Calls.Checks.{obeyTests, checkFault, checkAnswer};
 ghost use Rattle.model.specs.Paper.{paperDone, paperChecked};
+ghost use Rattle.laws.specs.Demand2.{CheckerExact, Accepts};
 use crate::obey::obey_copy;
 use crate::obey::whole_plan;
 use demand::call::shortest_length;
@@ -70,9 +71,11 @@ pub fn test_plan(parents: &[u8], pebbles: &[u8], targets: &[u8], depths: &[u8], 
     test_matched_plan(parents, pebbles, targets, depths, plan)
 }
 
-// The checker: refused as above, else the number of moves and the excess (spare), moves minus shortest length.
+// The checker: refused as above, else the number of moves and the excess (spare), moves minus shortest length. On a tree with as many pebbles as targets it accepts
+// whole moves exactly if each carries a pebble and they end on exactly the targets (`CheckerExact`, demand 2).
 pub fn check(parents: &[u8], pebbles: &[u8], targets: &[u8], depths: &[u8], plan: &[u8]) -> Checked
     ensures { λ r. ⌜ paperChecked r ≡ checkAnswer (given parents pebbles targets depths) (was plan) ⌝ }
+    ensures { λ r. ⌜ CheckerExact (given parents pebbles targets depths) (was plan) (Accepts (paperChecked r)) ⌝ }
 {
     let tested = test_plan(parents, pebbles, targets, depths, plan);
     if let Done::Refused(r) = tested {

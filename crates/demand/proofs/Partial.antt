@@ -19,7 +19,8 @@ use Rattle.laws.proofs.Found.{below-cong}
 use Rattle.laws.proofs.Ranges.{map-all}
 use Rattle.laws.proofs.Sums.{sum-cong, sum-mono, sum-ones, sum-add, sum-zero, sum-pick, sum-term, sum-some, sum-scale}
 use Rattle.laws.proofs.Climb.{climbs-self, climbs-fixed, climbs-up, climbs-inside}
-use Rattle.laws.proofs.Trees.{Wood, Child, is-child, child-is, child-off-root}
+use Rattle.laws.specs.Choice.{Child}
+use Rattle.laws.proofs.Trees.{Wood, is-child, child-is, child-off-root}
 use Rattle.laws.proofs.Judged.{Flat, wood}
 use Rattle.laws.proofs.Demands.{weight, weight-le, weight-child}
 use Rattle.laws.proofs.Signed.{sub-size, size-add, sum-insert}

@@ -3,6 +3,7 @@ ghost use mathlib.Core.Path.{_≡_};
 ghost use Rattle.model.specs.Given.{given, was, became};
 ghost use Rattle.model.specs.Calls.Answers.{inC, zeroInC, mapAnswer};
 ghost use Rattle.model.specs.Calls.Checks.{trialInC, checkFault, checkAnswer, trialAnswer, trialPebbles};
+ghost use Rattle.laws.specs.Demand2.{CheckerExact};
 use crate::answers::done;
 use crate::answers::refused;
 use crate::answers::tried;
@@ -11,7 +12,7 @@ use checker::check::test_plan;
 use checker::trial::trial;
 use model::Checked;
 
-// The checker: 0 for a plan that it accepts. Refusals 1 to 7, 9 to 14.
+// The checker: 0 for a plan that it accepts, and only then (`CheckerExact`). Refusals 1 to 7, 9 to 14.
 #[no_mangle]
 pub extern "C" fn javendriky_check(
     parents: &[u8],
@@ -21,6 +22,7 @@ pub extern "C" fn javendriky_check(
     plan: &[u8],
 ) -> u32
     ensures { λ r. ⌜ r ≡ zeroInC (checkFault (given parents pebbles targets depths) (was plan)) ⌝ }
+    ensures { λ r. ⌜ CheckerExact (given parents pebbles targets depths) (was plan) (r ≡ 0) ⌝ }
 {
     done(test_plan(parents, pebbles, targets, depths, plan))
 }

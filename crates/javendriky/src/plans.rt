@@ -5,6 +5,7 @@ ghost use Rattle.model.specs.Calls.Answers.{inC, told};
 ghost use Rattle.model.specs.Calls.Plans.{planAnswer, planList};
 ghost use Rattle.model.specs.Calls.Parts.{partsAnswer, partsPlanList, partsList};
 ghost use Rattle.model.specs.Calls.Openings.{openingsAnswer, openingsList};
+ghost use Rattle.laws.specs.Demand2.{PlannerExact};
 ghost use Rattle.laws.specs.Demand3.{Demand3};
 use crate::answers::counted;
 
@@ -19,6 +20,7 @@ pub extern "C" fn javendriky_plan(
 ) -> u32
     ensures { λ r. ⌜ r ≡ inC (planAnswer (given parents pebbles targets depths) (was plan)) ⌝ }
     ensures { λ r. ⌜ became plan ≡ planList (given parents pebbles targets depths) (was plan) ⌝ }
+    ensures { λ r. ⌜ PlannerExact (given parents pebbles targets depths) (was plan) (told r) (became plan) ⌝ }
     ensures { λ r. ⌜ Demand3 (given parents pebbles targets depths) (was plan) (told r) (became plan) ⌝ }
 {
     counted(planner::plan::plan(parents, pebbles, targets, depths, plan))

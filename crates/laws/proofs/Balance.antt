@@ -15,31 +15,20 @@ use Rattle.model.specs.Push.{Move, after, run}
 use Rattle.model.specs.Plan.{needy, some, Rule, choice, Side, fills, turn, settle, each, balance, planWithin, enough, planBy, plan}
 use Rattle.laws.proofs.Basics.{All, all-map, all-below, below-all}
 use Rattle.laws.proofs.Sums.{sum-term}
-use Rattle.laws.proofs.Trees.{Child, is-child, child-is}
+use Rattle.laws.specs.Choice.{Child, Needy}
+use Rattle.laws.proofs.Trees.{is-child, child-is}
 use Rattle.laws.proofs.Judged.{facts, wood}
 use Rattle.laws.proofs.Demands.{overChildren, child-le, weight, weight-child, weight-pos, weight-le, inside-child, root-even, parts-children}
-use Rattle.laws.proofs.Step.{need}
+use Rattle.laws.specs.Algorithms.{need, Serves, Settles, settled, turned, Balances, none, next}
 use Rattle.laws.proofs.Runs.{after-append}
-use Rattle.laws.proofs.Choice.{Needy, Sound, all-needy, none-needy, none-over, choice-sound}
+use Rattle.laws.proofs.Choice.{Sound, all-needy, none-needy, none-over, choice-sound}
 use Rattle.laws.proofs.Shortest.{Good, good-nil, good-append, good-tree, keeps}
 use Rattle.laws.proofs.Plan.{turn-fills, turn-draws, settle-end, settle-turn, balance-children, each-cons}
-use Rattle.laws.proofs.Serve.{Able, Due, chosen-due, Serves, serves-same, serves-shift, inject-serves, extract-serves}
+use Rattle.laws.proofs.Serve.{Able, Due, chosen-due, serves-same, serves-shift, inject-serves, extract-serves}
 
 -- a demand of 0
 abbrev pub Even : Yard → ℕ → Type 0
 Even y v = imbalance y v ≡ 0
-
--- the loop at u: while a child has a demand other than 0, one pebble goes over the edge of the child that is chosen
-pub data Settles (side : Side) (rule : Rule) : Yard → ℕ → List Move → Type 0 where
-  settled : {y : Yard} {u : ℕ} → needy (imbalance y) y u ≡ [] → Settles side rule y u []
-  turned : {y : Yard} {u c : ℕ} {cs : List ℕ} {ms ns : List Move} → needy (imbalance y) y u ≡ c ∷ cs
-      → Serves rule y (side y u) (rule (need y (side y u)) y u) ms → Settles side rule (run y ms) u ns → Settles side rule y u (ms ++ ns)
-
--- balancing some nodes, one after another: at each the loop, and then its children
-pub data Balances (side : Side) (rule : Rule) : Yard → List ℕ → List Move → Type 0 where
-  none : {y : Yard} → Balances side rule y [] []
-  next : {y : Yard} {u : ℕ} {us : List ℕ} {ms ns ps : List Move} → Settles side rule y u ms → Balances side rule (run y ms) (children y u) ns
-      → Balances side rule (run y (ms ++ ns)) us ps → Balances side rule y (u ∷ us) (ms ++ ns ++ ps)
 
 -- both are determined by the yard
 nil-cons : {c : ℕ} {cs ns : List ℕ} → ns ≡ [] → ns ≡ c ∷ cs → ⊥

@@ -18,6 +18,7 @@ use Rattle.model.specs.Calls.Answers.{answered, refused, mapAnswer, Small}
 use Rattle.model.specs.Calls.Checks.{bytesFault, checkFault}
 use Rattle.model.specs.declared.Registers.{Registers}
 use Rattle.model.specs.Calls.Registers.{noCommand, start, acknowledge, idle, running, stalled, blockLength, blockOf, registersOf, maxFlags, raised, wholeMoves, nextNumber, nextMove, obeying, registerTests, registerFault, startTests, nextTests, taskFault, stepTests, stepFault, registersThen, pebblesThen, stepped}
+use Rattle.laws.specs.Cabinet.{InRange}
 use Rattle.laws.proofs.Basics.{one-le, none-all, all-none, unless-none}
 use Rattle.laws.proofs.Calls.{answer-answered, answer-refused}
 use Rattle.laws.proofs.Sheets.{Bytes}
@@ -87,13 +88,6 @@ module _ (y : Yard) (bs block : List ℕ) (failed : Bool) where
     stepped-registers = rw stepped-block (registersOf-blockOf _)
 
 -- stepFault: what each test asks
-pub record InRange (moves : ℕ) (r : Registers) : Type 0 where
-  pub command-le : r .command ≤ acknowledge
-  pub status-le : r .status ≤ stalled
-  pub left-le : r .left ≤ moves
-  pub left-pos : (r .status ≡ idle) ⊎ (0 < r .left)
-  pub flags-le : r .flags ≤ maxFlags
-
 pub running-left : {moves : ℕ} {r : Registers} → InRange moves r → r .status ≡ running → 0 < r .left
 running-left {r = r} h s = go (h .left-pos)
   where

@@ -1,31 +1,33 @@
 -- What one step of the cabinet leaves (request 2.9), read off its definition by its command, its status and what it is told (`each-step`). The block
 -- that an accepted step leaves is of bytes again, with registers that refusal 24 does not meet.
 use mathlib.Core.Path.{_≡_, refl, sym, ap, _∙_}
-use mathlib.Core.Logic.{_≢_, _⊎_, inl, inr}
-use mathlib.Core.Bool.{Bool, true, false, not, cond, _&&_, and-false}
+use mathlib.Core.Logic.{_≢_, _↔_, _⊎_, inl, inr}
+use mathlib.Core.Bool.{Bool, true, false, not, cond, _&&_, and-false, and-eq-true-iff}
 use mathlib.Core.List.{List, [], _∷_}
 use mathlib.Core.Option.{Option, none, some}
-use Prim.Native.Nat.{ℕ, zero, suc, _+_, _-_, _*_, _≤_, _<_}
+use Prim.Native.Nat.{ℕ, zero, suc, _+_, _-_, _*_, _%_, _≤_, _<_}
 use native.Mathlib.Omega.{arith}
 use native.Mathlib.Decide.{ℕ-discrete}
 use lib.ListN.{length, getD}
 use lib.Dec.{eqb}
-use borrow.Author.Tests.{ne-eqb}
+use borrow.Author.Tests.{eqb-true, ne-eqb}
 use Rattle.model.specs.Yard.{Yard, holding, pebbleCount}
 use Rattle.model.specs.Judge.{Fault, Tree}
 use Rattle.model.specs.Push.{push, pushed, after}
 use Rattle.model.specs.Calls.Answers.{answered}
-use Rattle.model.specs.Calls.Checks.{checkTests, checkFault}
+use Rattle.model.specs.Calls.Checks.{bytesFault, checkTests, checkFault}
 use Rattle.model.specs.declared.Registers.{Registers}
 use Rattle.model.specs.Calls.Registers.{noCommand, start, stop, acknowledge, idle, running, stalled, blockLength, blockOf, registersOf, setBit, finishedBit, maxFlags, raised, wholeMoves, nextNumber, nextMove, obeying, stepFault, taskFault, counted, started, stopped, acknowledged, jammed, showing, advanced, registersThen, pebblesThen, stepped}
-use Rattle.model.specs.Cabinet.{Leaves, EachStep}
-use Rattle.laws.proofs.Basics.{none-all}
+use Rattle.laws.specs.Cabinet.{Leaves, InRange, WholePlan, Acceptable, EachStep}
+use Rattle.laws.proofs.Basics.{none-all, unless-none}
 use Rattle.laws.proofs.Runs.{pebbleCount-run}
 use Rattle.laws.proofs.Calls.{movesOf-half, move-at}
+use Rattle.laws.proofs.Moves.{moveFault-legal}
+use Rattle.laws.proofs.Demand2.{bytesFault-even, accepts-none}
 use Rattle.laws.proofs.Sheets.{Bytes}
 use Rattle.laws.proofs.Places.{few-moves}
 use Rattle.laws.proofs.Bits.{finished-le, stalled-le, raised-shares}
-use Rattle.laws.proofs.Blocks.{thenOf, pebblesOf, blockOf-registersOf, Held, registersOf-held, blockOf-bytes, line-answered, line-refused, stepped-refused, stepped-line, stepped-block, stepped-pebbles, stepped-registers, InRange, running-left, stepFault-none, taskFault-start}
+use Rattle.laws.proofs.Blocks.{thenOf, pebblesOf, blockOf-registersOf, Held, registersOf-held, blockOf-bytes, line-answered, line-refused, stepped-refused, stepped-line, stepped-block, stepped-pebbles, stepped-registers, running-left, stepFault-none, taskFault-start, taskFault-obey, taskFault-other}
 
 -- registersThen, pebblesThen: what each kind of step leaves
 module _ (bs : List ℕ) (failed : Bool) (r : Registers) where
@@ -154,6 +156,44 @@ module _ (y : Yard) (bs block : List ℕ) (e : stepFault y bs block ≡ none) (c
   pub next-bytes : nextMove bs (registersOf block) ≡ push (getD bs (2 * nextNumber bs (registersOf block)) 0) (getD bs (2 * nextNumber bs (registersOf block) + 1) 0)
   next-bytes = move-at bs (nextNumber bs (registersOf block)) (omega (arith, next-lt, movesOf-half bs))
 
+-- when a step is accepted
+bytesFault-whole : (bs : List ℕ) → (bytesFault bs ≡ none) ↔ WholePlan bs
+bytesFault-whole bs = (
+  (λ e. let even = eqb-true (length bs % 2) 0 (and-eq-true-iff _ _ .0 (unless-none _ 9 0 e) .0) in (omega (arith, even, movesOf-half bs), few-moves bs e)),
+  λ h. bytesFault-even bs (wholeMoves bs) (h .0) (h .1),
+)
+
+module _ (y : Yard) (bs block : List ℕ) where
+  abbrev registers : Registers
+  registers = registersOf block
+
+  task-none : Acceptable y bs block registers → taskFault y bs registers ≡ none
+  task-none h = go (ℕ-discrete (registers .command) start) (ℕ-discrete (registers .command) noCommand) (ℕ-discrete (registers .status) running)
+    where
+      go : Dec (registers .command ≡ start) → Dec (registers .command ≡ noCommand) → Dec (registers .status ≡ running) → taskFault y bs registers ≡ none
+      go (yes c) _ _ = let a = h .starts c in taskFault-start y bs registers c .1 (a .0, accepts-none y bs .0 (a .1))
+      go (no c) (yes z) (yes s) =
+          let a = h .obeys z s in
+          taskFault-obey y bs registers z s .1 (bytesFault-whole bs .1 (a .0), moveFault-legal y (h .tree) (nextMove bs registers) (nextNumber bs registers) .1 (a .1))
+      go (no c) (yes z) (no s) = taskFault-other y bs registers c (status-not registers s)
+      go (no c) (no z) _ = taskFault-other y bs registers c (command-not registers (omega arith))
+
+  acceptable : (stepFault y bs block ≡ none) ↔ Acceptable y bs block registers
+  acceptable = (
+    (λ e.
+        let h = stepFault-none y bs block .0 e in
+        record {
+          tree = h .0;
+          nine = h .1;
+          ranges = h .2;
+          starts = λ c. let a = taskFault-start y bs registers c .0 (h .3) in (a .0, accepts-none y bs .1 (a .1));
+          obeys = λ c s.
+              let a = taskFault-obey y bs registers c s .0 (h .3) in
+              (bytesFault-whole bs .0 (a .0), moveFault-legal y (h .0) (nextMove bs registers) (nextNumber bs registers) .0 (a .1));
+        }),
+    λ h. stepFault-none y bs block .1 (h .tree, h .nine, h .ranges, task-none h),
+  )
+
 -- an accepted step
 module _ (y : Yard) (bs block : List ℕ) (failed : Bool) (e : stepFault y bs block ≡ none) where
   abbrev r : Registers
@@ -178,7 +218,7 @@ module _ (y : Yard) (bs block : List ℕ) (failed : Bool) (e : stepFault y bs bl
         rw (then-start bs failed r c) (h .0, h .1, refl, (λ l. rw (ne-eqb (wholeMoves bs) 0 (λ z. omega arith)) (refl, refl)), λ z. rw z (refl, refl));
     stops = λ c. rw (then-stop bs failed r c) (refl, refl, refl);
     acknowledges = λ c. rw (then-acknowledge bs failed r c) (refl, refl, (λ s. rw s), λ s. rw (ne-eqb (r .status) stalled s));
-    obeys = λ c s f. rw (then-obey bs failed r c s, pebbles-obey bs failed r y c s, f) (refl, refl, refl, refl, refl, (λ l. rw (ne-eqb (r .left - 1) 0 (λ z. omega arith)) (refl, refl)), λ z. rw z (refl, refl));
+    obeys = λ c s f. rw (then-obey bs failed r c s, pebbles-obey bs failed r y c s, f, acceptable y bs block .0 e .obeys c s .1) (refl, refl, refl, refl, refl, refl, (λ l. rw (ne-eqb (r .left - 1) 0 (λ z. omega arith)) (refl, refl)), λ z. rw z (refl, refl));
     stalls = λ c s f. rw (then-obey bs failed r c s, pebbles-obey bs failed r y c s, f) (refl, refl, refl, refl, c, refl, refl, refl);
     rests = λ c s. (then-rest bs failed r c s, pebbles-rest bs failed r y (status-not r s));
   }
@@ -199,6 +239,7 @@ module _ (y : Yard) (bs block : List ℕ) (failed : Bool) (e : stepFault y bs bl
 
 pub each-step : (y : Yard) (bs block : List ℕ) (failed : Bool) → EachStep y bs block failed
 each-step y bs block failed = record {
+  accepts = ((λ a. acceptable y bs block .0 (line-answered y bs block failed (a .0) (a .1))), λ h. (_, stepped-line y bs block failed (acceptable y bs block .1 h)));
   accepted = λ l a. leaves y bs block failed (line-answered y bs block failed l a) l a;
   refusal = λ f a. rw (stepped-refused y bs block failed f (line-refused y bs block failed f a)) (refl, refl);
   constant = go (stepFault y bs block) refl;

@@ -19,14 +19,15 @@ use Rattle.model.specs.Calls.Plans.{movesOf}
 use Rattle.model.specs.Calls.Checks.{bytesFault, checkTests, checkFault}
 use Rattle.model.specs.declared.Registers.{Registers}
 use Rattle.model.specs.Calls.Registers.{start, idle, running, blockOf, registersOf, setBit, finishedBit, raised, wholeMoves, stepFault, taskFault, counted, showing, registersThen, pebblesThen, Stepped, stepped}
-use Rattle.model.specs.Cabinet.{steps, registersAfter, WholeRun}
+use Rattle.model.specs.Cabinet.{steps}
+use Rattle.laws.specs.Cabinet.{InRange, registersAfter, WholeRun}
 use Rattle.laws.proofs.Basics.{none-all}
 use Rattle.laws.proofs.Step.{legal-step}
 use Rattle.laws.proofs.Runs.{Obeys, obeys, run-tree, pebbleCount-run, after-append}
 use Rattle.laws.proofs.Calls.{totals-none}
 use Rattle.laws.proofs.Moves.{moveFault-legal, after-legal, accepted-obeys}
 use Rattle.laws.proofs.Demand2.{checkFault-none}
-use Rattle.laws.proofs.Blocks.{thenOf, pebblesOf, registersOf-blockOf, line-answered, stepped-line, stepped-block, stepped-pebbles, InRange, stepFault-none, taskFault-start, taskFault-obey, taskFault-other}
+use Rattle.laws.proofs.Blocks.{thenOf, pebblesOf, registersOf-blockOf, line-answered, stepped-line, stepped-block, stepped-pebbles, stepFault-none, taskFault-start, taskFault-obey, taskFault-other}
 use Rattle.laws.proofs.Cabinet.{counted-in-range}
 
 -- the k-th of a list of legal pushes is legal where those before it lead
@@ -42,7 +43,7 @@ unfolding after
 after-next y ms d k l = sym (ap (after y) (take-suc ms k d l) ∙ after-append (take k ms) (getD ms k d ∷ []) y)
 
 -- the whole run
-module _ (y : Yard) (bs block : List ℕ) (e : stepFault y bs block ≡ none) (c : registersOf block .command ≡ start) where
+module _ (y : Yard) (bs block : List ℕ) (failed : Bool) (e : stepFault y bs block ≡ none) (c : registersOf block .command ≡ start) where
   abbrev r : Registers
   r = registersOf block
 
@@ -118,30 +119,30 @@ module _ (y : Yard) (bs block : List ℕ) (e : stepFault y bs block ≡ none) (c
 
   -- the line, the block and the pebbles after k steps behind the start
   pub record At (k : ℕ) : Type 0 where
-    pub line : steps k y bs block .line ≡ answered (raised (shown k))
-    pub registers : steps k y bs block .block ≡ blockOf (shown k)
-    pub pebbles : steps k y bs block .pebbles ≡ after y (take k ms)
+    pub line : steps k y bs block failed .line ≡ answered (raised (shown k))
+    pub registers : steps k y bs block failed .block ≡ blockOf (shown k)
+    pub pebbles : steps k y bs block failed .pebbles ≡ after y (take k ms)
 
   pub at : (k : ℕ) → At k
   unfolding steps registersThen pebblesThen after
   at zero =
       let all : m - 0 ≡ m = omega arith in
       record {
-        line = stepped-line y bs block false e ∙ rw (c, all);
-        registers = stepped-block y bs block false e ∙ rw (c, all);
-        pebbles = stepped-pebbles y bs block false e ∙ rw c;
+        line = stepped-line y bs block failed e ∙ rw (c, all);
+        registers = stepped-block y bs block failed e ∙ rw (c, all);
+        pebbles = stepped-pebbles y bs block failed e ∙ rw c;
       }
   at (suc k) =
       let h = at k in
       let n = next k in
-      let s : steps (suc k) y bs block ≡ stepped (there k) bs (blockOf (shown k)) false = rw (h .pebbles, h .registers) in
+      let s : steps (suc k) y bs block failed ≡ stepped (there k) bs (blockOf (shown k)) false = rw (h .pebbles, h .registers) in
       record {
         line = ap (λ (x : Stepped). x .line) s ∙ stepped-line (there k) bs (blockOf (shown k)) false (n .passes) ∙ rw (registersOf-blockOf, n .registers);
         registers = ap (λ (x : Stepped). x .block) s ∙ stepped-block (there k) bs (blockOf (shown k)) false (n .passes) ∙ rw (registersOf-blockOf, n .registers);
         pebbles = ap (λ (x : Stepped). x .pebbles) s ∙ stepped-pebbles (there k) bs (blockOf (shown k)) false (n .passes) ∙ rw registersOf-blockOf (n .pebbles);
       }
 
-  registers-at : (k : ℕ) → registersAfter k y bs block ≡ shown k
+  registers-at : (k : ℕ) → registersAfter k y bs block failed ≡ shown k
   registers-at k = rw (at k .registers) (registersOf-blockOf (shown k))
 
   idle-none : (n : ℕ) → (cond (eqb n 0) idle running ≡ idle) ↔ (n ≡ 0)
@@ -158,7 +159,7 @@ module _ (y : Yard) (bs block : List ℕ) (e : stepFault y bs block ≡ none) (c
       go true l = rw (ne-eqb (m - k) 0 (λ z. omega (arith, ltb-true k m l)))
       go false l = let z : m - k ≡ 0 = omega (arith, ltb-false k m l) in rw z
 
-  whole : WholeRun y bs block m
+  whole : WholeRun y bs block failed m
   whole = record {
     accepted = λ k. (raised (shown k), at k .line);
     taken = λ k. rw (registers-at k);
@@ -172,6 +173,7 @@ module _ (y : Yard) (bs block : List ℕ) (e : stepFault y bs block ≡ none) (c
     flags = λ k. rw (registers-at k) (flags-at k);
   }
 
--- the whole run, of every accepted start
-pub whole-run : (y : Yard) (bs block : List ℕ) (l : Bool) → stepped y bs block false .line ≡ answered l → registersOf block .command ≡ start → WholeRun y bs block (wholeMoves bs)
-whole-run y bs block l e c = whole y bs block (line-answered y bs block false l e) c
+-- the whole run, of every accepted start, whatever it is told of a failure
+pub whole-run : (y : Yard) (bs block : List ℕ) (failed l : Bool) → stepped y bs block failed .line ≡ answered l → registersOf block .command ≡ start
+    → WholeRun y bs block failed (wholeMoves bs)
+whole-run y bs block failed l e c = whole y bs block failed (line-answered y bs block failed l e) c

@@ -15,9 +15,10 @@ use Rattle.model.specs.Push.{Solved}
 use Rattle.model.specs.Calls.Answers.{answered, refused}
 use Rattle.model.specs.declared.Registers.{Registers}
 use Rattle.model.specs.Calls.Registers.{noCommand, start, running, blockOf, registersOf, maxFlags, acknowledge, wholeMoves, nextMove, stepFault, registerFault, taskFault, jammed, advanced, pebblesThen, Stepped, stepped}
-use Rattle.model.specs.Cabinet.{steps, yardAfter, registersAfter, WholeRun, commanded, flagged, stall, resumed, Resumes, Drives}
+use Rattle.model.specs.Cabinet.{steps}
+use Rattle.laws.specs.Cabinet.{yardAfter, registersAfter, WholeRun, commanded, flagged, stall, resumed, Resumes, Drives}
 use Rattle.laws.proofs.Blocks.{thenOf, pebblesOf, registersOf-blockOf, length-blockOf, line-answered, line-refused, stepped-refused, stepped-line, stepped-block, stepped-pebbles, stepped-registers, stepFault-none, taskFault-other}
-use Rattle.laws.proofs.Cabinet.{then-cases, then-start, then-stop, then-acknowledge, then-obey, then-rest, then-in-range, now-in-range, pebbles-obey, pebbles-rest}
+use Rattle.laws.proofs.Cabinet.{then-cases, then-start, then-stop, then-acknowledge, then-obey, then-rest, then-in-range, now-in-range, failure-ignored, pebbles-obey, pebbles-rest}
 use Rattle.laws.proofs.CabinetRun.{whole-run}
 
 -- flags have no say in where a step leads
@@ -89,19 +90,19 @@ module _ (y : Yard) (bs b c : List ℕ) (a : Alike b c) where
   )
 
 module _ (y : Yard) (bs b c : List ℕ) (a : Alike b c) where
-  alike-steps : (k : ℕ) → Together (steps k y bs b) (steps k y bs c)
+  alike-steps : (k : ℕ) → Together (steps k y bs b false) (steps k y bs c false)
   unfolding steps
   alike-steps zero = alike-step y bs b c a false
   alike-steps (suc k) =
       let h = alike-steps k in
-      rw (h .1) (alike-step (holding y (steps k y bs c .pebbles)) bs (steps k y bs b .block) (steps k y bs c .block) (h .0) false)
+      rw (h .1) (alike-step (holding y (steps k y bs c false .pebbles)) bs (steps k y bs b false .block) (steps k y bs c false .block) (h .0) false)
 
-  steps-refused : (k : ℕ) (f : Fault) → (steps k y bs b .line ≡ refused f) ↔ (steps k y bs c .line ≡ refused f)
+  steps-refused : (k : ℕ) (f : Fault) → (steps k y bs b false .line ≡ refused f) ↔ (steps k y bs c false .line ≡ refused f)
   unfolding steps
   steps-refused zero = alike-refused y bs b c a false
   steps-refused (suc k) =
       let h = alike-steps k in
-      rw (h .1) (alike-refused (holding y (steps k y bs c .pebbles)) bs (steps k y bs b .block) (steps k y bs c .block) (h .0) false)
+      rw (h .1) (alike-refused (holding y (steps k y bs c false .pebbles)) bs (steps k y bs b false .block) (steps k y bs c false .block) (h .0) false)
 
 -- a stall, acknowledged
 module _ (y : Yard) (bs block : List ℕ) (l : Bool) (e : stall y bs block .line ≡ answered l) (c : registersOf block .command ≡ noCommand) (s : registersOf block .status ≡ running) where
@@ -169,25 +170,29 @@ alike-trans : {a b c : List ℕ} → Alike a b → Alike b c → Alike a c
 alike-trans p q = record { lengths = p .lengths ∙ q .lengths; registers = p .registers ∙ q .registers; left-flags = p .left-flags; right-flags = q .right-flags }
 
 module _ (y : Yard) (bs block : List ℕ) (l : Bool) (e : stepped y bs block false .line ≡ answered l) (c : registersOf block .command ≡ start) where
-  abbrev whole : WholeRun y bs block (wholeMoves bs)
-  whole = whole-run y bs block l e c
+  abbrev whole : WholeRun y bs block false (wholeMoves bs)
+  whole = whole-run y bs block false l e c
 
-  next-passes : (k : ℕ) → stepFault (yardAfter k y bs block) bs (steps k y bs block .block) ≡ none
+  next-passes : (k : ℕ) → stepFault (yardAfter k y bs block false) bs (steps k y bs block false .block) ≡ none
   unfolding steps
-  next-passes k = let a = whole .accepted (suc k) in line-answered (yardAfter k y bs block) bs (steps k y bs block .block) false (a .0) (a .1)
+  next-passes k = let a = whole .accepted (suc k) in line-answered (yardAfter k y bs block false) bs (steps k y bs block false .block) false (a .0) (a .1)
 
-  together : {k : ℕ} {s : Stepped} → Drives y bs block k s → Together s (steps k y bs block)
+  begun-same : (failed : Bool) → stepped y bs block failed ≡ stepped y bs block false
+  begun-same true = failure-ignored y bs block (rw c)
+  begun-same false = refl
+
+  together : {k : ℕ} {s : Stepped} → Drives y bs block k s → Together s (steps k y bs block false)
   unfolding steps
-  together Drives.begun =
+  together (Drives.begun failed) =
       let h = now-in-range y bs block false (line-answered y bs block false l e) in
-      (record { lengths = refl; registers = refl; left-flags = h .flags-le; right-flags = h .flags-le }, refl)
+      rw (begun-same failed) (record { lengths = refl; registers = refl; left-flags = h .flags-le; right-flags = h .flags-le }, refl)
   together (Drives.moved {k} {s} d) =
       let h = together d in
-      rw (h .1) (alike-step (yardAfter k y bs block) bs (s .block) (steps k y bs block .block) (h .0) false)
+      rw (h .1) (alike-step (yardAfter k y bs block false) bs (s .block) (steps k y bs block false .block) (h .0) false)
   together (Drives.stuck {k} {s} d n failed) =
       let h = together d in
-      let z : holding y (s .pebbles) ≡ yardAfter k y bs block = rw (h .1) in
-      let passes : stepFault (holding y (s .pebbles)) bs (s .block) ≡ none = rw z (alike-fault (yardAfter k y bs block) bs (s .block) (steps k y bs block .block) (h .0) ∙ next-passes k) in
+      let z : holding y (s .pebbles) ≡ yardAfter k y bs block false = rw (h .1) in
+      let passes : stepFault (holding y (s .pebbles)) bs (s .block) ≡ none = rw z (alike-fault (yardAfter k y bs block false) bs (s .block) (steps k y bs block false .block) (h .0) ∙ next-passes k) in
       let answers = stepped-line (holding y (s .pebbles)) bs (s .block) true passes in
       let command = ap (λ (r : Registers). r .command) (h .0 .registers) ∙ whole .taken k in
       let status = ap (λ (r : Registers). r .status) (h .0 .registers) ∙ whole .runs k n in (
@@ -196,7 +201,7 @@ module _ (y : Yard) (bs block : List ℕ) (l : Bool) (e : stepped y bs block fal
       )
 
   -- however often it stalls and is acknowledged, it comes where a run without stalls comes, and its m-th move leaves the pebbles on exactly the targets
-  pub drives-steps : (k : ℕ) (s : Stepped) → Drives y bs block k s → (s .pebbles ≡ steps k y bs block .pebbles) × (flagged 0 (registersOf (s .block)) ≡ flagged 0 (registersAfter k y bs block))
+  pub drives-steps : (k : ℕ) (s : Stepped) → Drives y bs block k s → (s .pebbles ≡ steps k y bs block false .pebbles) × (flagged 0 (registersOf (s .block)) ≡ flagged 0 (registersAfter k y bs block false))
   drives-steps k s d = let h = together d in (h .1, h .0 .registers)
 
   pub drives-solves : (s : Stepped) → Drives y bs block (wholeMoves bs) s → Solved (holding y (s .pebbles))

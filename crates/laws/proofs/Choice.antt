@@ -15,12 +15,9 @@ use Rattle.model.specs.Plan.{needy, some, Rule, lowestChild, greatest, neediest
 use Rattle.laws.proofs.Basics.{All, all-map, all-below, below-all, below-none}
 use Rattle.laws.proofs.Found.{below-cong}
 use Rattle.laws.proofs.Sums.{sum-some}
-use Rattle.laws.proofs.Trees.{Child, is-child, child-is}
+use Rattle.laws.specs.Choice.{Child, Needy, Neediest}
+use Rattle.laws.proofs.Trees.{is-child, child-is}
 use Rattle.laws.proofs.Demands.{overChildren}
-
--- a child of u that needs something
-abbrev pub Needy : (ℕ → ℕ) → Yard → ℕ → ℕ → Type 0
-Needy need y u c = Child (y .parents) u c × (0 < need c)
 
 abbrev pub Sound : Rule → Type 0
 Sound rule = (need : ℕ → ℕ) (y : Yard) (u c : ℕ) → Needy need y u c → Needy need y u (rule need y u)
@@ -162,12 +159,6 @@ module _ (need : ℕ → ℕ) (u : ℕ) (p : ℕ → Bool) where
           at : (x : Bool) → ltb (need (greatest need v vs)) (need n) ≡ x → Best need p n (greatest need v vs) → Best need p (suc n) (cond x n (greatest need v vs))
           at true l b = best-over b e (ltb-true _ _ l)
           at false l b = best-stays b (λ _. ltb-false _ _ l)
-
--- r is the child that `neediestChild` chooses: no child needs more, and those with a lower number need less
-pub record Neediest (need : ℕ → ℕ) (y : Yard) (u r : ℕ) : Type 0 where
-  pub needy : Needy need y u r
-  pub most : (v : ℕ) → Child (y .parents) u v → need v ≤ need r
-  pub first : (v : ℕ) → Child (y .parents) u v → v < r → need v < need r
 
 module _ (need : ℕ → ℕ) (y : Yard) (u : ℕ) where
   abbrev p : ℕ → Bool

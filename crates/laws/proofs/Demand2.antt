@@ -16,12 +16,12 @@ use borrow.Author.Tests.{ltb-false, eqb-true, lt-ltb, le-ltb, le-leb, lt-leb, eq
 use Rattle.model.specs.Yard.{Yard, size, parent, pebble, target, capacity, holding, below, shortest, Matched}
 use Rattle.model.specs.Judge.{row, atLowest, Tree, matchedFault}
 use Rattle.model.specs.Push.{Move, push, adjacent, moveTests, moveFault, shifted, run, accepted, Solved}
-use Rattle.model.specs.Plan.{plan}
-use Rattle.model.specs.Calls.Answers.{answered, refused}
+use Rattle.model.specs.Plan.{choice, plan}
+use Rattle.model.specs.Calls.Answers.{Answer, answered, refused}
 use Rattle.model.specs.Calls.Demands.{boundAnswer, displacedAnswer}
-use Rattle.model.specs.Calls.Plans.{bytes, movesOf, planAnswer}
+use Rattle.model.specs.Calls.Plans.{bytes, movesOf, planAnswer, planList}
 use Rattle.model.specs.Calls.Checks.{maxPlanBytes, bytesFault, endFault, Verdict, checkTests, checkFault, checkAnswer}
-use Rattle.laws.specs.Demand2.{Carries, Demand2}
+use Rattle.laws.specs.Demand2.{Carries, OnePlan, PlannerExact, CheckerExact, Accepts, Demand2}
 use Rattle.laws.proofs.Basics.{below-none, none-below, none-all, all-none, atLowest-none}
 use Rattle.laws.proofs.Sums.{sum-tight}
 use Rattle.laws.proofs.Judged.{facts}
@@ -29,6 +29,8 @@ use Rattle.laws.proofs.Bounds.{shortest-fits}
 use Rattle.laws.proofs.Step.{Step, step, ends, moved-tree}
 use Rattle.laws.proofs.Runs.{Obeys, obeys, run-tree, pebbleCount-run}
 use Rattle.laws.proofs.Shortest.{shortest-least}
+use Rattle.laws.proofs.Choice.{neediest-some}
+use Rattle.laws.proofs.Balance.{plan-balances, plan-only}
 use Rattle.laws.proofs.Calls.{answer-answered, movesOf-bytes, length-bytes, take-overwrite, totals-none, plan-none, other-unless, other-lowest, other-moves, seven}
 use Rattle.laws.proofs.Demand3.{plan-optimal, plan-length, plan-seven}
 use Rattle.laws.proofs.Moves.{moveFault-legal, obeys-accepted, accepted-obeys, movesFault-accepted}
@@ -90,7 +92,7 @@ carries-solved y t ms =
       λ c. let r = obeys-accepted (carries-obeys y c t) in (r .0, last .1 (r .1)),
     )
 
-bytesFault-even : (bs : List ℕ) (k : ℕ) → length bs ≡ 2 * k → k ≤ 131_072 → bytesFault bs ≡ none
+pub bytesFault-even : (bs : List ℕ) (k : ℕ) → length bs ≡ 2 * k → k ≤ 131_072 → bytesFault bs ≡ none
 bytesFault-even bs k e l = rw (e, mul-mod-right 2 k, le-leb (2 * k) maxPlanBytes (omega arith))
 
 module _ (y : Yard) (t : Tree y) (m : Matched y) where
@@ -120,21 +122,46 @@ module _ (y : Yard) (t : Tree y) (m : Matched y) where
   pub check-plan : checkAnswer y (bytes (plan y)) ≡ answered (record { moves = length (plan y); excess = 0 })
   check-plan = check-shortest (plan y) (plan-optimal y t m .obeyed) (plan-optimal y t m .solves) (plan-length y t m)
 
-  pub demand-2 : Demand2 y
-  demand-2 = record {
-    planner = λ list h.
+  planner-exact : (list : List ℕ) → OnePlan y list (planAnswer y list) (planList y list)
+  planner-exact list = record {
+    moves = plan y;
+    outputs = plan-balances y t m;
+    only = plan-only y t m;
+    written = λ h.
         let f = plan-none y (length list) .1 (t, m, h) in
         (rw f, rw f (take-overwrite (bytes (plan y)) list (2 * length (plan y)) (length-bytes (plan y))));
-    checker = λ bs k e l. (
-      (λ a. let h = checkFault-none bs .0 (answer-answered (checkFault y bs) _ (a .0) (a .1) .0) in carries-solved y t (movesOf bs) .0 (h .1, h .2)),
-      λ c.
-          let h = carries-solved y t (movesOf bs) .1 c in
-          (verdict (movesOf bs), rw (checkFault-none bs .1 (bytesFault-even bs k e l, h .0, h .1))),
-    );
   }
-    where
-      verdict : List Move → Verdict
-      verdict ms = record { moves = length ms; excess = length ms - shortest y }
+
+  -- no refusal, exactly if each move carries a pebble and they end on exactly the targets
+  check-exact : (bs : List ℕ) (k : ℕ) → length bs ≡ 2 * k → k ≤ 131_072 → (checkFault y bs ≡ none) ↔ Carries (y .parents) (y .depths) (y .pebbles) (movesOf bs) (y .targets)
+  check-exact bs k e l = (
+    (λ a. let h = checkFault-none bs .0 a in carries-solved y t (movesOf bs) .0 (h .1, h .2)),
+    λ c. let h = carries-solved y t (movesOf bs) .1 c in checkFault-none bs .1 (bytesFault-even bs k e l, h .0, h .1),
+  )
+
+-- of a call that answers and leaves what the model says; and of one that accepts exactly where the model does, in whatever words
+pub planner-exact-of : (y : Yard) (before after : List ℕ) (a : Answer ℕ) → a ≡ planAnswer y before → after ≡ planList y before → PlannerExact y before a after
+planner-exact-of y before after a e f t m = rw (e, f) (planner-exact y t m before)
+
+pub checker-exact-of : (y : Yard) (bs : List ℕ) (accepts : Type 0) → accepts ↔ (checkFault y bs ≡ none) → CheckerExact y bs accepts
+checker-exact-of y bs accepts w t m k e l = let h = check-exact y t m bs k e l in ((λ a. h .0 (w .0 a)), λ c. w .1 (h .1 c))
+
+pub accepts-none : (y : Yard) (bs : List ℕ) → Accepts (checkAnswer y bs) ↔ (checkFault y bs ≡ none)
+accepts-none y bs = ((λ a. answer-answered (checkFault y bs) _ (a .0) (a .1) .0), λ e. (record { moves = length (movesOf bs); excess = length (movesOf bs) - shortest y }, rw e))
+
+-- what the checker's call says of its answer
+pub answers-exact : (y : Yard) (bs : List ℕ) (a : Answer Verdict) → a ≡ checkAnswer y bs → (a ≡ checkAnswer y bs) × CheckerExact y bs (Accepts a)
+answers-exact y bs a e = (e, rw e (checker-exact-of y bs (Accepts (checkAnswer y bs)) (accepts-none y bs)))
+
+pub demand-2 : (y : Yard) → Demand2 y
+unfolding choice
+demand-2 y = record {
+  outputs = plan-balances y;
+  only = plan-only y;
+  picks = λ need u c h. neediest-some need y u c h;
+  planner = λ list. planner-exact-of y list (planList y list) (planAnswer y list) refl refl;
+  checker = λ bs. checker-exact-of y bs (Accepts (checkAnswer y bs)) (accepts-none y bs);
+}
 
 -- refusal 7: the calls that test the totals agree on it
 pub seven-same : (y : Yard) → Tree y → (list bs : List ℕ) → ((planAnswer y list ≡ refused (row 7 0)) ↔ (¬ Matched y))

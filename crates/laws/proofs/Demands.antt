@@ -16,7 +16,8 @@ use Rattle.model.specs.Judge.{Tree}
 use Rattle.model.specs.Push.{Solved}
 use Rattle.laws.proofs.Basics.{eqb-sym, one-le}
 use Rattle.laws.proofs.Sums.{sum-cong, sum-mono, sum-add, sum-scale, sum-swap, sum-zero, sum-pick, sum-term, sum-le, sum-some}
-use Rattle.laws.proofs.Trees.{Wood, down-ind, root-inside, one-step, Child, is-child, child-is}
+use Rattle.laws.specs.Choice.{Child}
+use Rattle.laws.proofs.Trees.{Wood, down-ind, root-inside, one-step, is-child, child-is}
 use Rattle.laws.proofs.Judged.{wood}
 
 -- the sum of f over the children of u

@@ -14,8 +14,8 @@ use Rattle.model.specs.Judge.{Tree}
 use Rattle.model.specs.Push.{accepted}
 use Rattle.model.specs.Plan.{plan}
 use Rattle.model.specs.Follow.{starts, occurs, At, Follows, LastFirst, lifo, movers, displaced}
+use Rattle.laws.specs.Choice.{Child}
 use Rattle.laws.proofs.Sums.{sum-mono, length-below}
-use Rattle.laws.proofs.Trees.{Child}
 use Rattle.laws.proofs.Runs.{obeys}
 use Rattle.laws.proofs.Follow.{starts-counts, follows-only, follows-solved, follows-onto, follows-apart}
 use Rattle.laws.proofs.LastIn.{lifo-follows, lifo-last}

@@ -18,6 +18,7 @@ use Rattle.model.specs.Yard.{Yard, size, maxDemand, below, lowest, demand, entr
 use Rattle.model.specs.Judge.{Fault, fault, firstOf, atLowest, judge, Tree}
 use Rattle.model.specs.Calls.Demands.{demandsOf, demandsList}
 use Rattle.model.specs.Calls.Events.{altered, demandsAfter, possible, differ, stale, staleFault, readyTests, eventTests, eventFault, Console, console, Happening, refusalOf, leaves, runLeaves, Right}
+use Rattle.laws.specs.Events.{Ready}
 use Rattle.laws.proofs.Basics.{none-below, below-none, none-all, unless-none, atLowest-none, first-refused, first-passed, single}
 use Rattle.laws.proofs.Found.{lowest-is, lowest-none, lowest-fault}
 use Rattle.laws.proofs.Signed.{demand-range}
@@ -55,12 +56,6 @@ module _ (y : Yard) (list : List ℤ) (e : Event) (v : ℕ) where
   event-ready r = first-passed (readyTests y list e v) (drop 4 (eventTests y list e v)) r ∙ single (staleFault y list)
 
 -- what is known of an event that passes them
-pub record Ready (y : Yard) (list : List ℤ) (e : Event) (v : ℕ) : Type 0 where
-  pub tree : Tree y
-  pub long : length list ≡ size y
-  pub node-lt : v < size y
-  pub can : possible y e v ≡ true
-
 pub passed : (y : Yard) (list : List ℤ) (e : Event) (v : ℕ) → firstOf (readyTests y list e v) ≡ none → Ready y list e v
 passed y list e v r =
     let p = none-all (readyTests y list e v) r in

@@ -16,6 +16,7 @@ use Rattle.model.specs.Judge.{Fault, fault, judge, Tree}
 use Rattle.model.specs.Calls.Answers.{answered}
 use Rattle.model.specs.Distance.{distance}
 use Rattle.model.specs.Calls.Distances.{isNearer, nearerThan, nearest, Nearest, nearestOf, nearestTests, nearestFault, nearestAnswer, inReach, reachFault, reachList, reachCount}
+use Rattle.laws.specs.Nearest.{IsNearest}
 use Rattle.laws.proofs.Basics.{not-so, All, all-below, none-below, below-none, none-all, all-none, unless-none}
 use Rattle.laws.proofs.Sums.{sum-cong, sum-zero, sum-some, sum-term}
 use Rattle.laws.proofs.Found.{lowest-is, lowest-none}
@@ -54,14 +55,6 @@ module _ (y : Yard) (list : List ℕ) (a : ℕ) where
 -- the lowest number that passes a test, if one does
 lowest-of : (n m : ℕ) (p : ℕ → Bool) → m < n → p m ≡ true → (lowest n p < n) × (p (lowest n p) ≡ true) × ((v : ℕ) → v < lowest n p → p v ≡ false)
 lowest-of n m p l e = lowest-is n n (lowest n p) p refl (λ q. false≢true (sym (below-none n p (lowest-none n p (lowest n p) refl (omega (arith, q))) m l) ∙ e))
-
--- what the nearest pebble is
-pub record IsNearest (y : Yard) (a : ℕ) (r : Nearest) : Type 0 where
-  pub node-lt : r .node < size y
-  pub holds : held y (r .node) ≡ true
-  pub far : r .distance ≡ distance y a (r .node)
-  pub least : (w : ℕ) → w < size y → held y w ≡ true → r .distance ≤ distance y a w
-  pub lowest : (w : ℕ) → w < size y → held y w ≡ true → distance y a w ≡ r .distance → r .node ≤ w
 
 abbrev at : ℕ → ℕ → Nearest
 at v d = record { node = v; distance = d }

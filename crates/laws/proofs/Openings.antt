@@ -19,12 +19,13 @@ use Rattle.model.specs.Openings.{wants, opening, openingsFrom, openings}
 use Rattle.model.specs.Calls.Answers.{answered}
 use Rattle.model.specs.Calls.Plans.{bytes, movesOf}
 use Rattle.model.specs.Calls.Openings.{openingsTests, openingsFault, openingsAnswer, openingsList}
+use Rattle.laws.specs.Algorithms.{need, crossing}
 use Rattle.laws.specs.Openings.{ShortestPlan, Opens, Listed, Sorted, Before, EveryOpening}
 use Rattle.laws.proofs.Basics.{one-le, first-refused}
 use Rattle.laws.proofs.Sums.{sum-cong, sum-mono, sum-ones, sum-add, sum-swap, sum-pick, length-below}
 use Rattle.laws.proofs.Judged.{wood}
 use Rattle.laws.proofs.Demands.{solved-iff, root-even}
-use Rattle.laws.proofs.Step.{Step, step, ends, legal-step, need, crossing, crosses, moved-tree}
+use Rattle.laws.proofs.Step.{Step, step, ends, legal-step, crosses, moved-tree}
 use Rattle.laws.proofs.Runs.{Obeys, pebbleCount-run, run-one}
 use Rattle.laws.proofs.Shortest.{shortest-least, shortest-falls, shortest-grows}
 use Rattle.laws.proofs.Calls.{answer-answered, movesOf-bytes, length-bytes, take-overwrite}

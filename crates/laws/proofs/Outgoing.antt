@@ -17,10 +17,12 @@ use Rattle.model.specs.Push.{Move, run, accepted, Solved, isUp, isDown, count, 
 use Rattle.model.specs.Follow.{starts, occurs, Follows}
 use Rattle.laws.proofs.Basics.{eqb-sym}
 use Rattle.laws.proofs.Sums.{sum-cong, sum-add, sum-zero, sum-some}
-use Rattle.laws.proofs.Trees.{Wood, Child, is-child, child-is}
+use Rattle.laws.specs.Choice.{Child}
+use Rattle.laws.proofs.Trees.{Wood, is-child, child-is}
 use Rattle.laws.proofs.Judged.{facts, wood}
 use Rattle.laws.proofs.Demands.{overChildren, child-le, pick, solved-even, solved-iff}
-use Rattle.laws.proofs.Step.{crossing, Step, ends, crosses}
+use Rattle.laws.specs.Algorithms.{crossing}
+use Rattle.laws.proofs.Step.{Step, ends, crosses}
 use Rattle.laws.proofs.Runs.{Obeys, obeys, run-tree}
 use Rattle.laws.proofs.Shortest.{thrifty-crosses}
 use Rattle.laws.proofs.Follow.{at-only, Counts, starts-counts, start-lt, counts-moved}

@@ -15,14 +15,16 @@ use Rattle.model.specs.Judge.{Tree}
 use Rattle.model.specs.Push.{Move, after, run}
 use Rattle.model.specs.Plan.{needy, enough, plan, choice, fills}
 use Rattle.laws.proofs.Basics.{All, all-map, all-both, all-append, all-below, below-all, none-below}
-use Rattle.laws.proofs.Trees.{Child, is-child, child-is, down-ind, inside-self, inside-of-child, child-above, siblings-apart}
+use Rattle.laws.specs.Choice.{Child}
+use Rattle.laws.proofs.Trees.{is-child, child-is, down-ind, inside-self, inside-of-child, child-above, siblings-apart}
 use Rattle.laws.proofs.Judged.{wood}
 use Rattle.laws.proofs.Demands.{weight, weight-child, weight-pos, weight-le}
 use Rattle.laws.proofs.Shortest.{Good, good-nil, good-append, good-tree, keeps}
 use Rattle.laws.proofs.Struck.{Struck, Closed, struck-tree, struck-imbalance, child-imbalance, struck-run}
 use Rattle.laws.proofs.Striking.{Sided, sided-one, sided-kept, settles-struck, closed-run}
 use Rattle.laws.proofs.Choice.{choice-sound}
-use Rattle.laws.proofs.Balance.{Even, Settles, settled, Balances, settles-good, Done, Fit, fit-children, fit-run, balances-good, balance-balances, fills-steers, plan-only}
+use Rattle.laws.specs.Algorithms.{Settles, settled, Balances}
+use Rattle.laws.proofs.Balance.{Even, settles-good, Done, Fit, fit-children, fit-run, balances-good, balance-balances, fills-steers, plan-only}
 
 -- no number twice
 abbrev pub Distinct : List ℕ → Type 0

@@ -18,12 +18,14 @@ use Rattle.model.specs.Parts.{isCut, topmost, inPart, tops, masked, partYard, p
 use Rattle.laws.specs.Parts.{Top, liesIn, liesInOne, kept, Mingling}
 use Rattle.laws.proofs.Basics.{All, all-map, all-both, all-append}
 use Rattle.laws.proofs.Ranges.{flatten-last}
-use Rattle.laws.proofs.Trees.{Child, inside-split, inside-trans, child-above}
+use Rattle.laws.specs.Choice.{Child}
+use Rattle.laws.proofs.Trees.{inside-split, inside-trans, child-above}
 use Rattle.laws.proofs.Judged.{wood}
 use Rattle.laws.proofs.Shortest.{Good, good-append, good-tree, keeps}
 use Rattle.laws.proofs.Moves.{accepted-obeys}
 use Rattle.laws.proofs.Demand3.{plan-optimal, plan-length}
-use Rattle.laws.proofs.Balance.{Even, Balances, Fit}
+use Rattle.laws.specs.Algorithms.{Balances}
+use Rattle.laws.proofs.Balance.{Even, Fit}
 use Rattle.laws.proofs.Kept.{kept-append, kept-all}
 use Rattle.laws.proofs.Struck.{Struck, masked-struck, struck-run}
 use Rattle.laws.proofs.Striking.{Sided, sided-one, sided-kept, closed-run}

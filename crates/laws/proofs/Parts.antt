@@ -20,7 +20,7 @@ use Rattle.laws.proofs.Climb.{inside-step}
 use Rattle.laws.proofs.Trees.{down-ind, inside-self, parent-outside}
 use Rattle.laws.proofs.Judged.{wood}
 use Rattle.laws.proofs.Demands.{weight, weight-child, root-even}
-use Rattle.laws.proofs.Step.{need}
+use Rattle.laws.specs.Algorithms.{need}
 use Rattle.laws.proofs.Signed.{demand-is}
 use Rattle.laws.proofs.Struck.{Closed, masked-struck, struck-tree, struck-need, struck-imbalance, struck-matched}
 use Rattle.laws.proofs.Kept.{all-kept}

@@ -2,6 +2,7 @@
 -- are at most 256 nodes, past refusal 9 at most 131,072 moves, and the plan of a tree has at most 524,288; of a sheet it is a line up to 258, or its
 -- length. The values are as small.
 use mathlib.Core.Path.{_≡_, refl}
+use mathlib.Core.Logic.{_↔_}
 use mathlib.Core.Bool.{Bool, true, false, not, cond, _&&_, and-eq-true-iff}
 use mathlib.Core.List.{List, [], _∷_}
 use mathlib.Core.Option.{Option, none, some}
@@ -16,7 +17,7 @@ use Rattle.model.specs.Yard.{Yard, size, maxSize, parent, pebble, full, held, o
 use Rattle.model.specs.Judge.{Fault, row, fault, firstOf, unless, atLowest, sizeFault, rootFault, tests, judge, Tree, totalsFault, matchedTests, matchedFault}
 use Rattle.model.specs.Push.{Move, adjacent, moveTests, moveFault, pushFault, pushed}
 use Rattle.model.specs.Plan.{plan}
-use Rattle.model.specs.Calls.Answers.{Answer, answered, refused, rowUnit, inC, told, InTable, Row, Small, answer, mapAnswer}
+use Rattle.model.specs.Calls.Answers.{Answer, answered, refused, rowUnit, inC, told, InTable, Row, Small, answer, mapAnswer, zeroInC}
 use Rattle.model.specs.Calls.Demands.{demandsTests, demandsFault, boundAnswer, displacedAnswer, longest, longestAnswer}
 use Rattle.model.specs.declared.Event.{Event}
 use Rattle.model.specs.Calls.Events.{possible, eventTests, eventFault}
@@ -55,6 +56,11 @@ pub data Low : Option Fault → Type 0 where
 pub small : {f : Option Fault} (n : ℕ) → Low f → (f ≡ none → n < rowUnit) → Small (answer f n)
 small n Low.passes h = h refl
 small n (Low.refuses l) h = l
+
+-- 0 tells that a call with no value of its own was accepted
+pub zero-none : (f : Option Fault) → Small (answer f 0) → (zeroInC f ≡ 0) ↔ (f ≡ none)
+zero-none none h = ((λ _. refl), λ _. refl)
+zero-none (some f) h = ((λ z. absurd (omega (arith, z, h .numbered .0))), λ e. cc)
 
 -- the number tells the answer
 pub tells : (a : Answer ℕ) → Small a → told (inC a) ≡ a

@@ -15,20 +15,22 @@ use Rattle.model.specs.Yard.{Yard, size, up, parent, pebble, target, capacity, 
 use Rattle.model.specs.Judge.{Tree}
 use Rattle.model.specs.Push.{Move, push, moved, run}
 use Rattle.model.specs.Plan.{needy, choice, neediestChild, fills}
+use Rattle.laws.specs.Algorithms.{crossing, need, blocked, Serves, direct, behind, Settles, settled, turned, Balances}
+use Rattle.laws.specs.Choice.{Child, Needy, Neediest}
 use Rattle.laws.specs.Parts.{renamed}
 use Rattle.laws.proofs.Basics.{All, not-so, all-below}
 use Rattle.laws.proofs.Found.{below-cong}
 use Rattle.laws.proofs.Sums.{sum-cong, sum-zero}
 use Rattle.laws.proofs.Climb.{inside-step}
-use Rattle.laws.proofs.Trees.{Child, is-child, child-is, down-ind, inside-self, root-inside, inside-trans, parent-outside, child-above, child-off-root}
+use Rattle.laws.proofs.Trees.{is-child, child-is, down-ind, inside-self, root-inside, inside-trans, parent-outside, child-above, child-off-root}
 use Rattle.laws.proofs.Judged.{wood}
-use Rattle.laws.proofs.Step.{crossing, need, Step, ends, moved-pebble, moved-tree}
+use Rattle.laws.proofs.Step.{Step, ends, moved-pebble, moved-tree}
 use Rattle.laws.proofs.Runs.{Obeys, obeys, run-tree}
 use Rattle.laws.proofs.Moves.{obeys-accepted, accepted-obeys}
 use Rattle.laws.proofs.Shortest.{Good, good-append, good-tree, keeps}
-use Rattle.laws.proofs.Choice.{Needy, all-needy, none-needy, nil-needy, Neediest, neediest-none, neediest-some, neediest-is, fills-choice, choice-none, choice-sound}
-use Rattle.laws.proofs.Serve.{Due, blocked, blocked-child, Serves, direct, behind}
-use Rattle.laws.proofs.Balance.{Even, Settles, settled, turned, Balances, turn-chosen, first-needy, turned-shift, settles-good, Done, Fit, fit-children, fit-run, balances-good, fills-steers}
+use Rattle.laws.proofs.Choice.{all-needy, none-needy, nil-needy, neediest-none, neediest-some, neediest-is, fills-choice, choice-none, choice-sound}
+use Rattle.laws.proofs.Serve.{Due, blocked-child}
+use Rattle.laws.proofs.Balance.{Even, turn-chosen, first-needy, turned-shift, settles-good, Done, Fit, fit-children, fit-run, balances-good, fills-steers}
 use Rattle.laws.proofs.Own.{Whole, sifted, settles-still, fill}
 use Rattle.laws.proofs.Numbering.{rank, nth, nth-lt, nth-passes, nth-rises, nth-same, nth-eqb, nth-rank, rank-lt, sum-nth, sifted-nth}
 

@@ -17,6 +17,7 @@ use Rattle.model.specs.Plan.{plan}
 use Rattle.model.specs.Calls.Answers.{answered, refused}
 use Rattle.model.specs.Calls.Plans.{planFault}
 use Rattle.model.specs.Sheets.{readYard, edges, reportRow, report, moveLines, moveSheet, refusalSheet, programPlanBytes, program}
+use Rattle.laws.specs.Report.{total}
 use Rattle.laws.proofs.Basics.{all-below}
 use Rattle.laws.proofs.Sums.{sum-cong, sum-add, sum-pick, sum-ones, length-below}
 use Rattle.laws.proofs.Judged.{wood}
@@ -26,11 +27,6 @@ use Rattle.laws.proofs.Calls.{totals-none, plan-none}
 use Rattle.laws.proofs.Ranges.{map-all}
 use Rattle.laws.proofs.Demand3.{plan-optimal}
 use Rattle.laws.proofs.Sheets.{program-cut}
-
--- the sum of a list
-unfoldable pub total : List ℕ → ℕ
-total [] = 0
-total (k ∷ ks) = k + total ks
 
 total-map-append : (f : ℕ → ℕ) (xs ys : List ℕ) → total (map f (xs ++ ys)) ≡ total (map f xs) + total (map f ys)
 unfolding total

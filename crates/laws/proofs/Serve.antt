@@ -14,10 +14,12 @@ use Rattle.model.specs.Yard.{Yard, size, parent, pebble, capacity, full, held, 
 use Rattle.model.specs.Judge.{Tree}
 use Rattle.model.specs.Push.{Move, shifted, moved, after, run}
 use Rattle.model.specs.Plan.{Rule, inject, extract}
-use Rattle.laws.proofs.Trees.{Child, parent-outside, child-off-root, outside-child, outside-sibling, outside-other}
+use Rattle.laws.specs.Choice.{Child}
+use Rattle.laws.proofs.Trees.{parent-outside, child-off-root, outside-child, outside-sibling, outside-other}
 use Rattle.laws.proofs.Judged.{facts, wood}
 use Rattle.laws.proofs.Demands.{overChildren, weight, weight-child, weight-pos, parts-children}
-use Rattle.laws.proofs.Step.{crossing, need, Step, legal-step, moved-pebble, pebblesIn-node, pebblesIn-other}
+use Rattle.laws.specs.Algorithms.{crossing, need, blocked, Serves, direct, behind}
+use Rattle.laws.proofs.Step.{Step, legal-step, moved-pebble, pebblesIn-node, pebblesIn-other}
 use Rattle.laws.proofs.Runs.{after-append, run-one}
 use Rattle.laws.proofs.Shortest.{Good, good-append, good-tree, good-one}
 use Rattle.laws.proofs.Choice.{Sound, some-needy}
@@ -142,15 +144,6 @@ module _ (y : Yard) (t : Tree y) (b : Bool) (v c : ℕ) (ms : List Move) (u : Du
     where
       q : Shift (run y ms) b v (crossing (y .parents) b v ∷ [])
       q = shift-one (run y ms) (good-tree y t ms (p .good)) b v due-behind able-behind
-
--- v cannot take the pebble that is due over its edge, or cannot give one: it is full, or empty
-abbrev pub blocked : Yard → Bool → ℕ → Bool
-blocked y b v = cond b (full y v) (not (held y v))
-
--- the moves by which a pebble goes over the edge of v: one push, behind those that make way for it at a child where v is blocked
-pub data Serves (rule : Rule) (y : Yard) (b : Bool) : ℕ → List Move → Type 0 where
-  direct : {v : ℕ} → blocked y b v ≡ false → Serves rule y b v (crossing (y .parents) b v ∷ [])
-  behind : {v : ℕ} {ms : List Move} → blocked y b v ≡ true → Serves rule y b (rule (need y b) y v) ms → Serves rule y b v (ms ++ (crossing (y .parents) b v ∷ []))
 
 -- they are determined by the yard
 pub serves-same : {rule : Rule} {y : Yard} {b : Bool} {v : ℕ} {ms ns : List Move} → Serves rule y b v ms → Serves rule y b v ns → ms ≡ ns

@@ -14,14 +14,13 @@ use Rattle.model.specs.Plan.{needy, some, Rule, choice, Side, fills, planBy, pl
 use Rattle.model.specs.Calls.Answers.{answered}
 use Rattle.model.specs.Sheets.{readYard, moveSheet, program}
 use Rattle.laws.proofs.Basics.{All}
-use Rattle.laws.proofs.Trees.{Child}
+use Rattle.laws.specs.Choice.{Child}
 use Rattle.laws.proofs.Judged.{facts}
 use Rattle.laws.proofs.Demands.{child-le, parts-children}
-use Rattle.laws.proofs.Step.{need}
+use Rattle.laws.specs.Algorithms.{need, Serves, Settles, settled, turned, Balances, none, next}
 use Rattle.laws.proofs.Shortest.{good-append, good-tree, keeps}
 use Rattle.laws.proofs.Choice.{Sound, none-over, choice-sound}
-use Rattle.laws.proofs.Serve.{Serves}
-use Rattle.laws.proofs.Balance.{Even, Settles, settled, turned, Balances, none, next, first-needy, Fit, fit-children, fit-run, Open, Steers, fills-steers, turned-shift, settles-good, balances-good, root-fit, planBy-balances, planBy-only}
+use Rattle.laws.proofs.Balance.{Even, first-needy, Fit, fit-children, fit-run, Open, Steers, fills-steers, turned-shift, settles-good, balances-good, root-fit, planBy-balances, planBy-only}
 use Rattle.laws.proofs.Demand3.{plan-fits-shallow}
 use Rattle.laws.proofs.Sheets.{program-cut}
 

@@ -13,7 +13,8 @@ use Rattle.model.specs.Judge.{Tree}
 use Rattle.model.specs.Push.{Move, moved, after, run, accepted, Solved, ups, downs}
 use Rattle.laws.proofs.Sums.{sum-mono, sum-add, sum-tight, sum-by-one}
 use Rattle.laws.proofs.Demands.{solved-iff}
-use Rattle.laws.proofs.Step.{need, Step, legal-step, pebblesIn-node, pebblesIn-other}
+use Rattle.laws.specs.Algorithms.{need}
+use Rattle.laws.proofs.Step.{Step, legal-step, pebblesIn-node, pebblesIn-other}
 use Rattle.laws.proofs.Runs.{Obeys, obeys, run-tree, pebblesIn-run, crossings-length, after-append, accepted-append, run-one}
 
 -- the accepted pushes of a list each lower the shortest length

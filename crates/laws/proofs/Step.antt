@@ -14,20 +14,11 @@ use borrow.Author.Tests.{ltb-true, leb-false, eqb-true, eqb-false, lt-ltb, lt-le
 use Rattle.model.specs.Yard.{Yard, size, up, parent, pebble, capacity, one, sum, root, inside, subtotal, pebblesIn, lacking, surplus}
 use Rattle.model.specs.Judge.{Fault, judge, Tree}
 use Rattle.model.specs.Push.{Move, push, adjacent, moveTests, moveFault, pushFault, isNone, legal, shifted, moved, isUp, isDown}
+use Rattle.laws.specs.Algorithms.{crossing}
 use Rattle.laws.proofs.Basics.{not-so, eqb-sym, none-all, all-none, unless-none}
 use Rattle.laws.proofs.Sums.{sum-cong, sum-pick, sum-shift}
 use Rattle.laws.proofs.Trees.{Wood, one-step, no-pair}
 use Rattle.laws.proofs.Judged.{facts, wood, counted-tree}
-
--- the push over the edge of c, away from the root or towards it
-abbrev pub crossing : List ℕ → Bool → ℕ → Move
-crossing ps true c = push (up ps c) c
-crossing ps false c = push c (up ps c)
-
--- what the subtree of v needs: pebbles from above (true), or places above (false)
-abbrev pub need : Yard → Bool → ℕ → ℕ
-need y true v = lacking y v
-need y false v = surplus y v
 
 -- what a legal push is
 pub record Step (y : Yard) (m : Move) : Type 0 where

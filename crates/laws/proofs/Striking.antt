@@ -14,12 +14,12 @@ use Rattle.model.specs.Plan.{needy, choice, fills, plan}
 use Rattle.model.specs.Parts.{masking}
 use Rattle.laws.specs.Parts.{liesIn, kept}
 use Rattle.laws.proofs.Basics.{All, all-append}
-use Rattle.laws.proofs.Trees.{Child}
-use Rattle.laws.proofs.Step.{crossing, need}
+use Rattle.laws.specs.Choice.{Child}
+use Rattle.laws.specs.Algorithms.{crossing, need, blocked, Serves, direct, behind, Settles, settled, turned, Balances, none, next}
 use Rattle.laws.proofs.Shortest.{Good, good-append, good-tree, keeps}
 use Rattle.laws.proofs.Choice.{none-needy, needy-same, choice-same, fills-same, choice-sound}
-use Rattle.laws.proofs.Serve.{Due, blocked, blocked-child, Serves, direct, behind}
-use Rattle.laws.proofs.Balance.{Even, Settles, settled, turned, Balances, none, next, turn-chosen, first-needy, turned-shift, settles-good, Fit, fit-children, fit-run, balances-good, root-fit, fills-steers, plan-balances, plan-only}
+use Rattle.laws.proofs.Serve.{Due, blocked-child}
+use Rattle.laws.proofs.Balance.{Even, turn-chosen, first-needy, turned-shift, settles-good, Fit, fit-children, fit-run, balances-good, root-fit, fills-steers, plan-balances, plan-only}
 use Rattle.laws.proofs.Kept.{kept-append}
 use Rattle.laws.proofs.Struck.{Struck, Closed, struck-tree, struck-child, child-imbalance, OneSided, masked-struck, struck-matched, struck-run}
 

@@ -16,10 +16,11 @@ use Rattle.model.specs.Parts.{masked}
 use Rattle.laws.specs.Parts.{liesIn, kept}
 use Rattle.laws.proofs.Basics.{All}
 use Rattle.laws.proofs.Ranges.{length-range, getD-listed}
-use Rattle.laws.proofs.Trees.{Child}
+use Rattle.laws.specs.Choice.{Child}
 use Rattle.laws.proofs.Judged.{facts, wood, counted-tree}
 use Rattle.laws.proofs.Demands.{over-cong, over-add, weight, weight-child, weight-pos, weight-le, subtotal-children, root-even, root-subtotal}
-use Rattle.laws.proofs.Step.{need, Step, ends, moved-pebble, moved-tree}
+use Rattle.laws.specs.Algorithms.{need}
+use Rattle.laws.proofs.Step.{Step, ends, moved-pebble, moved-tree}
 use Rattle.laws.proofs.Runs.{Obeys, done, next}
 use Rattle.laws.proofs.Moves.{obeys-accepted, accepted-obeys}
 

@@ -14,6 +14,7 @@ use Rattle.model.specs.Yard.{Yard, size, parent, pebble, target, capacity, one,
 use Rattle.model.specs.Judge.{Tree}
 use Rattle.model.specs.Plan.{plan, choice, fills}
 use Rattle.model.specs.Parts.{isCut, topmost, inPart, tops, masked, partYard, partsPlan}
+use Rattle.laws.specs.Algorithms.{Balances}
 use Rattle.laws.specs.Parts.{Top, renamed, nodesOf, takenOut}
 use Rattle.laws.proofs.Basics.{one-le}
 use Rattle.laws.proofs.Sums.{sum-le, length-below}
@@ -22,7 +23,7 @@ use Rattle.laws.proofs.Climb.{climbs-self, inside-step}
 use Rattle.laws.proofs.Trees.{Wood}
 use Rattle.laws.proofs.Judged.{Flat, facts, wood, roots-wood, flat-tree}
 use Rattle.laws.proofs.Demands.{weight}
-use Rattle.laws.proofs.Balance.{Balances, root-fit, plan-balances}
+use Rattle.laws.proofs.Balance.{root-fit, plan-balances}
 use Rattle.laws.proofs.Struck.{Struck, masked-struck}
 use Rattle.laws.proofs.Own.{plan-below}
 use Rattle.laws.proofs.Numbering.{rank, nth, nth-all, nth-lt, nth-passes, nth-rank, rank-lt}

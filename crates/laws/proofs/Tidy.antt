@@ -21,12 +21,13 @@ use Rattle.laws.proofs.Sums.{sum-cong, sum-mono, sum-add, sum-zero}
 use Rattle.laws.proofs.Trees.{parent-outside}
 use Rattle.laws.proofs.Judged.{facts, wood}
 use Rattle.laws.proofs.Demands.{solved-even}
-use Rattle.laws.proofs.Step.{crossing, need, Step, ends, legal-step, crosses, moved-pebble}
+use Rattle.laws.specs.Algorithms.{crossing, need, blocked, Serves, Settles, Balances}
+use Rattle.laws.proofs.Step.{Step, ends, legal-step, crosses, moved-pebble}
 use Rattle.laws.proofs.Runs.{obeys, run-tree, run-one, after-append}
 use Rattle.laws.proofs.Shortest.{Good, good-append, good-tree, good-one, good-thrifty, thrifty-crosses, keeps}
-use Rattle.laws.proofs.Serve.{Able, Due, chosen-due, due-step, free-able, blocked, blocked-child, Serves, serves-shift, stays, due-behind, able-behind}
+use Rattle.laws.proofs.Serve.{Able, Due, chosen-due, due-step, free-able, blocked-child, serves-shift, stays, due-behind, able-behind}
 use Rattle.laws.proofs.Choice.{Sound, none-over, choice-sound}
-use Rattle.laws.proofs.Balance.{Even, Settles, Balances, first-needy, fills-steers, settles-good, Fit, fit-children, fit-run, balances-good, root-fit, planBy-balances}
+use Rattle.laws.proofs.Balance.{Even, first-needy, fills-steers, settles-good, Fit, fit-children, fit-run, balances-good, root-fit, planBy-balances}
 use Rattle.laws.proofs.Least.{least, least-step}
 use Rattle.laws.proofs.Outgoing.{outgoing, leaves-step}
 use Rattle.laws.proofs.Demand3.{plan-optimal}

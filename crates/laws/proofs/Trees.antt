@@ -11,6 +11,7 @@ use lib.ListN.{length}
 use lib.Dec.{eqb}
 use borrow.Author.Tests.{eqb-true, eqb-false, eq-eqb, ne-eqb, not-true}
 use Rattle.model.specs.Yard.{up, one, climbs, inside, isChild}
+use Rattle.laws.specs.Choice.{Child}
 use Rattle.laws.proofs.Basics.{not-so}
 use Rattle.laws.proofs.Climb.{climbs-self, climbs-fixed, inside-step}
 
@@ -21,12 +22,6 @@ pub record Wood (ps : List ℕ) (r : ℕ) : Type 0 where
   pub root-parent : up ps r ≡ r
   pub root-only : (v : ℕ) → v < length ps → up ps v ≡ v → v ≡ r
   pub to-root : (v : ℕ) → v < length ps → inside ps r v ≡ true
-
--- what a child is
-pub record Child (ps : List ℕ) (u c : ℕ) : Type 0 where
-  pub lt : c < length ps
-  pub up : up ps c ≡ u
-  pub other : c ≢ u
 
 pub is-child : (ps : List ℕ) (u c : ℕ) → c < length ps → isChild ps u c ≡ true → Child ps u c
 is-child ps u c l e =

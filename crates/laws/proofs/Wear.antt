@@ -27,7 +27,8 @@ use Rattle.laws.proofs.Sums.{most-le}
 use Rattle.laws.proofs.Found.{found, lowest-is, lowest-none}
 use Rattle.laws.proofs.Trees.{no-pair}
 use Rattle.laws.proofs.Judged.{wood}
-use Rattle.laws.proofs.Step.{Step, crossing, crosses, ends}
+use Rattle.laws.specs.Algorithms.{crossing}
+use Rattle.laws.proofs.Step.{Step, crosses, ends}
 use Rattle.laws.proofs.Runs.{Obeys, root-run}
 use Rattle.laws.proofs.Calls.{answer-answered, totals-none}
 use Rattle.laws.proofs.Moves.{accepted-obeys}

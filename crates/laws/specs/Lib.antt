@@ -1,4 +1,5 @@
--- What is promised of the definitions as a whole: demands 2 and 3, that equation 2 has one solution, which events can happen, what was printed before request 2.10, what request 2.11 says of parts, what the wear of request 2.12 is, what the openings of request 2.13 are, where the spare of an accepted plan lies, and what the check program prints.
+-- What is promised of the definitions as a whole, and the words that it is said in: a file for each demand, request or program that has such a promise.
+pub mod Algorithms
 pub mod Demand2
 pub mod Demand3
 pub mod Equation2
@@ -10,3 +11,7 @@ pub mod Wear
 pub mod Openings
 pub mod Spare
 pub mod CheckSheets
+pub mod Cabinet
+pub mod Choice
+pub mod Nearest
+pub mod Report

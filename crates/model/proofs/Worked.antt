@@ -151,7 +151,7 @@ outcome (distancesOf a y) = left (map (distance y a) (range 0 (length (y .parent
 outcome (nearestOf a y) = located (nearestAnswer y a)
 outcome (reachOf list a reach y) = reached (reachAnswer y list a reach) (reachList y list a reach)
 outcome (stepOf failed bs block y) = let s = stepped y bs block failed in signalled (s .line) (s .block) (s .pebbles)
-outcome (stepsOf k bs block y) = let s = steps k y bs block in signalled (s .line) (s .block) (s .pebbles)
+outcome (stepsOf k bs block y) = let s = steps k y bs block false in signalled (s .line) (s .block) (s .pebbles)
 outcome (blockOfLeft n) = left (take 3 (drop 4 (blockOf (record { command = 1; status = 1; from = 1; to = 1; left = n; mask = 1; flags = 1 }))))
 outcome (leftOfBlock a b c) = number (registersOf (1 ∷ 1 ∷ 1 ∷ 1 ∷ a ∷ b ∷ c ∷ 1 ∷ 1 ∷ []) .left)
 outcome (planInC n y) = number (inC (planAnswer y (replicate n 9)))

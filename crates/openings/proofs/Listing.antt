@@ -18,7 +18,8 @@ use Rattle.model.specs.Calls.Plans.{bytes}
 use Rattle.laws.proofs.Basics.{not-so}
 use Rattle.laws.proofs.Sums.{length-below, sum-split}
 use Rattle.laws.proofs.Ranges.{collect, collect-none, collect-next}
-use Rattle.laws.proofs.Trees.{Child, is-child, child-is, no-pair}
+use Rattle.laws.specs.Choice.{Child}
+use Rattle.laws.proofs.Trees.{is-child, child-is, no-pair}
 use Rattle.laws.proofs.Found.{found, missed, lowest-is, lowest-missing}
 use Rattle.laws.proofs.Judged.{facts, wood}
 use Rattle.laws.proofs.Step.{Step, ends}

@@ -20,10 +20,12 @@ use Rattle.model.specs.Push.{push}
 use Rattle.model.specs.Openings.{opening}
 use Rattle.laws.proofs.Basics.{not-so}
 use Rattle.laws.proofs.Found.{found, missed, from-next}
-use Rattle.laws.proofs.Trees.{Child, is-child, child-is}
+use Rattle.laws.specs.Choice.{Child}
+use Rattle.laws.proofs.Trees.{is-child, child-is}
 use Rattle.laws.proofs.Judged.{facts, wood}
 use Rattle.laws.proofs.Demands.{root-even}
-use Rattle.laws.proofs.Step.{Step, crosses, ends, need}
+use Rattle.laws.specs.Algorithms.{need}
+use Rattle.laws.proofs.Step.{Step, crosses, ends}
 use Rattle.laws.proofs.Signed.{above0, below0, demand-parts, demand-range}
 use Rattle.serve.specs.Serving.{linkedTo}
 use Rattle.serve.proofs.Numbers.{small-back}

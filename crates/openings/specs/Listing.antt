@@ -14,7 +14,7 @@ use Rattle.model.specs.Push.{Move, push}
 use Rattle.model.specs.Openings.{opening, openingsFrom, openings}
 use Rattle.model.specs.Calls.Plans.{bytes}
 use Rattle.laws.proofs.Ranges.{collect}
-use Rattle.laws.proofs.Trees.{Child}
+use Rattle.laws.specs.Choice.{Child}
 
 -- the front of a list holds the demands
 abbrev pub Demands : Yard → List ℤ → Type 0

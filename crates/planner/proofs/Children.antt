@@ -14,13 +14,14 @@ use Rattle.model.specs.Yard.{Yard, size, isChild, children, imbalance}
 use Rattle.model.specs.Push.{Move, after, run}
 use Rattle.model.specs.Plan.{needy, choice, fills}
 use Rattle.laws.proofs.Basics.{none-below, below-none}
-use Rattle.laws.proofs.Trees.{Child}
+use Rattle.laws.specs.Choice.{Child}
 use Rattle.laws.proofs.Judged.{wood}
 use Rattle.laws.proofs.Demands.{weight, weight-child}
 use Rattle.laws.proofs.Runs.{after-append}
 use Rattle.laws.proofs.Shortest.{keeps}
 use Rattle.laws.proofs.Choice.{choice-sound}
-use Rattle.laws.proofs.Balance.{Even, Settles, settled, fills-steers, settles-good}
+use Rattle.laws.specs.Algorithms.{Settles, settled}
+use Rattle.laws.proofs.Balance.{Even, fills-steers, settles-good}
 use Rattle.laws.proofs.Own.{sifted, BalancesIn, none, next, balancesIn-cons, balancesIn-good}
 use Rattle.planner.specs.Balancing.{AskedEven, Settled, Balanced}
 use Rattle.serve.specs.Serving.{childrenFrom, Lowest}

@@ -16,12 +16,12 @@ use mir.Val.{ofZ}
 use Rattle.model.specs.Yard.{Yard, pebble, held, lacking, imbalance}
 use Rattle.model.specs.Push.{Move, run}
 use Rattle.model.specs.Plan.{needy, choice, fills}
-use Rattle.laws.proofs.Trees.{Child}
-use Rattle.laws.proofs.Step.{need}
+use Rattle.laws.specs.Algorithms.{need, Serves, Settles, settled, turned}
+use Rattle.laws.specs.Choice.{Child, Neediest}
 use Rattle.laws.proofs.Shortest.{Good, keeps}
-use Rattle.laws.proofs.Choice.{none-needy, Neediest, neediest-other, choice-sound, fills-choice}
-use Rattle.laws.proofs.Serve.{Due, Shift, Serves, serves-shift}
-use Rattle.laws.proofs.Balance.{Settles, settled, turned, fills-steers, turn-due, first-needy}
+use Rattle.laws.proofs.Choice.{none-needy, neediest-other, choice-sound, fills-choice}
+use Rattle.laws.proofs.Serve.{Due, Shift, serves-shift}
+use Rattle.laws.proofs.Balance.{fills-steers, turn-due, first-needy}
 use Rattle.serve.specs.Serving.{Picks, AskedServe, Made, Served}
 use Rattle.planner.specs.Balancing.{AskedEven, AskedTurn, TurnTaken}
 use Rattle.serve.proofs.Moving.{made-nil}

@@ -10,8 +10,8 @@ use lib.IntN.{ℤ, pos}
 use Rattle.model.specs.Yard.{Yard, size, shortest}
 use Rattle.model.specs.Push.{Move}
 use Rattle.model.specs.Plan.{choice, fills}
-use Rattle.laws.proofs.Step.{need}
-use Rattle.laws.proofs.Balance.{Even, Settles}
+use Rattle.laws.specs.Algorithms.{need, Settles}
+use Rattle.laws.proofs.Balance.{Even}
 use Rattle.laws.proofs.Own.{BalancesIn}
 use Rattle.serve.specs.Serving.{lastAt, Describes, Made, Served}
 

@@ -3,6 +3,7 @@ ghost use mathlib.Core.Path.{_≡_};
 ghost use Rattle.model.specs.Given.{given, was, became};
 ghost use Rattle.model.specs.Calls.Plans.{planAnswer, planList};
 ghost use Rattle.model.specs.Paper.{paperCounted};
+ghost use Rattle.laws.specs.Demand2.{PlannerExact};
 ghost use Rattle.laws.specs.Demand3.{Demand3};
 use crate::balance::balance_subtrees;
 use crate::state::start;
@@ -42,7 +43,8 @@ fn plan_sheet(
 }
 
 // The planner: the plan of Algorithms 1 to 4 at the front of the lent list, the bytes behind it untouched; answers the number of moves. Refusals 1
-// to 7, then 8 with the moves needed as place; a refusal leaves the list as it was. No move is spare (`Demand3`).
+// to 7, then 8 with the moves needed as place; a refusal leaves the list as it was. On a tree with as many pebbles as targets it is the one list that Algorithms 1 to 4 output
+// (`PlannerExact`, demand 2), and no move is spare (`Demand3`).
 pub fn plan(
     parents: &[u8],
     pebbles: &[u8],
@@ -52,6 +54,7 @@ pub fn plan(
 ) -> Counted
     ensures { λ r. ⌜ paperCounted r ≡ planAnswer (given parents pebbles targets depths) (was list) ⌝ }
     ensures { λ r. ⌜ became list ≡ planList (given parents pebbles targets depths) (was list) ⌝ }
+    ensures { λ r. ⌜ PlannerExact (given parents pebbles targets depths) (was list) (paperCounted r) (became list) ⌝ }
     ensures { λ r. ⌜ Demand3 (given parents pebbles targets depths) (was list) (paperCounted r) (became list) ⌝ }
 {
     plan_sheet(parents, pebbles, targets, depths, list)

@@ -18,11 +18,13 @@ use Rattle.model.specs.Judge.{Tree}
 use Rattle.model.specs.Push.{Move, moved}
 use Rattle.model.specs.Plan.{neediestChild, choice}
 use Rattle.laws.proofs.Basics.{below-none}
-use Rattle.laws.proofs.Trees.{Child, child-is}
+use Rattle.laws.specs.Choice.{Child, Neediest}
+use Rattle.laws.proofs.Trees.{child-is}
 use Rattle.laws.proofs.Judged.{facts}
 use Rattle.laws.proofs.Signed.{nextℤ, above0, below0, demand-parts, demand-range}
-use Rattle.laws.proofs.Step.{need, Step, pebblesIn-other, pebblesIn-node}
-use Rattle.laws.proofs.Choice.{Neediest, neediest-is, neediest-none, neediest-other}
+use Rattle.laws.specs.Algorithms.{need}
+use Rattle.laws.proofs.Step.{Step, pebblesIn-other, pebblesIn-node}
+use Rattle.laws.proofs.Choice.{neediest-is, neediest-none, neediest-other}
 use Rattle.serve.specs.Serving.{isChildFrom, Lowest, LastServed, lastAt, Describes, Sees, beyond, NextBeyond}
 use Rattle.serve.proofs.Numbers.{small-back}
 use Rattle.serve.proofs.Siblings.{none-from, none-between, child-from, next-is}

@@ -14,11 +14,12 @@ use lib.IntN.{ℤ, pos}
 use Rattle.model.specs.Yard.{Yard, size, one, parent, pebble, demand}
 use Rattle.model.specs.Push.{Move, moved, after, run}
 use Rattle.model.specs.Calls.Plans.{bytes}
+use Rattle.laws.specs.Choice.{Neediest}
 use Rattle.laws.proofs.Judged.{facts, wood}
-use Rattle.laws.proofs.Step.{need, Step, legal-step, ends, moved-pebble}
+use Rattle.laws.specs.Algorithms.{need}
+use Rattle.laws.proofs.Step.{Step, legal-step, ends, moved-pebble}
 use Rattle.laws.proofs.Runs.{after-append, run-one}
 use Rattle.laws.proofs.Signed.{nextℤ, demand-node, demand-other}
-use Rattle.laws.proofs.Choice.{Neediest}
 use Rattle.serve.specs.Serving.{Last, lastAt, Kept, pickedState, Made}
 use Rattle.serve.proofs.Looking.{last-here, last-there}
 use Rattle.serve.proofs.Picking.{last-place, last-other, shiftedState}

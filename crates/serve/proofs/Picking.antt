@@ -10,7 +10,7 @@ use lib.ListN.{length, getD, set}
 use lib.Seq.{getD-set-same, getD-set-other, set-getD, set-out}
 use lib.IntN.{ℤ, pos, negsuc, natAbs}
 use Rattle.model.specs.Yard.{up}
-use Rattle.laws.proofs.Step.{crossing}
+use Rattle.laws.specs.Algorithms.{crossing}
 use Rattle.laws.proofs.Signed.{nextℤ}
 use Rattle.serve.specs.Serving.{lastAt, stepped, pickedState}
 

@@ -17,15 +17,15 @@ use Rattle.model.specs.Push.{Move, push, after, run}
 use Rattle.model.specs.Plan.{choice}
 use Rattle.model.specs.Calls.Answers.{overwrite}
 use Rattle.model.specs.Calls.Plans.{bytes}
+use Rattle.laws.specs.Algorithms.{crossing, need, Serves, direct, behind, blocked}
+use Rattle.laws.specs.Choice.{Child, Neediest}
 use Rattle.laws.proofs.Calls.{length-bytes}
-use Rattle.laws.proofs.Trees.{Child}
 use Rattle.laws.proofs.Judged.{facts, wood}
 use Rattle.laws.proofs.Demands.{weight, weight-child, weight-pos, weight-le}
-use Rattle.laws.proofs.Step.{crossing, need}
 use Rattle.laws.proofs.Shortest.{good-tree}
 use Rattle.laws.proofs.Signed.{nextℤ}
-use Rattle.laws.proofs.Choice.{Neediest, neediest-some, choice-sound}
-use Rattle.laws.proofs.Serve.{Due, Serves, direct, behind, blocked, due-step, due-behind, able-behind, need-behind, free-able, blocked-child, serves-shift}
+use Rattle.laws.proofs.Choice.{neediest-some, choice-sound}
+use Rattle.laws.proofs.Serve.{Due, due-step, due-behind, able-behind, need-behind, free-able, blocked-child, serves-shift}
 use Rattle.serve.specs.Serving.{Describes, Kept, lastAt, Sees, Halfway, Small, Room, stepped, pickedState, recorded, Picks, AskedFill, servedState, writtenUpTo, Filled, Cleared, AskedServe, Served}
 use Rattle.serve.proofs.Looking.{tree-small}
 use Rattle.serve.proofs.Picking.{last-place, last-other, step-undo, step-step, step-near, count-pick, pick-reads, pick-pick, shift-steps}

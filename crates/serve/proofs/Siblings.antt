@@ -13,7 +13,8 @@ use borrow.Author.Tests.{leb-true, le-leb, eq-eqb, ne-eqb}
 use Rattle.model.specs.Yard.{up, below, isChild}
 use Rattle.laws.proofs.Basics.{none-below}
 use Rattle.laws.proofs.Found.{lowest-is, lowest-missing, below-rest, below-cong}
-use Rattle.laws.proofs.Trees.{Child, is-child}
+use Rattle.laws.specs.Choice.{Child}
+use Rattle.laws.proofs.Trees.{is-child}
 use Rattle.serve.specs.Serving.{isChildFrom, childrenFrom, Lowest, Tables}
 
 pub from-0 : (ps : List ℕ) (u : ℕ) → childrenFrom ps u 0 ≡ below (length ps) (isChild ps u)

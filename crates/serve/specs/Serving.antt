@@ -15,12 +15,11 @@ use Rattle.model.specs.Push.{Move, run}
 use Rattle.model.specs.Plan.{choice}
 use Rattle.model.specs.Calls.Answers.{overwrite}
 use Rattle.model.specs.Calls.Plans.{bytes}
-use Rattle.laws.proofs.Trees.{Child}
+use Rattle.laws.specs.Choice.{Child, Neediest}
 use Rattle.laws.proofs.Demands.{weight}
-use Rattle.laws.proofs.Step.{crossing, need}
+use Rattle.laws.specs.Algorithms.{crossing, need, Serves, blocked, direct, behind}
 use Rattle.laws.proofs.Signed.{nextℤ}
-use Rattle.laws.proofs.Choice.{Neediest}
-use Rattle.laws.proofs.Serve.{Due, Serves, direct, behind}
+use Rattle.laws.proofs.Serve.{Due}
 
 -- the children of u from number i on, rising; and the lowest of them, or u itself if there is none
 abbrev pub isChildFrom : List ℕ → ℕ → ℕ → ℕ → Bool

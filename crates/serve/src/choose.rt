@@ -6,7 +6,7 @@ ghost use lib.IntN.{pos, natAbs};
 ghost use Rattle.model.specs.Yard.{Yard, maxDemand};
 ghost use Rattle.model.specs.Given.{was, became};
 ghost use Rattle.model.specs.Plan.{choice};
-ghost use Rattle.laws.proofs.Step.{need};
+ghost use Rattle.laws.specs.Algorithms.{need};
 ghost use Rattle.laws.proofs.Signed.{nextℤ};
 ghost use Rattle.serve.specs.Serving.{beyond, lastAt, Small, pickedState, Sees, Lowest, NextBeyond, AskedAfter, Picks};
 

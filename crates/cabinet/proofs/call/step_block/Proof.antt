@@ -9,7 +9,8 @@ use Rattle.model.specs.Judge.{Tree}
 use Rattle.model.specs.Calls.Answers.{answered}
 use Rattle.model.specs.Calls.Registers.{blockLength, registersOf, wholeMoves, stepFault, taskFault, stepped}
 use Rattle.laws.proofs.Calls.{sees}
-use Rattle.laws.proofs.Blocks.{InRange, stepFault-none}
+use Rattle.laws.specs.Cabinet.{InRange}
+use Rattle.laws.proofs.Blocks.{stepFault-none}
 use Rattle.cabinet.proofs.Laws.{left-refused, left-accepted, left-fits}
 use Rattle.cabinet.proofs.call.step_block.Statement.{statement}
 use Rattle.cabinet.proofs.call.step_block.Tie as tie

@@ -1,8 +1,9 @@
 -- `checker::check::check` meets its contract: a plan that is not refused solves the yard, so it has at least the shortest length and the excess does not
--- go below 0.
+-- go below 0. Answering what the model does, the checker is exact.
 use native.Mathlib.Omega.{arith}
 use borrow.Author.Needs.{needs}
 use Rattle.laws.proofs.Calls.{sees}
+use Rattle.laws.proofs.Demand2.{answers-exact}
 use Rattle.checker.proofs.Laws.{check-fit, check-long, check-answered}
 use Rattle.checker.proofs.check.check.Statement.{statement}
 use Rattle.checker.proofs.check.check.Tie as tie
@@ -14,7 +15,7 @@ enum-known-tested : tie.Need-enum-known-tested
 enum-known-tested c = search needs
 
 returns : tie.Need-returns
-returns c = rw (sees (c .before .before .before .test-plan .ensures) (c .before .tested .given .1))
+returns c = answers-exact _ _ _ (rw (sees (c .before .before .before .test-plan .ensures) (c .before .tested .given .1)))
 
 enum-told : tie.Need-enum-told
 enum-told c = search needs
@@ -28,7 +29,7 @@ sub-t10 c =
     omega (arith, c .shortest-length .ensures, check-long _ _ e)
 
 returns-2 : tie.Need-returns-2
-returns-2 c = check-answered _ _ (sees (c .before .before .before .test-plan .ensures) (c .before .enum-told .given .1)) _ (omega (arith, c .shortest-length .ensures))
+returns-2 c = answers-exact _ _ _ (check-answered _ _ (sees (c .before .before .before .test-plan .ensures) (c .before .enum-told .given .1)) _ (omega (arith, c .shortest-length .ensures)))
 
 pub check-spec : {M : Type 1} → statement M
 check-spec =

@@ -67,7 +67,7 @@ check-requires : tie.Need-check-requires
 check-requires c κs = search needs
 
 put-verdict-requires : tie.Need-put-verdict-requires
-put-verdict-requires c κs = (told _ _ _ (c .before .check .ensures), omega (arith, start (c .before .before .before .before) .pre .2))
+put-verdict-requires c κs = (told _ _ _ (c .before .check .ensures .0), omega (arith, start (c .before .before .before .before) .pre .2))
 
 enum-known-r : tie.Need-enum-known-r
 enum-known-r c = search needs
@@ -84,7 +84,7 @@ returns : tie.Need-returns
 returns c =
     let v = c .before .before in
     let n = v .before .before .before .before .before in
-    printed-as (start n .args .out .now) (planned (yard (start n)) (number n) (v .before .before .check .ensures)) (v .put-verdict .ensures)
+    printed-as (start n .args .out .now) (planned (yard (start n)) (number n) (v .before .before .check .ensures .0)) (v .put-verdict .ensures)
 
 same-length-2 : tie.Need-same-length-2
 same-length-2 c = search needs

@@ -19,19 +19,19 @@ enum-known-excess : tie.Need-enum-known-excess
 enum-known-excess c = search needs
 
 cast-result : tie.Need-cast-result
-cast-result c = let l = excess-small _ _ (rw (c .before .excess .given .1) at (c .before .before .before .check .ensures)) in omega arith
+cast-result c = let l = excess-small _ _ (rw (c .before .excess .given .1) at (c .before .before .before .check .ensures .0)) in omega arith
 
 enum-known-r : tie.Need-enum-known-r
 enum-known-r c = search needs
 
 refused-requires : tie.Need-refused-requires
-refused-requires c κs = excess-small _ _ (rw (c .before .r .given .1) at (c .before .before .before .check .ensures))
+refused-requires c κs = excess-small _ _ (rw (c .before .r .given .1) at (c .before .before .before .check .ensures .0))
 
 returns : tie.Need-returns
-returns c = ap excess (rw (c .before .excess .given .1) at (c .before .before .before .check .ensures))
+returns c = ap excess (rw (c .before .excess .given .1) at (c .before .before .before .check .ensures .0))
 
 returns-2 : tie.Need-returns-2
-returns-2 c = c .refused .ensures ∙ ap excess (rw (c .before .before .r .given .1) at (c .before .before .before .before .check .ensures))
+returns-2 c = c .refused .ensures ∙ ap excess (rw (c .before .before .r .given .1) at (c .before .before .before .before .check .ensures .0))
 
 pub javendriky-excess-spec : {M : Type 1} → statement M
 javendriky-excess-spec =

@@ -1,4 +1,4 @@
--- `javendriky_plan` answers and leaves what `plan` does; its answer is small, so the number tells it, and demand 3 holds of what it tells.
+-- `javendriky_plan` answers and leaves what `plan` does; its answer is small, so the number tells it, and demands 2 and 3 hold of what it tells.
 use borrow.Author.Needs.{needs}
 use mathlib.Core.Path.{ap, _∙_}
 use Rattle.model.specs.Calls.Answers.{inC}
@@ -19,7 +19,7 @@ returns : tie.Need-returns
 returns c =
     let e = c .before .before .before .plan .ensures in
     let n = c .counted .ensures ∙ ap inC (e .0) in
-    (n, (e .1 .0, rw (n, tells _ (plan-small _ _)) (rw (e .0) at (e .1 .1))))
+    (n, (e .1 .0, rw (n, tells _ (plan-small _ _)) (rw (e .0) at (e .1 .1 .0), rw (e .0) at (e .1 .1 .1))))
 
 pub javendriky-plan-spec : {M : Type 1} → statement M
 javendriky-plan-spec = tie.close (tie.spec plan-requires counted-requires same-length returns)

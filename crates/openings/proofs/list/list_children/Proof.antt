@@ -3,7 +3,7 @@ use Prim.Native.Nat.{ℕ, _<_}
 use native.Mathlib.Omega.{arith}
 use borrow.Author.Needs.{needs}
 use Rattle.model.specs.Yard.{Yard}
-use Rattle.laws.proofs.Trees.{Child}
+use Rattle.laws.specs.Choice.{Child}
 use Rattle.laws.proofs.Judged.{facts}
 use Rattle.serve.proofs.Siblings.{ahead}
 use Rattle.openings.specs.Listing.{AskedChildren}

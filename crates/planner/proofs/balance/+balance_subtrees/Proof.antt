@@ -11,7 +11,7 @@ use borrow.Fn.Kinds.{In}
 use borrow.Fn.PlainCycle.{Measures, is, falls, and}
 use Rattle.model.specs.Yard.{Yard}
 use Rattle.model.specs.Push.{run}
-use Rattle.laws.proofs.Trees.{Child}
+use Rattle.laws.specs.Choice.{Child}
 use Rattle.planner.specs.Balancing.{entered, AskedEven}
 use Rattle.serve.specs.Serving.{childrenFrom}
 use Rattle.serve.proofs.Looking.{node-small}

@@ -7,7 +7,7 @@ use lib.ListN.{length}
 use Rattle.model.specs.Yard.{Yard}
 use Rattle.model.specs.Push.{run}
 use Rattle.model.specs.Plan.{choice, fills}
-use Rattle.laws.proofs.Balance.{Settles}
+use Rattle.laws.specs.Algorithms.{Settles}
 use Rattle.serve.specs.Serving.{Made}
 use Rattle.planner.specs.Balancing.{AskedEven, TurnTaken}
 use Rattle.serve.proofs.Stretches.{rest, back, made-length}

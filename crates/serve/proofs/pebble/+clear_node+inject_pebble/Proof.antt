@@ -1,4 +1,5 @@
 -- `serve::pebble::clear_node` and `inject_pebble` meet their contracts: a filling is the clearing of v and behind it the move for which it was cleared; a
+use Rattle.laws.specs.Algorithms.{need, blocked}
 -- free v is cleared, a full one by the filling of the child that is chosen (the laws are in Serving). Of the calls, clearing falls below filling by the place that the
 -- move takes, and filling a child below clearing.
 use mathlib.Core.Path.{_≡_, refl, ap, _∙_}
@@ -9,8 +10,6 @@ use borrow.Fn.Kinds.{In}
 use borrow.Fn.PlainCycle.{Measures, is, falls, and}
 use Rattle.model.specs.Yard.{Yard, pebble, capacity, full}
 use Rattle.model.specs.Plan.{choice}
-use Rattle.laws.proofs.Step.{need}
-use Rattle.laws.proofs.Serve.{blocked}
 use Rattle.serve.specs.Serving.{AskedFill}
 use Rattle.serve.proofs.Serving.{half-small, half-sees, room, count-small, one-place, one-less, less-one, up-small, free-full, chosen-up, chosen-asked, cleared-behind, cleared-here, filled-last}
 use Rattle.serve.proofs.pebble.clear_node.Reads as clear-node

@@ -1,4 +1,5 @@
 -- `serve::pebble::extract_pebble` meets its contract: from a held v a pebble goes at once, into an empty one a pebble is drawn first from the child that is chosen (the
+use Rattle.laws.specs.Algorithms.{need, blocked}
 -- laws are in Serving), with one place less.
 use mathlib.Core.Path.{_≡_, sym, ap, _∙_}
 use mathlib.Core.Bool.{true, false}
@@ -10,8 +11,6 @@ use borrow.Fn.Kinds.{In}
 use borrow.Fn.PlainCycle.{Measures, is, falls, and}
 use Rattle.model.specs.Yard.{Yard}
 use Rattle.model.specs.Plan.{choice}
-use Rattle.laws.proofs.Step.{need}
-use Rattle.laws.proofs.Serve.{blocked}
 use Rattle.serve.specs.Serving.{AskedFill}
 use Rattle.serve.proofs.Serving.{half-small, half-sees, count-small, held-free, empty-blocked, one-place, one-less, up-small, chosen-up, chosen-asked, cleared-behind, cleared-here, filled-last}
 use Rattle.serve.proofs.pebble.extract_pebble.Reads as extract-pebble

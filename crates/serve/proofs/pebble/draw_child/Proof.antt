@@ -1,4 +1,5 @@
 -- `serve::pebble::draw_child` meets its contract: from a c that holds a pebble it goes by a single move, else by those that are handed over (the laws are in Serving).
+use Rattle.laws.specs.Algorithms.{blocked}
 use borrow.Author.Needs.{needs}
 use mathlib.Core.Path.{_≡_, ap, _∙_}
 use mathlib.Core.Bool.{false}
@@ -8,7 +9,6 @@ use lib.IntN.{ℤ}
 use mir.Syntax.{w16}
 use mir.Val.{ofZ}
 use Rattle.model.specs.Yard.{Yard}
-use Rattle.laws.proofs.Serve.{blocked}
 use Rattle.serve.specs.Serving.{AskedServe, Filled}
 use Rattle.serve.proofs.Serving.{held-free, serve-up, serve-half, serve-asked, serve-small, serve-few, serve-list, serve-one-room, serve-one, serve-all}
 use Rattle.serve.proofs.pebble.draw_child.Statement.{statement}
