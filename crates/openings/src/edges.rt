@@ -6,6 +6,7 @@ ghost use Rattle.model.specs.Yard.{Matched};
 ghost use Rattle.model.specs.Judge.{Tree};
 ghost use Rattle.model.specs.Given.{given, handed};
 ghost use Rattle.openings.specs.Listing.{wayOver, Demands, Marked};
+use serve::choose::LOWEST;
 use serve::choose::wide;
 use serve::tree::link;
 
@@ -42,7 +43,7 @@ fn unmarked(n: usize) -> [u8; 768]
     let mut t = [0u8; 768];
     let mut v = 0;
     while v < n {
-        t[256 + v] = v as u8;
+        t[LOWEST + v] = v as u8;
         v += 1;
     }
     t

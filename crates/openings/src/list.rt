@@ -4,6 +4,8 @@ ghost use lib.ListN.{length};
 ghost use Rattle.model.specs.Yard.{Yard};
 ghost use Rattle.model.specs.Given.{was, became};
 ghost use Rattle.openings.specs.Listing.{AskedChildren, ListedChildren, AskedFrom, ListedFrom, AskedAll, ListedAll};
+use serve::choose::LOWEST;
+use serve::choose::NEXT;
 use serve::choose::wide;
 use serve::pebble::record_move;
 
@@ -33,7 +35,7 @@ fn list_children(
         }
         record_move(list, k, a, c, true);
         k += 1;
-        c = wide(t[512 + c]);
+        c = wide(t[NEXT + c]);
     }
     Walk { child: a, count: k }
 }
@@ -50,7 +52,7 @@ fn list_from(
     requires { ⌜ ((y : Yard) × AskedFrom y (now t) (now parents) (now list) a n count) ⌝ }
     ensures { λ r. ⌜ ((y : Yard) → AskedFrom y (was t) (was parents) (was list) a n count → ListedFrom y (became list) a r) ⌝ }
 {
-    let first = wide(t[256 + a]);
+    let first = wide(t[LOWEST + a]);
     if t[a] != 2 {
         let all = list_children(t, list, a, first, n, count);
         return all.count;

@@ -9,6 +9,9 @@ ghost use Rattle.model.specs.Plan.{fills};
 ghost use Rattle.model.specs.Given.{was, became};
 ghost use Rattle.laws.proofs.Demands.{weight};
 ghost use Rattle.planner.specs.Balancing.{entered, AskedEven, AskedTurn, TurnTaken, Settled, Balanced};
+use serve::choose::LOWEST;
+use serve::choose::NEXT;
+use serve::choose::PEBBLES;
 use serve::choose::pick;
 use serve::choose::wide;
 use serve::pebble::draw_child;
@@ -61,7 +64,7 @@ fn turn(
     requires { ⌜ ((y : Yard) × AskedEven y (now t) (now s) (now plan) u) ⌝ }
     ensures { λ r. ⌜ ((y : Yard) → AskedEven y (was t) (was s) (was plan) u → TurnTaken (fills y u) y u (was s) (became s) (was plan) (became plan) r) ⌝ }
 {
-    if s[256 + u] == 0 {
+    if s[PEBBLES + u] == 0 {
         return extract_turn(t, s, plan, moves, u);
     }
     let m = inject_turn(t, s, plan, moves, u);
@@ -100,7 +103,7 @@ fn enters(t: &[u8; 768], parts: &[u8], v: usize) -> bool
     if wide(parts[v]) == v {
         return false;
     }
-    wide(t[256 + v]) != v
+    wide(t[LOWEST + v]) != v
 }
 
 // Balances u: the loop, and after it has ended the children in rising number, each behind the moves before. A child that the list of parts names by itself is
@@ -119,10 +122,10 @@ pub fn balance_subtrees(
     ensures { λ r. ⌜ ((y : Yard) → AskedEven y (was t) (was s) (was plan) u → Balanced (entered (was parts)) y u (became s) (was plan) (became plan) r) ⌝ }
 {
     let mut k = settle(t, s, plan, moves, u);
-    let mut c = wide(t[256 + u]);
+    let mut c = wide(t[LOWEST + u]);
     while c != u {
         let v = c;
-        c = wide(t[512 + v]);
+        c = wide(t[NEXT + v]);
         if enters(t, parts, v) {
             let m = balance_subtrees(t, s, &mut plan[2 * k..], moves, parts, v, height - 1);
             k += m;

@@ -10,18 +10,22 @@ ghost use Rattle.serve.specs.Serving.{Kept};
 ghost use Rattle.planner.specs.Balancing.{Placed};
 use demand::matched::matched_demands;
 use model::Done;
+use serve::choose::DEPTHS;
+use serve::choose::LAST_DRAWN;
+use serve::choose::LAST_FILLED;
+use serve::choose::PEBBLES;
 
-// Writes the pebbles 256 entries behind the demands, behind those twice each node itself, as none of its children was served, and behind those the depths.
+// Writes the tables behind the demands: the pebbles, twice each node itself, as none of its children was served, and the depths.
 fn place(pebbles: &[u8], depths: &[u8], s: &mut [i16])
     requires { ⌜ (length (now pebbles) ≤ 256) × (length (now depths) ≡ length (now pebbles)) × (length (now s) ≡ 1280) ⌝ }
     ensures { λ _. ⌜ Placed (was pebbles) (was depths) (was s) (became s) (length (was pebbles)) ⌝ }
 {
     let mut v = 0;
     while v < pebbles.len() {
-        s[256 + v] = pebbles[v] as i16;
-        s[512 + v] = v as i16;
-        s[768 + v] = v as i16;
-        s[1024 + v] = depths[v] as i16;
+        s[PEBBLES + v] = pebbles[v] as i16;
+        s[LAST_FILLED + v] = v as i16;
+        s[LAST_DRAWN + v] = v as i16;
+        s[DEPTHS + v] = depths[v] as i16;
         v += 1;
     }
 }

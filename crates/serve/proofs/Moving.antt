@@ -20,9 +20,9 @@ use Rattle.laws.specs.Algorithms.{need}
 use Rattle.laws.proofs.Step.{Step, legal-step, ends, moved-pebble}
 use Rattle.laws.proofs.Runs.{after-append, run-one}
 use Rattle.laws.proofs.Signed.{nextℤ, demand-node, demand-other}
-use Rattle.serve.specs.Serving.{Last, lastAt, Kept, pickedState, Made}
+use Rattle.serve.specs.Serving.{Last, lastAt, Kept, stepped, pickedState, Made}
 use Rattle.serve.proofs.Looking.{last-here, last-there}
-use Rattle.serve.proofs.Picking.{last-place, last-other, shiftedState}
+use Rattle.serve.proofs.Picking.{last-place, last-other}
 
 -- bytes of two lists of moves
 pub bytes-append : (ms ns : List Move) → bytes (ms ++ ns) ≡ bytes ms ++ bytes ns
@@ -149,7 +149,7 @@ module _ (y : Yard) (m : Move) (g : Step y m) (n : Neediest (need y (g .away)) y
 
 -- the same behind other moves
 pub kept-next : (y : Yard) (ms : List Move) (m : Move) (s : List ℤ) → Kept (run y ms) s → (g : Step (run y ms) m) → Neediest (need (run y ms) (g .away)) (run y ms) (parent y (g .node)) (g .node)
-    → Kept (run y (ms ++ (m ∷ []))) (shiftedState (m .from) (m .to) (pickedState (g .away) (parent y (g .node)) (g .node) s))
+    → Kept (run y (ms ++ (m ∷ []))) (stepped false (256 + m .to) (stepped true (256 + m .from) (pickedState (g .away) (parent y (g .node)) (g .node) s)))
 kept-next y ms m s k g n = rw (after-append ms (m ∷ []) y, run-one (run y ms) m (legal-step (run y ms) m g) .0) (kept-move (run y ms) m g n s k (nextℤ (g .away) (getD s (g .node) (pos 0))) (ap (nextℤ (g .away)) (k .demands (g .node) (g .node-lt))))
 
 -- no move

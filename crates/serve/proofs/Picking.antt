@@ -1,18 +1,19 @@
--- Entries of the state that are stepped and set, in any order where they are different ones; and the picks of a chain of nodes.
+-- Entries of the state that are stepped and set, in any order where they are different ones; and moves on the state.
 use mathlib.Core.Path.{_≡_, refl, sym, ap, _∙_}
 use mathlib.Core.Logic.{_≢_}
-use mathlib.Core.Bool.{Bool, true, false, not}
-use mathlib.Core.List.{List, [], _∷_}
+use mathlib.Core.Bool.{Bool, true, false, not, cond}
+use mathlib.Core.List.{List, [], _∷_, _++_}
 use Prim.Native.Nat.{ℕ, zero, suc, _+_, _≤_, _<_}
 use native.Mathlib.Omega.{arith}
 use native.Mathlib.Decide.{ℕ-discrete, decLt}
-use lib.ListN.{length, getD, set}
+use lib.ListN.{length, getD, set, length-set}
 use lib.Seq.{getD-set-same, getD-set-other, set-getD, set-out}
 use lib.IntN.{ℤ, pos, negsuc, natAbs}
 use Rattle.model.specs.Yard.{up}
+use Rattle.model.specs.Push.{Move}
 use Rattle.laws.specs.Algorithms.{crossing}
 use Rattle.laws.proofs.Signed.{nextℤ}
-use Rattle.serve.specs.Serving.{lastAt, stepped, pickedState}
+use Rattle.serve.specs.Serving.{lastAt, stepped, pickedState, movedState, movedAll}
 
 -- two entries set, and one set twice
 set-swap : {A : Type 0} (l : List A) (i j : ℕ) (a b : A) → i ≢ j → set (set l i a) j b ≡ set (set l j b) i a
@@ -38,6 +39,10 @@ next-undo false (negsuc (suc n)) = refl
 
 pub step-undo : (b : Bool) (i : ℕ) (s : List ℤ) → i < length s → stepped (not b) i (stepped b i s) ≡ s
 step-undo b i s l = rw (getD-set-same s i (nextℤ b (getD s i (pos 0))) (pos 0) l, next-undo b (getD s i (pos 0)), set-twice s i (nextℤ b (getD s i (pos 0))) (getD s i (pos 0))) (set-getD s i (pos 0))
+
+pub step-redo : (b : Bool) (i : ℕ) (s : List ℤ) → i < length s → stepped b i (stepped (not b) i s) ≡ s
+step-redo true i s l = step-undo false i s l
+step-redo false i s l = step-undo true i s l
 
 -- no entry goes farther from 0 than by one
 next-near : (b : Bool) (k : ℤ) → natAbs (nextℤ b k) ≤ natAbs k + 1
@@ -92,11 +97,31 @@ module _ (b : Bool) {u c : ℕ} (h : u < 256) (k : c < 256) where
       ∙ set-swap (stepped b w (stepped b c s)) (lastAt b v) (lastAt b u) (pos w) (pos c) (last-other b b v u l h (λ q. d (sym q)))
       ∙ ap (λ (z : List ℤ). set z (lastAt b v) (pos w)) (sym (step-set b w (lastAt b u) (pos c) (stepped b c s) (λ q. absurd (omega (arith, last-place b u h)))))
 
--- one pebble less at the first node, and one more at the second
-abbrev pub shiftedState : ℕ → ℕ → List ℤ → List ℤ
-shiftedState from to s = stepped false (256 + to) (stepped true (256 + from) s)
+-- a move, and a child picked elsewhere
+pub move-pick : (b : Bool) {p w q v : ℕ} → p < 256 → w < 256 → q < 256 → v < 256 → p ≢ q → w ≢ v → (s : List ℤ) → movedState b q v (pickedState b p w s) ≡ pickedState b p w (movedState b q v s)
+move-pick b {p} {w} {q} {v} pl wl ql vl d e s =
+    ap (λ (z : List ℤ). stepped (not b) (256 + v) (stepped b (256 + q) z)) (sym (pick-pick b pl wl ql vl d e s))
+    ∙ ap (stepped (not b) (256 + v)) (count-pick b pl wl b q ql (pickedState b q v s))
+    ∙ count-pick b pl wl (not b) v vl (stepped b (256 + q) (pickedState b q v s))
 
--- so the counts of a move change
-pub shift-steps : (t : List ℕ) (b : Bool) (v : ℕ) (s : List ℤ) → v ≢ up t v → shiftedState (crossing t b v .from) (crossing t b v .to) s ≡ stepped (not b) (256 + v) (stepped b (256 + up t v) s)
+-- the counts of a move, from one node to another
+pub shift-steps : (t : List ℕ) (b : Bool) (v : ℕ) (s : List ℤ) → v ≢ up t v
+    → stepped false (256 + crossing t b v .to) (stepped true (256 + crossing t b v .from) (pickedState b (up t v) v s)) ≡ movedState b (up t v) v s
 shift-steps t true v s d = refl
-shift-steps t false v s d = step-step false true (256 + up t v) (256 + v) s (λ e. d (omega arith))
+shift-steps t false v s d = step-step false true (256 + up t v) (256 + v) (pickedState false (up t v) v s) (λ e. d (omega arith))
+
+-- some moves more, and how long the state is
+pub moved-append : (b : Bool) (ms ns : List Move) (s : List ℤ) → movedAll b (ms ++ ns) s ≡ movedAll b ns (movedAll b ms s)
+unfolding movedAll
+moved-append b [] ns s = refl
+moved-append b (m ∷ ms) ns s = moved-append b ms ns (movedState b (cond b (m .from) (m .to)) (cond b (m .to) (m .from)) s)
+
+pub moved-crossing : (t : List ℕ) (b : Bool) (v : ℕ) (s : List ℤ) → movedAll b (crossing t b v ∷ []) s ≡ movedState b (up t v) v s
+unfolding movedAll
+moved-crossing t true v s = refl
+moved-crossing t false v s = refl
+
+pub moved-length : (b : Bool) (ms : List Move) (s : List ℤ) → length (movedAll b ms s) ≡ length s
+unfolding movedAll
+moved-length b [] s = refl
+moved-length b (m ∷ ms) s = moved-length b ms (movedState b (cond b (m .from) (m .to)) (cond b (m .to) (m .from)) s) ∙ simp length-set refl

@@ -7,7 +7,7 @@ use mathlib.Core.List.{List, [], _∷_, _++_, append-assoc, append-nil}
 use Prim.Native.Nat.{ℕ, _+_, _-_, _*_, _≤_, _<_}
 use native.Mathlib.Omega.{arith}
 use lib.ListN.{length, getD, take, drop, take-append-drop, length-set, length-append, length-drop, drop-of-length-le}
-use lib.Seq.{getD-set-other, length-take-le, take-append-le, take-take, drop-at}
+use lib.Seq.{getD-set-other, length-take-le, take-append-le, take-take, drop-at, take-at}
 use lib.IntN.{ℤ, pos, natAbs}
 use lib.Dec.{ltb}
 use borrow.Author.Tests.{ltb-true, ltb-false, le-leb, lt-leb, lt-ltb, le-ltb}
@@ -26,9 +26,9 @@ use Rattle.laws.proofs.Shortest.{good-tree}
 use Rattle.laws.proofs.Signed.{nextℤ}
 use Rattle.laws.proofs.Choice.{neediest-some, choice-sound}
 use Rattle.laws.proofs.Serve.{Due, due-step, due-behind, able-behind, need-behind, free-able, blocked-child, serves-shift}
-use Rattle.serve.specs.Serving.{Describes, Kept, lastAt, Sees, Halfway, Small, Room, stepped, pickedState, recorded, Picks, AskedFill, servedState, writtenUpTo, Filled, Cleared, AskedServe, Served}
+use Rattle.serve.specs.Serving.{Describes, Kept, lastAt, Sees, Halfway, Small, Room, stepped, pickedState, recorded, Picks, AskedFill, movedAll, writtenUpTo, Filled, Cleared, AskedServe, Served}
 use Rattle.serve.proofs.Looking.{tree-small}
-use Rattle.serve.proofs.Picking.{last-place, last-other, step-undo, step-step, step-near, count-pick, pick-reads, pick-pick, shift-steps}
+use Rattle.serve.proofs.Picking.{last-place, last-other, step-undo, step-redo, step-step, step-near, move-pick, shift-steps, moved-append, moved-crossing, moved-length}
 use Rattle.serve.proofs.Moving.{bytes-append, two-behind, kept-next}
 
 -- on the way down: a node is below 256, what it looks at, and its count and depth, both small
@@ -126,15 +126,34 @@ module _ {b : Bool} {y : Yard} {t : List ℕ} {s : List ℤ} {end v : ℕ} (a : 
 
     -- its filling clears v
     pub cleared-behind : {n k : ℕ} {s″ : List ℤ} {list list′ : List ℕ} → Filled b y n c s′ s″ list list′ k → Cleared b y n v s s″ list list′ k
-    unfolding servedState
-    cleared-behind r =
+    cleared-behind {s″ = s″} r =
         let f = rw (q, chosen-picked) at r in
-        record { moves = f .moves; serves = behind e (f .serves); counted = f .counted; written = f .written; state = f .state }
+        record {
+          moves = f .moves;
+          serves = behind e (f .serves);
+          counted = f .counted;
+          written = f .written;
+          state = subst (λ (x : ℕ). stepped b (256 + x) s″ ≡ movedAll b (f .moves) s) (kid .0 .up) (f .state s (ap (λ (x : ℕ). pickedState b x (choice (need y b) y v) s) (sym (kid .0 .up))));
+        }
 
 -- a v that is not blocked takes the pebble, or gives it
-pub cleared-here : {b : Bool} {y : Yard} {n v : ℕ} {s : List ℤ} {list : List ℕ} → blocked y b v ≡ false → Cleared b y n v s (stepped (not b) (256 + v) s) list list n
-unfolding servedState bytes
-cleared-here {n = n} {list = list} e = record { moves = []; serves = direct e; counted = omega arith; written = sym (take-append-drop (2 * n) list); state = refl }
+pub cleared-here : {b : Bool} {y : Yard} {t : List ℕ} {s : List ℤ} {end n v : ℕ} {list : List ℕ} → AskedFill b y t s end v → blocked y b v ≡ false → Cleared b y n v s (stepped (not b) (256 + v) s) list list n
+unfolding movedAll bytes
+cleared-here {b} {s = s} {n = n} {v} {list} a e = record {
+  moves = [];
+  serves = direct e;
+  counted = omega arith;
+  written = sym (take-append-drop (2 * n) list);
+  state = step-redo b (256 + v) s (omega (arith, a .halfway .long, half-small (a .halfway) (a .due .lt)));
+}
+
+-- lists that end alike
+snoc-one : {A : Type 0} (l : List A) (a : A) {b : A} → (b ∷ []) ≡ l ++ (a ∷ []) → l ≡ []
+snoc-one [] a e = refl
+snoc-one (x ∷ l) a e = absurd (omega (arith, ap length e, length-append l (a ∷ [])))
+
+snoc-same : {A : Type 0} (l m : List A) (a : A) → l ++ (a ∷ []) ≡ m ++ (a ∷ []) → l ≡ m
+snoc-same l m a e = sym (take-at l (a ∷ []) (length l) refl) ∙ ap (take (length l)) e ∙ take-at m (a ∷ []) (length l) (omega (arith, ap length e, length-append l (a ∷ []), length-append m (a ∷ [])))
 
 -- the move for which v is cleared is written before that
 recorded-split : (b : Bool) (p v n : ℕ) (list : List ℕ) → 2 * n + 2 ≤ length list → recorded b p v n list ≡ take (2 * n) list ++ (cond b p v ∷ cond b v p ∷ drop (2 * n + 2) list)
@@ -154,24 +173,13 @@ written-before ms x z k n list l h =
     let g : 2 * (n + 1) ≡ 2 * n + 2 = omega arith in
     rw (take-append-le (2 * k) (take (2 * n) list) (x ∷ z ∷ drop (2 * n + 2) list) (omega (arith, e)), take-take (2 * k) (2 * n) list (omega arith), drop-at (take (2 * n) list) (x ∷ z ∷ drop (2 * n + 2) list) (2 * n) e, bytes-append ms (push x z ∷ []), append-assoc (bytes ms) (x ∷ z ∷ []) (drop (2 * (n + 1)) list), g)
 
-pub filled-last : {b : Bool} {y : Yard} {n end u v k : ℕ} {s s′ : List ℤ} {list list′ : List ℕ}
-    → end ≡ n + 1 → end ≤ 256 → length list ≡ 512 → u ≡ up (y .parents) v → Cleared b y n v s s′ (recorded b u v n list) list′ k → Filled b y end v s s′ list list′ k
-filled-last {b} {y} {n} {end} {u} {v} {k} {list = list} h f l q c = record {
-  long = l;
-  moves = c .moves ++ (crossing (y .parents) b v ∷ []);
-  serves = c .serves;
-  counted = omega (arith, c .counted, length-append (c .moves) (crossing (y .parents) b v ∷ []));
-  written = c .written ∙ rw (h, crossing-is (y .parents) b v, ← q, recorded-split b u v n list (omega arith)) (written-before (c .moves) (cond b u v) (cond b v u) k n list (omega (arith, c .counted)) (omega arith));
-  state = c .state;
-}
-
 -- where a node's children need as much as before, the neediest is the same
 neediest-same : {need then : ℕ → ℕ} {y : Yard} {u r : ℕ} (ms : List Move) → ((v : ℕ) → Child (y .parents) u v → then v ≡ need v) → Neediest need y u r → Neediest then (run y ms) u r
 neediest-same ms h n =
     let e = h _ (n .needy .0) in
     record { needy = (n .needy .0, omega (arith, n .needy .1, e)); most = λ v k. omega (arith, n .most v k, h v k, e); first = λ v k l. omega (arith, n .first v k l, h v k, e) }
 
--- the state after the moves: how far counts go, and in which order picks may be
+-- the moves on the state: a node above may pick before them or after; and the state of the yard is the one of the yard after them
 module _ (y : Yard) (t : Tree y) where
   chosen : {b : Bool} {v : ℕ} → Due y b v → blocked y b v ≡ true → Child (y .parents) v (choice (need y b) y v) × Due y b (choice (need y b) y v)
   chosen {b} {v} u e = blocked-child choice choice-sound y t b v u e
@@ -179,59 +187,87 @@ module _ (y : Yard) (t : Tree y) where
   small : (v : ℕ) → v < size y → v < 256
   small v l = tree-small y v t l
 
-  pub served-near : {b : Bool} {v : ℕ} {ms : List Move} (r : Serves choice y b v ms) → Due y b v → (x : ℕ) → x < 256 → (s : List ℤ)
-      → natAbs (getD (servedState r s) (256 + x) (pos 0)) ≤ natAbs (getD s (256 + x) (pos 0)) + 1
-  unfolding servedState
-  served-near {b} (direct {v = v} e) u x l s = step-near (not b) (256 + v) (256 + x) s
-  served-near {b} (behind {v = v} e r) u x l s =
-      let k = chosen u e in
-      omega (arith, served-near r (k .1) x l (pickedState b v (choice (need y b) y v) s), ap natAbs (pick-reads b (small v (u .lt)) (small (choice (need y b) y v) (k .1 .lt)) x l s))
+  module _ (b : Bool) {p w : ℕ} (pl : p < 256) (wl : w < 256) where
+    one-pick : {q v : ℕ} → Child (y .parents) q v → q < size y → weight (y .parents) q < weight (y .parents) p → weight (y .parents) v < weight (y .parents) w → (s : List ℤ)
+        → movedAll b (crossing (y .parents) b v ∷ []) (pickedState b p w s) ≡ pickedState b p w (movedAll b (crossing (y .parents) b v ∷ []) s)
+    one-pick {q} {v} k l g h s =
+        moved-crossing (y .parents) b v (pickedState b p w s)
+        ∙ rw (k .up) (move-pick b pl wl (small q l) (small v (k .lt)) (λ o. absurd (omega (arith, g, ap (weight (y .parents)) o))) (λ o. absurd (omega (arith, h, ap (weight (y .parents)) o))) s)
+        ∙ ap (pickedState b p w) (sym (moved-crossing (y .parents) b v s))
 
-  -- a node above may pick before them or after
-  served-pick : {b : Bool} {v p w : ℕ} {ms : List Move} (r : Serves choice y b v ms) → Due y b v → p < 256 → w < 256 → weight (y .parents) v < weight (y .parents) p → weight (y .parents) v ≤ weight (y .parents) w → (s : List ℤ)
-      → servedState r (pickedState b p w s) ≡ pickedState b p w (servedState r s)
-  unfolding servedState
-  served-pick {b} (direct {v = v} e) u l m g h s = count-pick b l m (not b) v (small v (u .lt)) s
-  served-pick {b} {p = p} {w} (behind {v = v} e r) u l m g h s =
-      let k = chosen u e in
-      let n = weight-child (wood y t) v (choice (need y b) y v) (u .lt) (k .0) in
-      ap (servedState r)
-      (pick-pick b (small v (u .lt)) (small (choice (need y b) y v) (k .1 .lt)) l m (λ q. absurd (omega (arith, g, ap (weight (y .parents)) q))) (λ q. absurd (omega (arith, h, n, ap (weight (y .parents)) q))) s)
-      ∙ served-pick r (k .1) l m (omega (arith, g, n)) (omega (arith, h, n)) (pickedState b v (choice (need y b) y v) s)
+    moved-pick : {q v : ℕ} {ms : List Move} → Serves choice y b v ms → Due y b v → Child (y .parents) q v → q < size y → weight (y .parents) q < weight (y .parents) p → weight (y .parents) v < weight (y .parents) w → (s : List ℤ)
+        → movedAll b ms (pickedState b p w s) ≡ pickedState b p w (movedAll b ms s)
+    moved-pick (direct e) u k l g h s = one-pick k l g h s
+    moved-pick {q} {v} (behind {ms = ms} e r) u k l g h s =
+        let c = chosen u e in
+        let n = weight-child (wood y t) q v l k in
+        let m = weight-child (wood y t) v (choice (need y b) y v) (u .lt) (c .0) in
+        moved-append b ms (crossing (y .parents) b v ∷ []) (pickedState b p w s)
+        ∙ ap (movedAll b (crossing (y .parents) b v ∷ [])) (moved-pick r (c .1) (c .0) (u .lt) (omega (arith, g, n)) (omega (arith, h, m)) s)
+        ∙ one-pick k l g h (movedAll b ms s)
+        ∙ ap (pickedState b p w) (sym (moved-append b ms (crossing (y .parents) b v ∷ []) s))
 
-  -- with the parent's count it is the state of the yard after them
-  pub served-kept : {b : Bool} {v : ℕ} {ms : List Move} (r : Serves choice y b v ms) → Due y b v → Neediest (need y b) y (up (y .parents) v) v → (s : List ℤ) → Kept y s
-      → Kept (run y ms) (stepped b (256 + up (y .parents) v) (servedState r (pickedState b (up (y .parents) v) v s)))
-  unfolding servedState due-step after choice
-  served-kept {b} (direct {v = v} e) u n s k =
-      let x = up (y .parents) v in
-      let z = pickedState b x v s in
-      subst (Kept (run y (crossing (y .parents) b v ∷ [])))
-      (shift-steps (y .parents) b v z (n .needy .0 .other) ∙ step-step (not b) b (256 + v) (256 + x) z (λ q. n .needy .0 .other (omega arith)))
+  -- those before the last one, for which v was cleared
+  way-pick : {b : Bool} {v : ℕ} (ms ns : List Move) → Serves choice y b v ns → ns ≡ ms ++ (crossing (y .parents) b v ∷ []) → Due y b v → Child (y .parents) (up (y .parents) v) v → (s : List ℤ)
+      → movedAll b ms (pickedState b (up (y .parents) v) v s) ≡ pickedState b (up (y .parents) v) v (movedAll b ms s)
+  unfolding movedAll
+  way-pick {b} {v} ms ns (direct e) q u k s = rw (snoc-one ms (crossing (y .parents) b v) q)
+  way-pick {b} {v} ms ns (behind {ms = os} e r) q u k s =
+      let c = chosen u e in
+      let l = wood y t .parent-lt v (u .lt) in
+      let n = weight-child (wood y t) (up (y .parents) v) v l k in
+      let m = weight-child (wood y t) v (choice (need y b) y v) (u .lt) (c .0) in
+      rw (← (snoc-same os ms (crossing (y .parents) b v) q)) (moved-pick b (small (up (y .parents) v) l) (small v (u .lt)) r (c .1) (c .0) (u .lt) n m s)
+
+  pub served-kept : {b : Bool} {v : ℕ} {ms : List Move} → Serves choice y b v ms → Due y b v → Neediest (need y b) y (up (y .parents) v) v → (s : List ℤ) → Kept y s → Kept (run y ms) (movedAll b ms s)
+  unfolding due-step after choice
+  served-kept {b} {v} (direct e) u n s k =
+      subst (Kept (run y (crossing (y .parents) b v ∷ []))) (shift-steps (y .parents) b v s (n .needy .0 .other) ∙ sym (moved-crossing (y .parents) b v s))
       (kept-next y [] (crossing (y .parents) b v) s k (due-step y t b v u (free-able y b v e)) n)
-  served-kept {b} (behind {v = v} {ms = ms} e r) u n s k =
-      let x = up (y .parents) v in
+  served-kept {b} {v} (behind {ms = ms} e r) u n s k =
       let c = choice (need y b) y v in
       let q = chosen u e in
       let p = serves-shift choice choice-sound y t r (q .1) in
-      let xl = wood y t .parent-lt v (u .lt) in
-      let xs = small x xl in
-      let vs = small v (u .lt) in
-      let g = weight-child (wood y t) x v xl (n .needy .0) in
-      let h = weight-child (wood y t) v c (u .lt) (q .0) in
-      let w = servedState r (pickedState b v c s) in
-      let below : Kept (run y ms) (stepped b (256 + v) w) = rw (q .0 .up) at (served-kept r (q .1) (rw (q .0 .up) (neediest-some (need y b) y v c (q .0, q .1 .needs))) s k) in
-      let long : length w ≡ 1280 = sym (length-set w (256 + v) (nextℤ b (getD w (256 + v) (pos 0)))) ∙ below .long in
+      let w = movedAll b ms s in
       subst (Kept (run y (ms ++ (crossing (y .parents) b v ∷ []))))
-      (shift-steps (y .parents) b v (pickedState b x v (stepped b (256 + v) w)) (n .needy .0 .other)
-      ∙ ap (λ (z : List ℤ). stepped (not b) (256 + v) (stepped b (256 + x) z)) (sym (count-pick b xs vs b v vs w))
-      ∙ step-step (not b) b (256 + v) (256 + x) (stepped b (256 + v) (pickedState b x v w)) (λ o. n .needy .0 .other (omega arith))
-      ∙ ap (stepped b (256 + x)) (step-undo b (256 + v) (pickedState b x v w) (simp length-set (omega (arith, long, vs)))
-      ∙ sym (served-pick r (q .1) xs vs (omega (arith, g, h)) (omega (arith, h)) (pickedState b v c s))
-      ∙ ap (servedState r) (pick-pick b xs vs vs (small c (q .1 .lt)) (λ o. n .needy .0 .other (sym o)) (λ o. absurd (omega (arith, h, ap (weight (y .parents)) o))) s)))
-      (kept-next y ms (crossing (y .parents) b v) (stepped b (256 + v) w) below
+      (shift-steps (y .parents) b v w (n .needy .0 .other) ∙ sym (moved-append b ms (crossing (y .parents) b v ∷ []) s ∙ moved-crossing (y .parents) b v w))
+      (kept-next y ms (crossing (y .parents) b v) w (served-kept r (q .1) (rw (q .0 .up) (neediest-some (need y b) y v c (q .0, q .1 .needs))) s k)
       (due-step (run y ms) (good-tree y t ms (p .good)) b v (due-behind y t b v c ms u (q .0) p) (able-behind y t b v c ms u (q .0) p))
       (neediest-same ms (λ i j. need-behind y t b v c ms u (q .0) p (n .needy .0) j) n))
+
+-- clearing and the last move are a filling
+pub filled-last : {b : Bool} {y : Yard} {t : List ℕ} {n end u v k : ℕ} {s s′ : List ℤ} {list list′ : List ℕ}
+    → AskedFill b y t s end v → end ≡ n + 1 → length list ≡ 512 → u ≡ up (y .parents) v → Cleared b y n v s s′ (recorded b u v n list) list′ k → Filled b y end v s s′ list list′ k
+filled-last {b} {y} {t} {n} {end} {u} {v} {k} {s} {s′} {list} a h l q c = record {
+  long = l;
+  moves = c .moves ++ (m ∷ []);
+  serves = c .serves;
+  counted = omega (arith, c .counted, length-append (c .moves) (m ∷ []));
+  written = c .written ∙ rw (h, crossing-is (y .parents) b v, ← q, recorded-split b u v n list (omega (arith, a .few))) (written-before (c .moves) (cond b u v) (cond b v u) k n list (omega (arith, c .counted)) (omega (arith, a .few)));
+  state = λ s₀ e. sym (
+      moved-append b (c .moves) (m ∷ []) s₀ ∙ moved-crossing (y .parents) b v (movedAll b (c .moves) s₀)
+      ∙ ap (λ (z : List ℤ). stepped (not b) (256 + v) (stepped b (256 + x) z)) (
+      sym (way-pick y tree (c .moves) (c .moves ++ (m ∷ [])) (c .serves) refl (a .due) here s₀) ∙ ap (movedAll b (c .moves)) (sym e) ∙ sym (c .state)
+      )
+      ∙ step-step (not b) b (256 + v) (256 + x) (stepped b (256 + v) s′) (λ o. here .other (omega arith))
+      ∙ ap (stepped b (256 + x)) (step-undo b (256 + v) s′ (omega (arith, long, half-small (a .halfway) (a .due .lt))))
+      );
+}
+  where
+    m : Move
+    m = crossing (y .parents) b v
+
+    x : ℕ
+    x = up (y .parents) v
+
+    tree : Tree y
+    tree = a .halfway .tree
+
+    here : Child (y .parents) x v
+    here = record { lt = a .due .lt; up = refl; other = λ e. a .due .off-root (wood y tree .root-only v (a .due .lt) (sym e)) }
+
+    long : length s′ ≡ 1280
+    long = sym (length-set s′ (256 + v) (nextℤ b (getD s′ (256 + v) (pos 0)))) ∙ ap length (c .state) ∙ moved-length b (c .moves) s ∙ a .halfway .long
 
 -- a turn at u, whose child v was picked: what filling v or drawing from it asks, and the counts of both
 module _ {b : Bool} {y : Yard} {t : List ℕ} {s₀ s : List ℤ} {plan : List ℕ} {u v : ℕ} (a : AskedServe b y t s₀ s plan u v) where
@@ -260,24 +296,35 @@ module _ {b : Bool} {y : Yard} {t : List ℕ} {s₀ s : List ℤ} {plan : List �
     serve-room : 2 * length ms ≤ length plan
     serve-room = omega (arith, a .room, serves-shift choice choice-sound y grown r (a .due) .good .spends)
 
-    serve-kept : Kept (run y ms) (stepped b (256 + u) (servedState r s))
-    serve-kept = rw (a .picked, serve-up) (served-kept y grown r (a .due) (rw (← serve-up) (a .chosen)) s₀ (a .described .kept))
+    serve-kept : Kept (run y ms) (movedAll b ms s₀)
+    serve-kept = served-kept y grown r (a .due) (rw (← serve-up) (a .chosen)) s₀ (a .described .kept)
 
   -- a single move, and those that were handed over
   pub serve-one-room : blocked y b v ≡ false → 2 ≤ length plan
   serve-one-room e = omega (arith, serve-room (direct e))
 
-  pub serve-one : blocked y b v ≡ false → Served b y v (stepped b (256 + u) (stepped (not b) (256 + v) s)) plan (recorded b u v 0 plan) 1
-  unfolding servedState bytes
+  pub serve-one : blocked y b v ≡ false → Served b y v (stepped (not b) (256 + v) (stepped b (256 + u) s)) plan (recorded b u v 0 plan) 1
+  unfolding bytes
   serve-one e = record {
     moves = crossing (y .parents) b v ∷ [];
     serves = direct e;
-    made = record { kept = serve-kept (direct e); written = rw (crossing-is (y .parents) b v, ← serve-up) (recorded-split b u v 0 plan (omega (arith, serve-room (direct e)))); counted = refl };
+    made = record { kept = rw (a .picked, serve-up, ← (moved-crossing (y .parents) b v s₀)) (serve-kept (direct e)); written = rw (crossing-is (y .parents) b v, ← serve-up) (recorded-split b u v 0 plan (omega (arith, serve-room (direct e)))); counted = refl };
   }
 
   module _ {s′ : List ℤ} {list list′ : List ℕ} {k : ℕ} (f : Filled b y 256 v s s′ list list′ k) where
+    -- the state, and the count at u that is still to change
+    done : stepped b (256 + u) s′ ≡ movedAll b (f .moves) s₀
+    done = rw serve-up (f .state s₀ (rw (← serve-up) (a .picked)))
+
+    kept : Kept (run y (f .moves)) (stepped b (256 + u) s′)
+    kept = rw done (serve-kept (f .serves))
+
     pub serve-few : Small s′ (256 + u)
-    serve-few = rw (f .state) (omega (arith, few u u-lt, served-near y grown (f .serves) (a .due) u (serve-small .0) s))
+    serve-few =
+        let g = facts (run y (f .moves)) (good-tree y grown (f .moves) (serves-shift choice choice-sound y grown (f .serves) (a .due) .good)) in
+        let l : length s′ ≡ 1280 = sym (length-set s′ (256 + u) (nextℤ b (getD s′ (256 + u) (pos 0)))) ∙ kept .long in
+        let n = step-near (not b) (256 + u) (256 + u) (stepped b (256 + u) s′) in
+        omega (arith, rw (step-undo b (256 + u) s′ (omega (arith, l, serve-small .0)), kept .pebbles u u-lt) at n, g .pebble-le u u-lt, g .capacity-le u u-lt)
 
     -- the list, and room for them
     front : length (take (2 * k) list) ≡ 2 * k
@@ -291,7 +338,7 @@ module _ {b : Bool} {y : Yard} {t : List ℕ} {s₀ s : List ℤ} {plan : List �
       moves = f .moves;
       serves = f .serves;
       made = record {
-        kept = rw (p, f .state) (serve-kept (f .serves));
+        kept = rw p kept;
         written = q ∙ rw (f .written, drop-at (take (2 * k) list) (bytes (f .moves) ++ drop 512 list) (2 * k) front, drop-of-length-le list {i = 512} (omega (arith, f .long)), append-nil (bytes (f .moves)));
         counted = omega (arith, f .counted);
       };

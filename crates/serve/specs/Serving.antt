@@ -87,6 +87,15 @@ Room s v p d = (getD s (256 + v) (pos 0) ≡ pos p) × (getD s (1024 + v) (pos 0
 abbrev pub pickedState : Bool → ℕ → ℕ → List ℤ → List ℤ
 pickedState b u c s = set (stepped b c s) (lastAt b u) (pos c)
 
+-- the state after a move over the edge of v, whose parent is p, away from the root (true) or towards it: v is picked, and the pebble is counted at both
+abbrev pub movedState : Bool → ℕ → ℕ → List ℤ → List ℤ
+movedState b p v s = stepped (not b) (256 + v) (stepped b (256 + p) (pickedState b p v s))
+
+-- after some moves, all of them away from the root or all towards it
+unfoldable pub movedAll : Bool → List Move → List ℤ → List ℤ
+movedAll b [] s = s
+movedAll b (m ∷ ms) s = movedAll b ms (movedState b (cond b (m .from) (m .to)) (cond b (m .to) (m .from)) s)
+
 -- the list with a move over the edge of v, whose parent is p, at place k
 abbrev pub recorded : Bool → ℕ → ℕ → ℕ → List ℕ → List ℕ
 recorded b p v k plan = set (set plan (2 * k) (cond b p v)) (2 * k + 1) (cond b v p)
@@ -143,32 +152,28 @@ pub record AskedFill (b : Bool) (y : Yard) (t : List ℕ) (s : List ℤ) (end v 
   pub places : weight (y .parents) v ≤ end
   pub few : end ≤ 256
 
--- the state after the moves by which a pebble goes over the edge of v, which was picked for it, but for the count at v's parent: each node that is blocked
--- has picked a child, and the one at the lower end, which is not, takes a pebble, or gives one. In between each node that loses one gets one
-unfoldable pub servedState : {b : Bool} {y : Yard} {v : ℕ} {ms : List Move} → Serves choice y b v ms → List ℤ → List ℤ
-servedState {b} (direct {v = v} e) s = stepped (not b) (256 + v) s
-servedState {b} {y} (behind {v = v} e r) s = servedState r (pickedState b v (choice (need y b) y v) s)
-
 -- the list with some moves from place k up to place `end`, all else as it was
 abbrev pub writtenUpTo : ℕ → ℕ → List Move → List ℕ → List ℕ
 writtenUpTo k end ms list = take (2 * k) list ++ (bytes ms ++ drop (2 * end) list)
 
--- what it gives: the moves of Algorithm 2 or 3 stand from place k up to `end`, and the state is the one after them, but for the count at v's parent
+-- what it gives: the moves of Algorithm 2 or 3 stand from place k up to `end`; and where the state was s₀ with v picked, with the count at v's parent, which is
+-- left to the caller, it is s₀ after those moves
 pub record Filled (b : Bool) (y : Yard) (end v : ℕ) (s s′ : List ℤ) (list list′ : List ℕ) (k : ℕ) : Type 0 where
   pub long : length list ≡ 512
   pub moves : List Move
   pub serves : Serves choice y b v moves
   pub counted : k + length moves ≡ end
   pub written : list′ ≡ writtenUpTo k end moves list
-  pub state : s′ ≡ servedState serves s
+  pub state : (s₀ : List ℤ) → s ≡ pickedState b (up (y .parents) v) v s₀ → stepped b (256 + up (y .parents) v) s′ ≡ movedAll b moves s₀
 
--- what clearing v gives: the moves that make way for the one over its edge, which is the last of the filling; in the state it is counted at v already
+-- what clearing v gives: the moves that make way for the one over its edge, which is the last of the filling. The state is the one after them, but that the pebble
+-- which then comes to v, or goes, is counted there already
 pub record Cleared (b : Bool) (y : Yard) (end v : ℕ) (s s′ : List ℤ) (list list′ : List ℕ) (k : ℕ) : Type 0 where
   pub moves : List Move
   pub serves : Serves choice y b v (moves ++ (crossing (y .parents) b v ∷ []))
   pub counted : k + length moves ≡ end
   pub written : list′ ≡ writtenUpTo k end moves list
-  pub state : s′ ≡ servedState serves s
+  pub state : stepped b (256 + v) s′ ≡ movedAll b moves s
 
 -- what a turn at u asks that fills v or draws from it: that no child of u needs more, the state with v picked, and room in the plan
 pub record AskedServe (b : Bool) (y : Yard) (t : List ℕ) (s₀ s : List ℤ) (plan : List ℕ) (u v : ℕ) : Type 0 where

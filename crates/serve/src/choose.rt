@@ -10,6 +10,19 @@ ghost use Rattle.laws.specs.Algorithms.{need};
 ghost use Rattle.laws.proofs.Signed.{nextℤ};
 ghost use Rattle.serve.specs.Serving.{beyond, lastAt, Small, pickedState, Sees, Lowest, NextBeyond, AskedAfter, Picks};
 
+// Where the tables of a tree begin behind the parents: the lowest children, and the next siblings.
+pub const LOWEST: usize = 256;
+
+pub const NEXT: usize = 512;
+// Where those of the state begin behind the demands: the pebbles, for each sign the children served last, and the depths.
+pub const PEBBLES: usize = 256;
+
+pub const LAST_FILLED: usize = 512;
+
+pub const LAST_DRAWN: usize = 768;
+
+pub const DEPTHS: usize = 1024;
+
 // A byte as a number.
 pub fn wide(x: u8) -> usize
     ensures { λ r. ⌜ (r ≡ x) × (r < 256) ⌝ }
@@ -45,7 +58,7 @@ fn next_beyond(
         if passes(s[c], most, away) {
             return c;
         }
-        c = wide(t[512 + c]);
+        c = wide(t[NEXT + c]);
     }
     u
 }
@@ -56,7 +69,7 @@ fn choose_of_all(t: &[u8; 768], s: &[i16; 1280], u: usize, away: bool) -> usize
     ensures { λ r. ⌜ ((y : Yard) → Sees y (was t) (was s) u → r ≡ choice (need y away) y u) ⌝ }
 {
     let mut best = u;
-    let mut from = wide(t[256 + u]);
+    let mut from = wide(t[LOWEST + u]);
     let mut most = 0;
     loop {
         let c = next_beyond(t, s, u, from, most, away);
@@ -64,7 +77,7 @@ fn choose_of_all(t: &[u8; 768], s: &[i16; 1280], u: usize, away: bool) -> usize
             return best;
         }
         best = c;
-        from = wide(t[512 + c]);
+        from = wide(t[NEXT + c]);
         most = s[c];
     }
 }
@@ -75,9 +88,9 @@ fn last_served(s: &[i16; 1280], u: usize, away: bool) -> usize
     ensures { λ r. ⌜ getD (was s) (lastAt away u) (pos 0) ≡ pos r ⌝ }
 {
     if away {
-        return s[512 + u] as usize;
+        return s[LAST_FILLED + u] as usize;
     }
-    s[768 + u] as usize
+    s[LAST_DRAWN + u] as usize
 }
 
 // A demand, one nearer to 0 on the side of the sign wanted.
@@ -97,14 +110,14 @@ fn choose_after(t: &[u8; 768], s: &[i16; 1280], u: usize, last: usize, away: boo
     requires { ⌜ ((y : Yard) × AskedAfter away y (now t) (now s) u last) ⌝ }
     ensures { λ r. ⌜ ((y : Yard) → AskedAfter away y (was t) (was s) u last → r ≡ choice (need y away) y u) ⌝ }
 {
-    let c = next_beyond(t, s, u, wide(t[512 + last]), s[last], away);
+    let c = next_beyond(t, s, u, wide(t[NEXT + last]), s[last], away);
     if c != u {
         return c;
     }
     if s[last] == 0 {
         return u;
     }
-    next_beyond(t, s, u, wide(t[256 + u]), nearer(s[last], away), away)
+    next_beyond(t, s, u, wide(t[LOWEST + u]), nearer(s[last], away), away)
 }
 
 // The child of u that is served wherever one is chosen, or u itself if no child has a demand of the sign wanted.
@@ -126,10 +139,10 @@ fn note_served(s: &mut [i16; 1280], u: usize, c: usize, away: bool)
 {
     s[c] = nearer(s[c], away);
     if away {
-        s[512 + u] = c as i16;
+        s[LAST_FILLED + u] = c as i16;
         return;
     }
-    s[768 + u] = c as i16;
+    s[LAST_DRAWN + u] = c as i16;
 }
 
 // Picks that child: the state is then as if a pebble had gone over its edge, but for the pebbles.

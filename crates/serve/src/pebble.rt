@@ -11,16 +11,23 @@ ghost use Rattle.model.specs.Yard.{Yard, up};
 ghost use Rattle.model.specs.Given.{was, became};
 ghost use Rattle.model.specs.Calls.Answers.{overwrite};
 ghost use Rattle.serve.specs.Serving.{Small, Room, stepped, recorded, AskedFill, Filled, Cleared, AskedServe, Served};
+use crate::choose::DEPTHS;
+use crate::choose::PEBBLES;
 use crate::choose::nearer;
 use crate::choose::pick;
 use lists::copy::copy;
+
+// How many moves the list of a filling has places for, and how many bytes it has.
+const PLACES: usize = 256;
+
+const LIST_BYTES: usize = 2 * PLACES;
 
 // Whether a node has a place for one more pebble.
 fn has_place(s: &[i16; 1280], v: usize) -> bool
     requires { ⌜ (v < 256) × ((p : ℕ) × (d : ℕ) × Room (now s) v p d) ⌝ }
     ensures { λ r. ⌜ ((p d : ℕ) → Room (was s) v p d → r ≡ ltb p d) ⌝ }
 {
-    s[256 + v] < s[1024 + v]
+    s[PEBBLES + v] < s[DEPTHS + v]
 }
 
 // One pebble less at a node (true), or one more.
@@ -28,7 +35,7 @@ fn count_pebble(s: &mut [i16; 1280], v: usize, less: bool)
     requires { ⌜ (v < 256) × Small (now s) (256 + v) ⌝ }
     ensures { λ _. ⌜ became s ≡ stepped less (256 + v) (was s) ⌝ }
 {
-    s[256 + v] = nearer(s[256 + v], less);
+    s[PEBBLES + v] = nearer(s[PEBBLES + v], less);
 }
 
 // Algorithm 4: writes the move of a pebble over the edge of v, whose parent is p, away from the root or towards it, at place k of the list.
@@ -94,7 +101,7 @@ pub fn extract_pebble(
     ensures { λ r. ⌜ ((y : Yard) → AskedFill false y (was t) (was s) end v → u ≡ up (y .parents) v → Filled false y end v (was s) (became s) (was moves) (became moves) r) ⌝ }
 {
     record_move(moves, end - 1, u, v, false);
-    if s[256 + v] != 0 {
+    if s[PEBBLES + v] != 0 {
         count_pebble(s, v, true);
         return end - 1;
     }
@@ -105,11 +112,11 @@ pub fn extract_pebble(
 // A single move over the edge of v, whose parent is u, to the front of the plan.
 fn move_pebble(s: &mut [i16; 1280], plan: &mut [u8], u: usize, v: usize, away: bool)
     requires { ⌜ (u < 256) × (v < 256) × (u ≢ v) × Small (now s) (256 + u) × Small (now s) (256 + v) × (2 ≤ length (now plan)) ⌝ }
-    ensures { λ _. ⌜ became s ≡ stepped away (256 + u) (stepped (not away) (256 + v) (was s)) ⌝ }
+    ensures { λ _. ⌜ became s ≡ stepped (not away) (256 + v) (stepped away (256 + u) (was s)) ⌝ }
     ensures { λ _. ⌜ became plan ≡ recorded away u v 0 (was plan) ⌝ }
 {
-    count_pebble(s, v, !away);
     count_pebble(s, u, away);
+    count_pebble(s, v, !away);
     record_move(plan, 0, u, v, away);
 }
 
@@ -119,8 +126,8 @@ fn hand_over(moves: &[u8], k: usize, plan: &mut [u8]) -> usize
     ensures { λ r. ⌜ r + k ≡ 256 ⌝ }
     ensures { λ _. ⌜ became plan ≡ overwrite (drop (2 * k) (was moves)) (was plan) ⌝ }
 {
-    copy(&moves[2 * k..], &mut plan[..512 - 2 * k]);
-    256 - k
+    copy(&moves[2 * k..], &mut plan[..LIST_BYTES - 2 * k]);
+    PLACES - k
 }
 
 // Fills the child c of u that was picked, by moves at the front of the plan; answers how many. Mostly c has a place, and it is one;
@@ -140,7 +147,7 @@ pub fn fill_child(
         move_pebble(s, plan, u, c, true);
         return 1;
     }
-    let k = inject_pebble(t, s, moves, 256, u, c);
+    let k = inject_pebble(t, s, moves, PLACES, u, c);
     count_pebble(s, u, true);
     hand_over(moves, k, plan)
 }
@@ -157,11 +164,11 @@ pub fn draw_child(
     requires { ⌜ ((y : Yard) × (s₀ : List ℤ) × AskedServe false y (now t) s₀ (now s) (now plan) u c) ⌝ }
     ensures { λ r. ⌜ ((y : Yard) (s₀ : List ℤ) → AskedServe false y (was t) s₀ (was s) (was plan) u c → Served false y c (became s) (was plan) (became plan) r) ⌝ }
 {
-    if s[256 + c] != 0 {
+    if s[PEBBLES + c] != 0 {
         move_pebble(s, plan, u, c, false);
         return 1;
     }
-    let k = extract_pebble(t, s, moves, 256, u, c);
+    let k = extract_pebble(t, s, moves, PLACES, u, c);
     count_pebble(s, u, false);
     hand_over(moves, k, plan)
 }

@@ -5,6 +5,8 @@ ghost use lib.ListN.{length};
 ghost use Rattle.model.specs.Judge.{Parents};
 ghost use Rattle.model.specs.Given.{was, became};
 ghost use Rattle.serve.specs.Serving.{Linked, Tables, linkedTo};
+use crate::choose::LOWEST;
+use crate::choose::NEXT;
 use crate::choose::wide;
 
 // With no node linked yet: parents, and each node as its own lowest child.
@@ -16,7 +18,7 @@ fn unlinked(parents: &[u8]) -> [u8; 768]
     let mut v = 0;
     while v < parents.len() {
         t[v] = parents[v];
-        t[256 + v] = v as u8;
+        t[LOWEST + v] = v as u8;
         v += 1;
     }
     t
@@ -27,8 +29,8 @@ pub fn link(t: &mut [u8; 768], v: usize, p: usize)
     requires { ⌜ (v < 256) × (p < 256) ⌝ }
     ensures { λ _. ⌜ became t ≡ linkedTo (was t) v p ⌝ }
 {
-    t[512 + v] = t[256 + p];
-    t[256 + p] = v as u8;
+    t[NEXT + v] = t[LOWEST + p];
+    t[LOWEST + p] = v as u8;
 }
 
 // Linked from the highest node down, so that each parent's children come in rising order.

@@ -64,7 +64,7 @@ module _ (n : ℕ) where
   count-pebble-requires c κs = let p = c .before .before .before .before .pre .1 in (half-small (p .1 .halfway) (p .1 .due .lt), count-small (p .1 .halfway) (p .1 .due .lt))
 
   clear-node-returns : clear-node-lts.Need-returns (clear-claims n) (clear-node-at n) clear-node.Post
-  clear-node-returns c y a = rw (c .count-pebble .ensures) (cleared-here (told (c .before .before .before) y a ∙ ap not (c .before .before .if1 .taken)))
+  clear-node-returns c y a = rw (c .count-pebble .ensures) (cleared-here a (told (c .before .before .before) y a ∙ ap not (c .before .before .if1 .taken)))
 
   pick-requires : clear-node-lts.Need-pick-requires (clear-claims n) (clear-node-at n) clear-node.Post
   pick-requires c κs = let p = c .before .before .before .before .pre .1 in (p .0, half-sees (p .1 .halfway) (p .1 .due .lt))
@@ -110,7 +110,7 @@ module _ (n : ℕ) where
   inject-pebble-returns : inject-pebble-lts.Need-returns (inject-claims n) (inject-pebble-at n) inject-pebble.Post
   inject-pebble-returns c y a q =
       let m = c .before .before .before in
-      filled-last (one-less a) (a .few) (m .before .record-move-arg .given .0 .1) q (rw (m .record-move .ensures) at (c .clear-node .ensures y (less-one a)))
+      filled-last a (one-less a) (m .before .record-move-arg .given .0 .1) q (rw (m .record-move .ensures) at (c .clear-node .ensures y (less-one a)))
 
 pub +clear-node+inject-pebble-spec : {M : Type 1} → statement M
 +clear-node+inject-pebble-spec =

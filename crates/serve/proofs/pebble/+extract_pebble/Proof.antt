@@ -62,8 +62,8 @@ module _ (n : ℕ) where
   returns c y a q =
       let o = c .before .before in
       let m = o .before .before in
-      filled-last (one-less a) (a .few) (m .before .record-move-arg .given .0 .1) q
-      (rw (c .count-pebble .ensures, m .record-move .ensures) (cleared-here (held-free y _ (λ e. o .if1 .taken (ap (ofZ w16) (a .halfway .pebbles _ (a .due .lt)) ∙ e)))))
+      filled-last a (one-less a) (m .before .record-move-arg .given .0 .1) q
+      (rw (c .count-pebble .ensures, m .record-move .ensures) (cleared-here a (held-free y _ (λ e. o .if1 .taken (ap (ofZ w16) (a .halfway .pebbles _ (a .due .lt)) ∙ e)))))
 
   pick-requires : lts.Need-pick-requires (claims n) (extract-pebble-at n) extract-pebble.Post
   pick-requires c κs = let p = c .before .before .before .before .before .pre .1 in (p .0, half-sees (p .1 .halfway) (p .1 .due .lt))
@@ -90,7 +90,7 @@ module _ (n : ℕ) where
       let m = k .before .before .before .before in
       let f = drawn k y a in
       let p = k .pick .ensures .1 in
-      filled-last (one-less a) (a .few) (m .before .record-move-arg .given .0 .1) q
+      filled-last a (one-less a) (m .before .record-move-arg .given .0 .1) q
       (cleared-behind a (f .0) (f .1) p (rw (m .record-move .ensures) at (c .extract-pebble .ensures y (chosen-asked a (f .0) (f .1) p (one-less a)) (chosen-up a (f .0) (f .1) p))))
 
 pub +extract-pebble-spec : {M : Type 1} → statement M

@@ -13,7 +13,7 @@ count-pebble-requires c κs = search needs
 count-pebble-requires-2 : tie.Need-count-pebble-requires-2
 count-pebble-requires-2 c κs =
     let s = c .before .before .before .before in
-    (s .pre .0, rw (c .before .count-pebble .ensures, getD-set-other (s .args .s .now) (256 + s .args .v) (256 + s .args .u) _ (pos 0) (λ e. s .pre .2 (omega arith))) (s .pre .3))
+    (s .pre .1, rw (c .before .count-pebble .ensures, getD-set-other (s .args .s .now) (256 + s .args .u) (256 + s .args .v) _ (pos 0) (λ e. s .pre .2 (omega arith))) (s .pre .4))
 
 record-move-requires : tie.Need-record-move-requires
 record-move-requires c κs = search needs
