@@ -1,5 +1,6 @@
 -- The block's nine stores; the next move by its two bytes, and what a step is told of it; the tests of a step, and what an accepted one leaves.
-use mathlib.Core.Path.{_≡_, refl, sym, ap, _∙_}
+use mathlib.Core.Path.{_≡_, refl, sym, ap, subst, _∙_}
+use mathlib.Core.Logic.{_≢_}
 use mathlib.Core.Bool.{Bool, not, _&&_, _||_}
 use mathlib.Core.List.{List, [], _∷_}
 use mathlib.Core.Option.{Option, none, some}
@@ -10,20 +11,19 @@ use lib.Dec.{leb, ltb, eqb}
 use borrow.Author.Tests.{lt-ltb, ne-eqb}
 use Rattle.model.specs.declared.Registers.{Registers}
 use Rattle.model.specs.Yard.{Yard, yardOf}
-use Rattle.model.specs.Judge.{Fault, firstOf}
+use Rattle.model.specs.Judge.{Fault, row, firstOf, judge}
 use Rattle.model.specs.Push.{Move, push, moveFault}
 use Rattle.model.specs.Calls.Plans.{movesOf}
 use Rattle.model.specs.Calls.Checks.{bytesFault}
 use Rattle.model.specs.Calls.Answers.{Answer, answered, refused}
-use Rattle.model.specs.Calls.Registers.{idle, blockOf, registersOf, wholeMoves, nextNumber, nextMove, nextTests, stepFault, pebblesThen, stepped}
+use Rattle.model.specs.Calls.Registers.{idle, blockLength, blockOf, registersOf, raised, wholeMoves, nextNumber, nextMove, nextTests, stepFault, pebblesThen, stepped}
 use Rattle.laws.proofs.Basics.{single}
 use Rattle.laws.proofs.Calls.{movesOf-half, moves-half, move-at}
 use Rattle.laws.proofs.Sheets.{Bytes}
-use Rattle.laws.proofs.Blocks.{stepped-refused, stepped-line, stepped-block, stepped-pebbles}
+use Rattle.laws.proofs.Blocks.{registersOf-blockOf, blockOf-registersOf, registersOf-held, thenOf, pebblesOf, stepped-refused, stepped-line, stepped-block, stepped-pebbles, stepped-registers}
 use Rattle.laws.proofs.Cabinet.{then-held}
 use Rattle.cabinet.specs.declared.registers.Told.{Told}
-use Rattle.cabinet.specs.declared.registers.After.{After}
-use Rattle.cabinet.specs.Step.{toldOf, afterOf}
+use Rattle.cabinet.specs.Step.{toldOf, nextOf}
 
 -- nine stores into a list of nine leave the nine values
 pub nine : (xs : List ℕ) (a b c d e f g h i : ℕ) → length xs ≡ 9
@@ -85,27 +85,59 @@ unfolding moveFault
 next-tests y bs r m i p e n k =
     k ∙ ap (λ (m : Move). moveFault y m i) e ∙ ap (moveFault y (nextMove bs r)) n ∙ sym (single (moveFault y (nextMove bs r) (nextNumber bs r))) ∙ rw p
 
--- what the call answers and leaves, refused and accepted
-module _ (y : Yard) (bs block : List ℕ) (failed : Bool) where
-  abbrev Left : Answer Bool → List ℕ → List ℕ → Type 0
-  Left line now pebbles = (line ≡ stepped y bs block failed .line) × ((now ≡ stepped y bs block failed .block) × (pebbles ≡ stepped y bs block failed .pebbles))
+-- what a step of registers answers and leaves, refused and accepted
+module _ (y : Yard) (bs : List ℕ) (failed : Bool) where
+  abbrev Left : List ℕ → Answer Bool → Registers → List ℕ → Type 0
+  Left block line next pebbles = (line ≡ stepped y bs block failed .line) × ((next ≡ registersOf (stepped y bs block failed .block)) × (pebbles ≡ stepped y bs block failed .pebbles))
 
-  pub left-refused : {f : Fault} → stepFault y bs block ≡ some f → Left (refused f) block (y .pebbles)
-  left-refused {f} e = rw (stepped-refused y bs block failed f e) (refl, (refl, refl))
+  pub left-refused : (r : Registers) {f : Fault} → stepFault y bs (blockOf r) ≡ some f → Left (blockOf r) (refused f) r (y .pebbles)
+  left-refused r {f} e = rw (stepped-refused y bs (blockOf r) failed f e) (refl, (sym (registersOf-blockOf r), refl))
 
-  pub left-accepted : stepFault y bs block ≡ none → (r : Registers) (t : Told) (s : After) {now pebbles : List ℕ} → r ≡ registersOf block → t ≡ toldOf bs r failed → s ≡ afterOf r t
-      → now ≡ blockOf (s .next) → pebbles ≡ pebblesThen y (push (t .from) (t .to)) (t .failed) r → Left (answered (s .raised)) now pebbles
-  unfolding afterOf
-  left-accepted e r t s p q a n k =
-      let all : s ≡ afterOf (registersOf block) (toldOf bs (registersOf block) failed) = a ∙ ap (afterOf r) q ∙ ap (λ (r : Registers). afterOf r (toldOf bs r failed)) p in (
-        ap (λ (s : After). answered (s .raised)) all ∙ sym (stepped-line y bs block failed e),
+  pub left-accepted : (r : Registers) → stepFault y bs (blockOf r) ≡ none → (t : Told) (n : Registers) (l : Bool) {pebbles : List ℕ} → t ≡ toldOf bs r failed → n ≡ nextOf r t → l ≡ raised n
+      → pebbles ≡ pebblesThen y (push (t .from) (t .to)) (t .failed) r → Left (blockOf r) (answered l) n pebbles
+  left-accepted r e t n l q p h k =
+      let same = sym (registersOf-blockOf r) in
+      let all : n ≡ thenOf bs failed (registersOf (blockOf r)) = p ∙ ap (nextOf r) q ∙ ap (thenOf bs failed) same in (
+        ap answered (h ∙ ap raised all) ∙ sym (stepped-line y bs (blockOf r) failed e),
         (
-          n ∙ ap (λ (s : After). blockOf (s .next)) all ∙ sym (stepped-block y bs block failed e),
-          k ∙ ap (λ (t : Told). pebblesThen y (push (t .from) (t .to)) (t .failed) r) q ∙ ap (λ (r : Registers). pebblesThen y (nextMove bs r) failed r) p ∙ sym (stepped-pebbles y bs block failed e),
+          all ∙ sym (stepped-registers y bs (blockOf r) failed e),
+          k ∙ ap (λ (t : Told). pebblesThen y (push (t .from) (t .to)) (t .failed) r) q ∙ ap (pebblesOf y bs failed) same ∙ sym (stepped-pebbles y bs (blockOf r) failed e),
         ),
       )
 
-  -- the moves left then fit three bytes
-  pub left-fits : stepFault y bs block ≡ none → Bytes block → Bytes bs → (r : Registers) (t : Told) (s : After) → r ≡ registersOf block → t ≡ toldOf bs r failed → s ≡ afterOf r t → s .next .left < 16_777_216
-  unfolding afterOf
-  left-fits e b c r t s p q a = rw (a, q, p) (then-held y bs block failed e b c .2)
+  -- and of registers in a block: the block that is written back, and the moves left in it fit three bytes
+  module _ (block : List ℕ) (b : Bytes block) where
+    pub left-block : length block ≡ blockLength → (r : Registers) → r ≡ registersOf block → {line : Answer Bool} {next : Registers} {now pebbles : List ℕ} → Left (blockOf r) line next pebbles → now ≡ blockOf next
+        → (line ≡ stepped y bs block failed .line) × ((now ≡ stepped y bs block failed .block) × (pebbles ≡ stepped y bs block failed .pebbles))
+    left-block long r p {line} {next} {now} {pebbles} h k =
+        let l : Left block line next pebbles = subst (λ (block : List ℕ). Left block line next pebbles) (ap blockOf p ∙ blockOf-registersOf block long (b 4) (b 5)) h in
+        (l .0, (k ∙ ap blockOf (l .1 .0) ∙ back (stepFault y bs block) refl, l .1 .1))
+      where
+        back : (f : Option Fault) → stepFault y bs block ≡ f → blockOf (registersOf (stepped y bs block failed .block)) ≡ stepped y bs block failed .block
+        back none e = rw (stepped-block y bs block failed e) (ap blockOf (registersOf-blockOf _))
+        back (some f) e = rw (stepped-refused y bs block failed f e) (blockOf-registersOf block long (b 4) (b 5))
+
+    pub left-fits : Bytes bs → length block ≡ blockLength → (r : Registers) → r ≡ registersOf block → {line : Answer Bool} {next : Registers} {pebbles : List ℕ} → Left (blockOf r) line next pebbles → next .left < 16_777_216
+    left-fits c long r p {line} {next} {pebbles} h =
+        let l : Left block line next pebbles = subst (λ (block : List ℕ). Left block line next pebbles) (ap blockOf p ∙ blockOf-registersOf block long (b 4) (b 5)) h in
+        rw (l .1 .0) (fits (stepFault y bs block) refl)
+      where
+        fits : (f : Option Fault) → stepFault y bs block ≡ f → registersOf (stepped y bs block failed .block) .left < 16_777_216
+        fits none e = rw (stepped-registers y bs block failed e) (then-held y bs block failed e b c .2)
+        fits (some f) e = rw (stepped-refused y bs block failed f e) (registersOf-held block b .2)
+
+  -- a block of another length: refused by the yard, then by 2
+  module _ (block : List ℕ) where
+    abbrev Kept : Fault → Type 0
+    Kept f = (refused f ≡ stepped y bs block failed .line) × ((block ≡ stepped y bs block failed .block) × (y .pebbles ≡ stepped y bs block failed .pebbles))
+
+    kept : (f : Fault) → stepFault y bs block ≡ some f → Kept f
+    kept f e = rw (stepped-refused y bs block failed f e) (refl, (refl, refl))
+
+    pub kept-yard : {f : Fault} → judge y ≡ some f → Kept f
+    unfolding stepFault
+    kept-yard {f} e = kept f (rw e)
+
+    pub kept-long : judge y ≡ none → length block ≢ blockLength → Kept (row 2 0)
+    unfolding stepFault
+    kept-long e n = kept (row 2 0) (rw (e, ne-eqb (length block) blockLength n))

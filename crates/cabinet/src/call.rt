@@ -5,15 +5,18 @@ ghost use Rattle.model.specs.Given.{given, handed, was, became};
 ghost use Rattle.model.specs.Judge.{Tree};
 ghost use Rattle.model.specs.Push.{push};
 ghost use Rattle.model.specs.Calls.Registers as Call;
-ghost use Rattle.model.specs.Calls.Registers.{wholeMoves, pebblesThen};
+ghost use Rattle.model.specs.Calls.Registers.{blockOf, wholeMoves, pebblesThen};
 ghost use Rattle.model.specs.Paper.{paperSignalled};
-ghost use Rattle.cabinet.specs.Step.{toldOf};
+ghost use Rattle.cabinet.specs.Step.{toldOf, LeftBy};
 use crate::block::load;
 use crate::block::store;
 use crate::registers::Told;
-use crate::registers::lend;
+use crate::registers::next_registers;
+use crate::registers::raised;
 use crate::test::test_step;
+use judge::test::test_yard;
 use model::Done;
+use model::Refusal;
 use model::Registers;
 use model::Signalled;
 use yard::step::step;
@@ -72,8 +75,82 @@ fn push_next(
     );
 }
 
-// A step of the cabinet: obeys the command in the block, or where it runs without one the plan's next move. Answers whether the line is raised. Refusals 1 to
-// 6, 26 and 27; 2 for a block of another length; 24, 25; a start as the checker, a running step with command 0 by 9 and 10 to 13. A refusal alters nothing. Linear work.
+// What a step leaves: its answer, and the registers.
+pub struct Left {
+    pub line: Signalled,
+    pub next: Registers,
+}
+
+// A step of the cabinet, by value: obeys the command in the registers, or where it runs without one the plan's next move. Answers whether the line is raised.
+// Refusals 1 to 6, 26 and 27; 24, 25; a start as the checker, a running step with command 0 by 9 and 10 to 13. A refusal alters nothing. Linear work.
+fn stepped(
+    parents: &[u8],
+    pebbles: &mut [u8],
+    targets: &[u8],
+    depths: &[u8],
+    plan: &[u8],
+    r: Registers,
+    failed: bool,
+) -> Left
+    ensures { λ s. ⌜ LeftBy (Call.stepped (given parents pebbles targets depths) (was plan) (blockOf r) failed) (s .line) (s .next) (became pebbles) ⌝ }
+{
+    let tested = test_step(parents, pebbles, targets, depths, plan, r);
+    if let Done::Refused(fault) = tested {
+        return Left {
+            line: Signalled::Refused(fault),
+            next: r,
+        };
+    }
+    let told = tell(plan, r, failed);
+    push_next(parents, pebbles, targets, depths, r, told);
+    let next = next_registers(r, told);
+    if raised(next) {
+        return Left {
+            line: Signalled::Raised,
+            next,
+        };
+    }
+    Left {
+        line: Signalled::Quiet,
+        next,
+    }
+}
+
+// The step, of registers that are lent: a copy is stepped, and stored back whole. Proved by a walk.
+pub fn step_registers(
+    parents: &[u8],
+    pebbles: &mut [u8],
+    targets: &[u8],
+    depths: &[u8],
+    plan: &[u8],
+    registers: &mut Registers,
+    failed: bool,
+) -> Signalled
+    ensures { λ l. ⌜ LeftBy (Call.stepped (given parents pebbles targets depths) (was plan) (blockOf (was registers)) failed) l (became registers) (became pebbles) ⌝ }
+{
+    let s = stepped(parents, pebbles, targets, depths, plan, *registers, failed);
+    *registers = s.next;
+    s.line
+}
+
+// Lends the registers of a block, in a local. Proved by a walk.
+fn lend(
+    parents: &[u8],
+    pebbles: &mut [u8],
+    targets: &[u8],
+    depths: &[u8],
+    plan: &[u8],
+    r: Registers,
+    failed: bool,
+) -> Left
+    ensures { λ s. ⌜ LeftBy (Call.stepped (given parents pebbles targets depths) (was plan) (blockOf r) failed) (s .line) (s .next) (became pebbles) ⌝ }
+{
+    let mut next = r;
+    let line = step_registers(parents, pebbles, targets, depths, plan, &mut next, failed);
+    Left { line, next }
+}
+
+// The step, of registers in a block of bytes: the same, and refusal 2 for a block of another length behind 1 to 6, 26 and 27.
 pub fn step_block(
     parents: &[u8],
     pebbles: &mut [u8],
@@ -87,17 +164,14 @@ pub fn step_block(
     ensures { λ _. ⌜ became block ≡ Call.stepped (given parents pebbles targets depths) (was plan) (was block) failed .block ⌝ }
     ensures { λ _. ⌜ became pebbles ≡ Call.stepped (given parents pebbles targets depths) (was plan) (was block) failed .pebbles ⌝ }
 {
-    let tested = test_step(parents, pebbles, targets, depths, plan, block);
-    if let Done::Refused(r) = tested {
-        return Signalled::Refused(r);
+    if block.len() != 9 {
+        let tested = test_yard(parents, pebbles, targets, depths);
+        if let Done::Refused(r) = tested {
+            return Signalled::Refused(r);
+        }
+        return Signalled::Refused(Refusal::ListLength);
     }
-    let r = load(block);
-    let told = tell(plan, r, failed);
-    push_next(parents, pebbles, targets, depths, r, told);
-    let s = lend(r, told);
+    let s = lend(parents, pebbles, targets, depths, plan, load(block), failed);
     store(block, s.next);
-    if s.raised {
-        return Signalled::Raised;
-    }
-    Signalled::Quiet
+    s.line
 }

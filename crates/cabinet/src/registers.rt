@@ -1,11 +1,11 @@
-// The registers after an accepted step. The work is done by value; `step` is lent the registers and `lend` lends them, and both are thin.
+// The registers after an accepted step, by value.
 ghost use mathlib.Core.Path.{_≡_};
 ghost use mathlib.Core.Bool.{_&&_};
 ghost use Prim.Native.Nat.{_-_};
 ghost use Rattle.model.specs.Calls.Registers as Call;
 ghost use Rattle.model.specs.Calls.Registers.{bit, setBit, finishedBit, stalledBit};
 ghost use Rattle.model.specs.Push.{push};
-ghost use Rattle.cabinet.specs.Step.{afterOf, nextOf};
+ghost use Rattle.cabinet.specs.Step.{nextOf};
 use model::Registers;
 
 // What a step is told besides: the plan's whole moves, the next of them, and whether its pebble failed to arrive.
@@ -14,12 +14,6 @@ pub struct Told {
     pub from: u8,
     pub to: u8,
     pub failed: bool,
-}
-
-// What it leaves: whether the line is raised, and the registers.
-pub struct After {
-    pub raised: bool,
-    pub next: Registers,
 }
 
 // Whether two numbers are odd.
@@ -33,7 +27,7 @@ fn both_odd(a: u8, b: u8) -> bool
 }
 
 // Whether flags and mask share bit 0 or bit 1.
-fn raised(r: Registers) -> bool
+pub fn raised(r: Registers) -> bool
     ensures { λ l. ⌜ l ≡ Call.raised r ⌝ }
 {
     if both_odd(r.flags, r.mask) {
@@ -120,7 +114,7 @@ fn advanced(r: Registers, from: u8, to: u8) -> Registers
     counted(next, one_less(r.left))
 }
 
-fn next_registers(r: Registers, told: Told) -> Registers
+pub fn next_registers(r: Registers, told: Told) -> Registers
     ensures { λ s. ⌜ s ≡ nextOf r told ⌝ }
 {
     if r.command == 1 {
@@ -142,33 +136,4 @@ fn next_registers(r: Registers, told: Told) -> Registers
         return jammed(r);
     }
     advanced(r, told.from, told.to)
-}
-
-// By value.
-pub fn stepped(r: Registers, told: Told) -> After
-    ensures { λ s. ⌜ s ≡ afterOf r told ⌝ }
-{
-    let next = next_registers(r, told);
-    After {
-        raised: raised(next),
-        next,
-    }
-}
-
-// The registers lent: a copy is stepped, and stored back whole. Proved by a walk.
-pub fn step(r: &mut Registers, told: Told) -> bool
-    ensures { λ l. ⌜ (l ≡ afterOf (now (r .entry)) told .raised) × (now (r .exit) ≡ afterOf (now (r .entry)) told .next) ⌝ }
-{
-    let s = stepped(*r, told);
-    *r = s.next;
-    s.raised
-}
-
-// The one place that lends: the registers in a local. Proved by a walk.
-pub fn lend(r: Registers, told: Told) -> After
-    ensures { λ s. ⌜ s ≡ afterOf r told ⌝ }
-{
-    let mut next = r;
-    let raised = step(&mut next, told);
-    After { raised, next }
 }

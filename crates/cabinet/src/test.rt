@@ -6,9 +6,8 @@ ghost use Prim.Native.Nat.{_≤_, _<_};
 ghost use lib.Dec.{leb, ltb, eqb};
 ghost use Rattle.model.specs.Given.{given, handed, was};
 ghost use Rattle.model.specs.Judge.{firstOf, Tree};
-ghost use Rattle.model.specs.Calls.Registers.{idle, wholeMoves, registerFault, nextTests, taskFault, stepFault};
+ghost use Rattle.model.specs.Calls.Registers.{idle, blockOf, wholeMoves, registerFault, nextTests, taskFault, stepFault};
 ghost use Rattle.model.specs.Paper.{paperDone};
-use crate::block::load;
 use checker::check::test_plan;
 use checker::obey::whole_plan;
 use judge::test::test_yard;
@@ -109,21 +108,17 @@ pub fn test_step(
     targets: &[u8],
     depths: &[u8],
     plan: &[u8],
-    block: &[u8],
+    r: Registers,
 ) -> Done
-    ensures { λ t. ⌜ paperDone t ≡ stepFault (given parents pebbles targets depths) (was plan) (was block) ⌝ }
+    ensures { λ t. ⌜ paperDone t ≡ stepFault (given parents pebbles targets depths) (was plan) (blockOf r) ⌝ }
 {
     let tested = test_yard(parents, pebbles, targets, depths);
-    if let Done::Refused(r) = tested {
-        return Done::Refused(r);
+    if let Done::Refused(fault) = tested {
+        return Done::Refused(fault);
     }
-    if block.len() != 9 {
-        return Done::Refused(Refusal::ListLength);
+    let right = test_registers(r, plan.len() / 2);
+    if let Done::Refused(fault) = right {
+        return Done::Refused(fault);
     }
-    let registers = load(block);
-    let right = test_registers(registers, plan.len() / 2);
-    if let Done::Refused(r) = right {
-        return Done::Refused(r);
-    }
-    test_task(parents, pebbles, targets, depths, plan, registers)
+    test_task(parents, pebbles, targets, depths, plan, r)
 }

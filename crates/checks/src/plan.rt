@@ -69,8 +69,9 @@ fn read_moves(input: &[u8], at: usize, first: usize, plan: &mut [u8]) -> Counted
     Counted::Number(m)
 }
 
-// The moves of the move sheet that stands at `at` and whose head is line `line` of the input, into a list: how many, or the refusal.
-pub fn read_plan(input: &[u8], at: usize, line: usize, plan: &mut [u8]) -> Counted
+// The moves of the move sheet that stands at `at` and whose head is line `line` of the input, into a list: how many, or the refusal. Left open are the bytes behind
+// the moves, and after a refusal all of them: no rule speaks of them, as the list is an array of the program's own, of which it looks at the moves alone.
+pub(crate) fn read_plan(input: &[u8], at: usize, line: usize, plan: &mut [u8]) -> Counted
     requires { ⌜ (at ≤ length (now input)) × (line ≤ 258) × (length (now plan) ≡ planRoom) ⌝ }
     ensures { λ r. ⌜ planIn r (became plan) ≡ readPlan line (drop at (was input)) ⌝ }
     ensures { λ r. ⌜ movesIn r ≤ movesRead ⌝ }

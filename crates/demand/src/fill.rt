@@ -22,8 +22,8 @@ pub fn fill(parents: &[u8], pebbles: &[u8], targets: &[u8], depths: &[u8], list:
 // added to it, each once all of its own children are added to it. A node's pending number is 1 for itself, until it is added to its parent, and 1 for
 // each node whose parent it is and that is not added yet: at 1 it is ready. Adding it may make its parent ready, and so on up, so that each node is added
 // once. A node that is its own parent, or on a circle, is never ready: so one node is left over, the root, exactly if the parents are a tree's. Answers how
-// many are.
-pub fn gather(
+// many are. Left open are the number and the entries where it is not 1: the callers ask only whether it is.
+pub(crate) fn gather(
     parents: &[u8],
     pebbles: &[u8],
     targets: &[u8],

@@ -6,7 +6,7 @@ ghost use mathlib.Core.Bool.{true};
 ghost use mathlib.Core.Logic.{_≢_};
 ghost use mathlib.Core.List.{[]};
 ghost use Prim.Native.Nat.{ℕ, _≤_, _<_};
-ghost use lib.ListN.{length};
+ghost use lib.ListN.{length, drop};
 ghost use Rattle.model.specs.Yard.{Yard, yardOf};
 ghost use Rattle.model.specs.Judge.{Parents, firstOf, shapeTests};
 ghost use Rattle.model.specs.Distance.{distance};
@@ -117,11 +117,13 @@ fn fill(parents: &[u8], list: &mut [u16], node: usize) -> bool
     true
 }
 
-// Refusals 5 and 6, and of a tree the distances of all nodes from one, at the front of a list of 256.
-pub fn measure(parents: &[u8], list: &mut [u16], node: usize) -> Done
+// Refusals 5 and 6, and of a tree the distances of all nodes from one, at the front of a list of 256, whose other entries stay. Left open are the first n entries
+// after a refusal: no rule speaks of them, as each call lends an array of its own and looks at it only if the yard is accepted.
+pub(crate) fn measure(parents: &[u8], list: &mut [u16], node: usize) -> Done
     requires { ⌜ Parents (now parents) × Unknown (now list) × (length (now list) ≡ 256) × (node < length (now parents)) ⌝ }
     ensures { λ r. ⌜ paperDone r ≡ firstOf (shapeTests (yardOf (was parents) [] [] [])) ⌝ }
     ensures { λ r. ⌜ ((y : Yard) → From y (was parents) node → Distances y node (became list)) ⌝ }
+    ensures { λ _. ⌜ drop (length (was parents)) (became list) ≡ drop (length (was parents)) (was list) ⌝ }
 {
     if fill(parents, &mut list[..parents.len()], node) {
         return Done::Accepted;

@@ -8,7 +8,7 @@ use mathlib.Core.Option.{Option, none, some}
 use Prim.Native.Nat.{ℕ, zero, suc, _+_, _-_, _*_, _≤_, _<_}
 use native.Mathlib.Omega.{arith}
 use native.Mathlib.Decide.{ℕ-discrete}
-use lib.ListN.{length, getD, set, replicate, length-set, length-replicate}
+use lib.ListN.{length, take, getD, set, replicate, length-set, length-replicate}
 use lib.Seq.{getD-set-same, getD-set-other}
 use lib.Dec.{eqb, leb, ltb}
 use borrow.Author.Tests.{ltb-true, leb-true, lt-ltb, le-leb, eq-eqb, ne-eqb}
@@ -28,8 +28,8 @@ use Rattle.laws.proofs.Calls.{movesOf-half, move-at}
 use Rattle.laws.proofs.Step.{step}
 use Rattle.laws.proofs.Moves.{moveFault-legal}
 use Rattle.laws.proofs.Wear.{Crossed, step-crossed, edgeOf, wearAt-le, wearAt-front, wearAt-more, wearAt-slides, wear-worst, wear-start, wear-stays, wear-rises, most-cong}
-use Rattle.checker.proofs.Laws.{some-not, Left, left-none, left-refused, left-next}
-use Rattle.wear.specs.Wearing.{moveIn, edgeIn, taken, added, AskedWear, AskedShift}
+use Rattle.checker.proofs.Laws.{Left, left-none, left-refused, left-next}
+use Rattle.wear.specs.Wearing.{moveIn, edgeIn, taken, added, obeyedOf, AskedWear, AskedShift}
 
 -- the first i moves of a plan are obeyed, they have left the pebbles, and each crossed an edge
 pub record Obeying (y : Yard) (plan : List ℕ) (i : ℕ) (qs : List ℕ) : Type 0 where
@@ -54,8 +54,8 @@ module _ {y : Yard} {plan : List ℕ} {i : ℕ} {qs : List ℕ} (o : Obeying y p
     pub obeying-lt : 2 * i + 1 < length plan
     obeying-lt = omega (arith, movesOf-half plan)
 
-    pub obeying-refused : (f : Fault) → moveFault (yardOf (y .parents) qs [] (y .depths)) (moveIn plan i) i ≡ some f → some f ≡ movesFault 0 y (movesOf plan)
-    obeying-refused f e = left-refused y (movesOf plan) i qs (o .left) (moveIn plan i) l here f i e refl .0
+    pub obeying-refused : (f : Fault) → moveFault (yardOf (y .parents) qs [] (y .depths)) (moveIn plan i) i ≡ some f → (some f ≡ movesFault 0 y (movesOf plan)) × (qs ≡ after y (obeyedOf (some f) plan))
+    obeying-refused f e = let r = left-refused y (movesOf plan) i qs (o .left) (moveIn plan i) l here f i e refl in (r .0, o .left .2 ∙ ap (λ (i : ℕ). after y (take i (movesOf plan))) (sym (r .1)))
 
     module _ (e : moveFault (yardOf (y .parents) qs [] (y .depths)) (moveIn plan i) i ≡ none) where
       crosses : Crossed y (getD (movesOf plan) i (push 0 0))
@@ -315,14 +315,14 @@ slide-last {y} {plan} {w = w} {i = i} s l =
 
 -- what obeying and counting answer, by a refused move or at the end
 module _ (y : Yard) (plan : List ℕ) (w : ℕ) {qs : List ℕ} where
-  pub worn-move : {f : Fault} → some f ≡ movesFault 0 y (movesOf plan)
-      → (refused f ≡ answer (movesFault 0 y (movesOf plan)) (wear y w (movesOf plan))) × (movesFault 0 y (movesOf plan) ≡ none → qs ≡ after y (movesOf plan))
-  worn-move e = (rw (← e), λ n. some-not (e ∙ n))
+  pub worn-move : {f : Fault} {now : List ℕ} → (some f ≡ movesFault 0 y (movesOf plan)) × (qs ≡ after y (obeyedOf (some f) plan)) → now ≡ qs
+      → (refused f ≡ answer (movesFault 0 y (movesOf plan)) (wear y w (movesOf plan))) × (now ≡ after y (obeyedOf (movesFault 0 y (movesOf plan)) plan))
+  worn-move e n = (rw (← (e .0)), n ∙ e .1 ∙ ap (λ (f : Option Fault). after y (obeyedOf f plan)) (e .0))
 
   pub worn-end : {counts : List ℕ} {crossings first edge i : ℕ} → Sliding y plan w qs counts crossings first edge i → length (movesOf plan) ≤ i + w
       → (answered (record { crossings = crossings; first = first; edge = edge }) ≡ answer (movesFault 0 y (movesOf plan)) (wear y w (movesOf plan)))
-      × (movesFault 0 y (movesOf plan) ≡ none → qs ≡ after y (movesOf plan))
-  worn-end s l = let r = slide-last s l in (rw (← (r .1)) (ap answered (r .0)), λ n. r .2)
+      × (qs ≡ after y (obeyedOf (movesFault 0 y (movesOf plan)) plan))
+  worn-end s l = let r = slide-last s l in (rw (← (r .1)) (ap answered (r .0)), r .2 ∙ ap (λ (f : Option Fault). after y (obeyedOf f plan)) (r .1))
 
 -- the call: what decides its answer
 pub has-some : (bs : List ℕ) (w : ℕ) → (ltb 0 w) && (leb w (length (movesOf bs))) ≡ true → (0 < w) × (w ≤ length (movesOf bs))

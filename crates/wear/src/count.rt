@@ -1,6 +1,5 @@
 // How often edges are crossed within a stretch of a plan's moves, counted while the moves are obeyed.
 ghost use mathlib.Core.Path.{_≡_};
-ghost use mathlib.Core.Option.{none};
 ghost use Prim.Native.Nat.{_+_, _*_, _≤_, _<_};
 ghost use lib.ListN.{length, getD};
 ghost use lib.Dec.{eqb};
@@ -15,7 +14,7 @@ ghost use Rattle.model.specs.Calls.Plans.{movesOf};
 ghost use Rattle.model.specs.Calls.Checks.{movesFault};
 ghost use Rattle.model.specs.Paper.{paperDone, paperWorn};
 ghost use Rattle.yard.specs.Given.{givenBare, Alike};
-ghost use Rattle.wear.specs.Wearing.{moveIn, edgeIn, taken, added, AskedWear, AskedShift};
+ghost use Rattle.wear.specs.Wearing.{moveIn, edgeIn, taken, added, obeyedOf, AskedWear, AskedShift};
 use lists::copy::copy;
 use model::Done;
 use model::Worn;
@@ -90,7 +89,7 @@ fn shift(counts: &mut [u32; 256], come: usize, gone: usize) -> u32
 }
 
 // Obeys a plan on the pebbles of a tree, and counts the crossings: those of the first stretch, then from stretch to stretch to the end of the plan. The edge of the move that
-// comes in alone can be crossed more often than before, so only that one is compared with the most so far, and the last move of the worst stretch tells its edge. A refusal is that of the first move that is refused.
+// comes in alone can be crossed more often than before, so only that one is compared with the most so far, and the last move of the worst stretch tells its edge. A refusal is that of the first move that is refused; the moves before it are obeyed, so callers lend a copy.
 fn obey_and_count(
     parents: &[u8],
     pebbles: &mut [u8],
@@ -101,7 +100,7 @@ fn obey_and_count(
 ) -> Worn
     requires { ⌜ Tree (handed parents pebbles targets depths) × AskedWear (now plan) width ⌝ }
     ensures { λ r. ⌜ paperWorn r ≡ answer (movesFault 0 (given parents pebbles targets depths) (movesOf (was plan))) (Wear.wear (given parents pebbles targets depths) width (movesOf (was plan))) ⌝ }
-    ensures { λ r. ⌜ (movesFault 0 (given parents pebbles targets depths) (movesOf (was plan)) ≡ none → became pebbles ≡ after (given parents pebbles targets depths) (movesOf (was plan))) ⌝ }
+    ensures { λ _. ⌜ became pebbles ≡ after (given parents pebbles targets depths) (obeyedOf (movesFault 0 (given parents pebbles targets depths) (movesOf (was plan))) (was plan)) ⌝ }
 {
     let mut counts = [0u32; 256];
     let mut i = 0;
@@ -155,7 +154,7 @@ pub fn count_copy(
     requires { ⌜ Tree (handed parents pebbles targets depths) × AskedWear (now plan) width ⌝ }
     requires { ⌜ length (now counts) ≡ length (now pebbles) ⌝ }
     ensures { λ r. ⌜ paperWorn r ≡ answer (movesFault 0 (given parents pebbles targets depths) (movesOf (was plan))) (Wear.wear (given parents pebbles targets depths) width (movesOf (was plan))) ⌝ }
-    ensures { λ r. ⌜ (movesFault 0 (given parents pebbles targets depths) (movesOf (was plan)) ≡ none → became counts ≡ after (given parents pebbles targets depths) (movesOf (was plan))) ⌝ }
+    ensures { λ _. ⌜ became counts ≡ after (given parents pebbles targets depths) (obeyedOf (movesFault 0 (given parents pebbles targets depths) (movesOf (was plan))) (was plan)) ⌝ }
 {
     copy(pebbles, counts);
     obey_and_count(parents, counts, targets, depths, plan, width)

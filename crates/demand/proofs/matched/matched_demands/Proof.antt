@@ -39,7 +39,7 @@ within c = let e = c .before in omega (arith, found c, wood (yard e) (tree e) .r
 entry : (c : tie.After-first-own) → let e = c .before in getD (e .before .before .before .tree-demands .last .1 .1 .1 .1 .0) (c .first-own .result) (pos 0) ≡ demand (yard e) (root (yard e))
 entry c =
     let e = c .before in
-    rw (found c) (demands-at (yard e) _ (root (yard e)) (e .before .before .before .tree-demands .ensures .1 (tree e)) (wood (yard e) (tree e) .root-lt))
+    rw (found c) (demands-at (yard e) _ (root (yard e)) (e .before .before .before .tree-demands .ensures .1 .0 (tree e)) (wood (yard e) (tree e) .root-lt))
 
 -- where the totals agree
 matched : (c : tie.Else1) → Matched (yard (c .before .before .before))
@@ -62,7 +62,7 @@ same-length c = search needs
 returns : tie.Need-returns
 returns c =
     let t = c .before .before .before .before in
-    (sym (matched-refused _ (sees (t .tree-demands .ensures .0) (c .before .tested .given .1))), t .tree-demands .ensures .1)
+    (sym (matched-refused _ (sees (t .tree-demands .ensures .0) (c .before .tested .given .1))), t .tree-demands .ensures .1 .0)
 
 enum-told : tie.Need-enum-told
 enum-told c = search needs
@@ -84,7 +84,7 @@ returns-2 c =
     let o = c .before .before in
     let e = o .before in
     let y = yard e in
-    (sym (matched-totals y (tree e) (λ m. c .if1 .taken (ap (ofZ w16) (entry o ∙ root-demand y (tree e) .0 m)))), e .before .before .before .tree-demands .ensures .1)
+    (sym (matched-totals y (tree e) (λ m. c .if1 .taken (ap (ofZ w16) (entry o ∙ root-demand y (tree e) .0 m)))), e .before .before .before .tree-demands .ensures .1 .0)
 
 same-length-3 : tie.Need-same-length-3
 same-length-3 c = search needs
@@ -92,7 +92,7 @@ same-length-3 c = search needs
 returns-3 : tie.Need-returns-3
 returns-3 c =
     let e = c .before .before .before in
-    (sym (matched-none (yard e) (tree e) (matched c)), e .before .before .before .tree-demands .ensures .1)
+    (sym (matched-none (yard e) (tree e) (matched c)), e .before .before .before .tree-demands .ensures .1 .0)
 
 pub matched-demands-spec : {M : Type 1} → statement M
 matched-demands-spec =

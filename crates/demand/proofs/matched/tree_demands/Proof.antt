@@ -2,11 +2,12 @@
 use borrow.Author.Needs.{needs}
 use native.Mathlib.Omega.{arith}
 use Prim.Native.Nat.{ℕ}
-use mathlib.Core.Path.{_≡_, sym, _∙_}
+use mathlib.Core.Path.{_≡_, refl, sym, _∙_}
 use mathlib.Core.Option.{none, some}
 use mathlib.Core.List.{List}
+use lib.ListN.{length, drop}
 use lib.IntN.{ℤ}
-use lib.Seq.{length-take-le}
+use lib.Seq.{length-take-le, drop-at}
 use Rattle.model.specs.Yard.{Yard, yardOf}
 use Rattle.model.specs.Judge.{Fault, firstOf, listTests, judge, Tree}
 use Rattle.model.specs.Calls.Demands.{demandsOf}
@@ -39,9 +40,9 @@ tree c =
     let e = g .before .before in
     sym (judge-shape (yard e) (sym (passed e))) ∙ g .gather .ensures .shape (omega (arith, c .if1 .left))
 
--- a refusal, of which nothing is told of the list
-told : (y : Yard) {f : Fault} (list : List ℤ) → judge y ≡ some f → (some f ≡ judge y) × Told y list
-told y list e = (sym e, λ t. let no : _≡_ {A = ℕ} 0 1 = cc (sym e ∙ t) in absurd (omega arith))
+-- a refusal of the lists, which leaves the list as it was
+told : (y : Yard) {f : Fault} (list : List ℤ) → judge y ≡ some f → (some f ≡ judge y) × (Told y list × (drop (length (y .parents)) list ≡ drop (length (y .parents)) list))
+told y list e = (sym e, ((λ t. let no : _≡_ {A = ℕ} 0 1 = cc (sym e ∙ t) in absurd (omega arith)), refl))
 
 test-lists-requires : tie.Need-test-lists-requires
 test-lists-requires c κs = search needs
@@ -78,7 +79,7 @@ returns-2 : tie.Need-returns-2
 returns-2 c =
     let g = c .before .before .before in
     let e = g .before .before in
-    (c .test-shape .ensures ∙ judge-shape (yard e) (sym (passed e)), λ t. absurd (c .before .if1 .taken (g .gather .ensures .tree t)))
+    (c .test-shape .ensures ∙ judge-shape (yard e) (sym (passed e)), ((λ t. absurd (c .before .if1 .taken (g .gather .ensures .tree t))), drop-at (g .gather .last .1 .1 .1 .1 .0) _ (length (start e .args .parents .now)) (g .gather .ensures .long)))
 
 same-length-2 : tie.Need-same-length-2
 same-length-2 c = search needs
@@ -89,7 +90,7 @@ returns-3 c =
     let y = yard (g .before .before) in
     let e = g .gather .ensures in
     let gathered : g .gather .last .1 .1 .1 .1 .0 ≡ demandsOf y = only-demands y (tree c) _ (e .long) .0 (e .meets (e .tree (tree c))) in
-    (sym (tree c), λ _. demands-front y _ gathered)
+    (sym (tree c), ((λ _. demands-front y _ gathered), drop-at (g .gather .last .1 .1 .1 .1 .0) _ (length (y .parents)) (e .long)))
 
 pub tree-demands-spec : {M : Type 1} → statement M
 tree-demands-spec =

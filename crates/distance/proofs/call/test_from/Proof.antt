@@ -60,7 +60,7 @@ returns-2 c =
     let e = o .before .before in
     let y = yard (start e) in (
       m .measure .ensures .0 ∙ judge-shape y (sym (passed e)),
-      λ t l. rw (o .or-first .ensures .1 l) at (m .measure .ensures .1 y (record { tree = t; same = refl; node = o .or-first .ensures .0 })),
+      λ t l. rw (o .or-first .ensures .1 l) at (m .measure .ensures .1 .0 y (record { tree = t; same = refl; node = o .or-first .ensures .0 })),
     )
 
 pub test-from-spec : {M : Type 1} → statement M

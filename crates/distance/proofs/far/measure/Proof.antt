@@ -3,10 +3,10 @@ use borrow.Author.Needs.{needs}
 use native.Mathlib.Omega.{arith}
 use mathlib.Core.Path.{_≡_, sym, _∙_}
 use mathlib.Core.Bool.{false≢true}
-use mathlib.Core.List.{List, []}
+use mathlib.Core.List.{List, [], _++_}
 use Prim.Native.Nat.{ℕ}
 use lib.ListN.{length, take, drop, List·getD-append}
-use lib.Seq.{getD-take, length-take-le}
+use lib.Seq.{getD-take, length-take-le, drop-at}
 use Rattle.laws.proofs.Judged.{shape-wood}
 use Rattle.distance.specs.Far.{Unknown}
 use Rattle.distance.proofs.Marking.{as-long}
@@ -39,13 +39,20 @@ fill-requires c κs =
 same-length : tie.Need-same-length
 same-length c = search needs
 
+-- the entries behind the front stay
+behind : (p : tie.After-fill) → let a = p .before .before .before .before .args in drop (length (a .parents .now)) (p .fill .last .1 .0 ++ drop (length (a .parents .now)) (a .list .now)) ≡ drop (length (a .parents .now)) (a .list .now)
+behind p = let s = p .before .before .before .before in drop-at (p .fill .last .1 .0) _ (length (s .args .parents .now)) (p .fill .kept .1 .0 ∙ front-long s)
+
 returns : tie.Need-returns
 returns c =
     let p = c .before .before .before in
     let s = p .before .before .before .before in
     let w = p .fill .ensures .0 (c .if1 .taken) in (
       sym (shape-wood (w .1) [] [] []),
-      λ y f v l. List·getD-append (p .fill .last .1 .0) (drop (length (s .args .parents .now)) (s .args .list .now)) 0 v (omega (arith, p .fill .kept .1 .0, front-long s, as-long f)) ∙ p .fill .ensures .1 y f .1 v l,
+      (
+        (λ y f v l. List·getD-append (p .fill .last .1 .0) (drop (length (s .args .parents .now)) (s .args .list .now)) 0 v (omega (arith, p .fill .kept .1 .0, front-long s, as-long f)) ∙ p .fill .ensures .1 y f .1 v l),
+        behind p,
+      ),
     )
 
 test-shape-requires : tie.Need-test-shape-requires
@@ -55,7 +62,10 @@ same-length-2 : tie.Need-same-length-2
 same-length-2 c = search needs
 
 returns-2 : tie.Need-returns-2
-returns-2 c = let e = c .before in (c .test-shape .ensures, λ y f. absurd (false≢true (sym (e .if1 .left) ∙ e .before .before .before .fill .ensures .1 y f .0)))
+returns-2 c =
+    let e = c .before in
+    let p = e .before .before .before in
+    (c .test-shape .ensures, ((λ y f. absurd (false≢true (sym (e .if1 .left) ∙ p .fill .ensures .1 y f .0))), behind p))
 
 pub measure-spec : {M : Type 1} → statement M
 measure-spec =

@@ -31,7 +31,7 @@ tree e = sees (e .before .before .before .tree-demands .ensures .0) (e .enum-tol
 
 -- the demands
 front : (e : tie.After-enum-told) → take (size (yard e)) (e .before .before .before .tree-demands .last .1 .1 .1 .1 .0) ≡ demandsOf (yard e)
-front e = e .before .before .before .tree-demands .ensures .1 (tree e)
+front e = e .before .before .before .tree-demands .ensures .1 .0 (tree e)
 
 -- where the node is one
 node-lt : (c : tie.Else2) → let e = c .before .before in start e .args .node < size (yard e)

@@ -1,14 +1,14 @@
 -- `wear_to_end` obeys and counts on a copy in the first entries of an array, one for each node. If no move is refused they are the counts at the end, and the
 -- search for an empty target decides.
 use mathlib.Core.Path.{_≡_, sym, ap, _∙_}
-use mathlib.Core.Option.{none}
+use mathlib.Core.Option.{Option, none}
 use Prim.Native.Nat.{_≤_}
 use lib.ListN.{length}
 use lib.Dec.{ltb}
 use borrow.Author.Needs.{needs}
 use Rattle.model.specs.Yard.{Yard, yardOf, pebble, target, below, headOr}
-use Rattle.model.specs.Judge.{atLowest}
-use Rattle.model.specs.Push.{run}
+use Rattle.model.specs.Judge.{Fault, atLowest}
+use Rattle.model.specs.Push.{after, run}
 use Rattle.model.specs.Calls.Plans.{movesOf}
 use Rattle.model.specs.Calls.Checks.{movesFault}
 use Rattle.model.specs.Paper.{paperWorn}
@@ -17,6 +17,7 @@ use Rattle.laws.proofs.Judged.{facts}
 use Rattle.laws.proofs.Runs.{obeys, run-tree}
 use Rattle.laws.proofs.Calls.{answer-answered, answer-refused}
 use Rattle.checker.proofs.Laws.{front-zeros, Back, came-back}
+use Rattle.wear.specs.Wearing.{obeyedOf}
 use Rattle.wear.proofs.call.wear_to_end.Statement.{statement}
 use Rattle.wear.proofs.call.wear_to_end.Tie as tie
 
@@ -70,7 +71,7 @@ ended c =
     let y = yard s in
     let ms = movesOf (s .args .plan .now) in
     let free = answer-answered (movesFault 0 y ms) _ _ (sym (t .count-copy .ensures .0) ∙ ap paperWorn (e .enum-told .given .1)) .0 in
-    (free, rw (back t .is, t .count-copy .ensures .1 free, facts (run y ms) (run-tree (obeys ms y (s .pre .0)) (s .pre .0)) .pebbles-size) at (c .first-below .ensures))
+    (free, rw (back t .is, t .count-copy .ensures .1 ∙ ap (λ (f : Option Fault). after y (obeyedOf f (s .args .plan .now))) free, facts (run y ms) (run-tree (obeys ms y (s .pre .0)) (s .pre .0)) .pebbles-size) at (c .first-below .ensures))
 
 returns-2 : tie.Need-returns-2
 returns-2 c =

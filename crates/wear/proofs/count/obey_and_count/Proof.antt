@@ -60,7 +60,7 @@ returns : tie.Need-returns Inv-loop μ-loop Inv-loop2 μ-loop2
 returns c =
     let t = c .before .before .before .before .before in
     let l = t .before .before in
-    worn-move _ _ _ (obeying-refused (l .before .loop .inv .1) (here l) _ (sees (t .obey-move .ensures .0) (c .before .done .given .1)))
+    worn-move _ _ _ (obeying-refused (l .before .loop .inv .1) (here l) _ (sees (t .obey-move .ensures .0) (c .before .done .given .1))) (rw (c .before .done .given .1) at (t .obey-move .ensures .1))
 
 enum-told : tie.Need-enum-told Inv-loop μ-loop Inv-loop2 μ-loop2
 enum-told c = search needs
@@ -161,7 +161,7 @@ returns-2 : tie.Need-returns-2 Inv-loop μ-loop Inv-loop2 μ-loop2
 returns-2 c =
     let t = c .before .before .before .before .before in
     let l = t .before .before in
-    worn-move _ _ _ (obeying-refused (slid (l .before) .obeying) (comes l) _ (sees (t .obey-move2 .ensures .0) (c .before .done2 .given .1)))
+    worn-move _ _ _ (obeying-refused (slid (l .before) .obeying) (comes l) _ (sees (t .obey-move2 .ensures .0) (c .before .done2 .given .1))) (rw (c .before .done2 .given .1) at (t .obey-move2 .ensures .1))
 
 enum-told-2 : tie.Need-enum-told-2 Inv-loop μ-loop Inv-loop2 μ-loop2
 enum-told-2 c = search needs
