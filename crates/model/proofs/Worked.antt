@@ -4,7 +4,7 @@ use mathlib.Core.Path.{_≡_, refl}
 use mathlib.Core.Bool.{Bool, true, false, cond}
 use mathlib.Core.List.{List, [], _∷_, map, flatten}
 use mathlib.Core.Option.{Option, none}
-use Prim.Native.Nat.{ℕ, zero, suc, _≤_, _<_}
+use Prim.Native.Nat.{ℕ, zero, suc, _*_, _≤_, _<_}
 use Prim.Native.String.{String}
 use native.Mathlib.Omega.{arith}
 use lib.Dec.{eqb}
@@ -12,14 +12,16 @@ use lib.ListN.{length, take, drop, replicate}
 use lib.IntN.{ℤ, pos, negsuc}
 use Rattle.model.specs.declared.Event.{Event}
 use Rattle.model.specs.declared.Event.the-variants.{PebbleArrives, PebbleLeaves, TargetSet, TargetCleared}
+use Rattle.model.specs.declared.Refusal.the-variants.{Width}
+use Rattle.model.specs.Paper.{paper}
 use Rattle.model.specs.Yard.{Yard, yardOf, holding, sum, below, roots, climbs, inside, subtotal, most, sumℤ, Equation2, shortest}
-use Rattle.model.specs.Judge.{Fault, row, fault, judge, matchedFault}
+use Rattle.model.specs.Judge.{Fault, rowCount, row, fault, judge, matchedFault}
 use Rattle.model.specs.Push.{Move, push, moveFault, pushFault, legal, shifted, after, accepted, count}
 use Rattle.model.specs.Plan.{needy, lowestChild, greatest, neediestChild, choice, fills, inject, extract, turn, settle, each, balance, planWithin, planBy, plan}
 use Rattle.model.specs.Follow.{placed, starts, occurs, At, Follows, route, crossings, came, LastFirst, firstAt, lastIn, lifo, displaced}
 use Rattle.model.specs.Calls.Answers.{Answer, answered, refused, mapAnswer, range, inC, zeroInC, noted}
 use Rattle.model.specs.Calls.Demands.{demandsFault, demandsList, Length, boundAnswer, displacedAnswer, longestAnswer}
-use Rattle.model.specs.Calls.Events.{demandsAfter, eventFault, eventPebbles, eventTargets, eventDemands, console, Happening, happens, leaves, runLeaves}
+use Rattle.model.specs.Calls.Events.{altered, demandsAfter, eventFault, eventPebbles, eventTargets, eventDemands, console, Happening, happens, leaves, runLeaves}
 use Rattle.model.specs.Distance.{anyOf, reaches, distance}
 use Rattle.model.specs.Calls.Distances.{Nearest, nearest, nearestFault, nearestAnswer, inReach, reachFault, reachList, reachAnswer}
 use Rattle.model.specs.Calls.Plans.{bytes, movesOf, planFault, planAnswer, planList}
@@ -32,7 +34,7 @@ use Rattle.model.specs.Openings.{opening, openings}
 use Rattle.model.specs.Calls.Openings.{openingsFault, openingsAnswer, openingsList}
 use Rattle.model.specs.Calls.Registers.{blockOf, registersOf, bit, setBit, raised, registerFault, taskFault, stepFault, registersThen, pebblesThen, stepped, lineInC}
 use Rattle.model.specs.Cabinet.{steps}
-use Rattle.model.specs.Sheets.{text, digits, decimal, stopBefore, line, lines, header, yardSheet, maxSheetBytes, judgedBytes, cut, same, value, field, readLine, readNodes, readYard, reader, readAnswer, filled, writeFault, writeAnswer, writeList, moveLines, edges, report, moveSheet, refusalSheet, program}
+use Rattle.model.specs.Sheets.{text, digits, decimal, stopBefore, line, lines, header, yardSheet, maxSheetBytes, judgedBytes, programPlanBytes, cut, same, value, field, readLine, readNodes, readYard, reader, readAnswer, filled, writeFault, writeAnswer, writeList, moveLines, edges, report, moveSheet, refusalSheet, program}
 use Rattle.model.proofs.Yards.{marks, yard, yardA, demandsA, yardB, planB}
 
 data Input : Type 0 where
@@ -83,6 +85,8 @@ data Input : Type 0 where
   -- the bytes 4 to 6 of the block of the cabinet, with so many moves left; and how many are left by these bytes
   blockOfLeft : ℕ → Input
   leftOfBlock : ℕ → ℕ → ℕ → Input
+  -- a number with a bit set
+  setBitOf : ℕ → ℕ → Input
   -- the same calls as the C program sees them: the planner, the checker, the trial, the bound with what the number for its bytes held, and a step
   planInC : ℕ → Yard → Input
   checkInC : List ℕ → Yard → Input
@@ -154,6 +158,7 @@ outcome (stepOf failed bs block y) = let s = stepped y bs block failed in signal
 outcome (stepsOf k bs block y) = let s = steps k y bs block false in signalled (s .line) (s .block) (s .pebbles)
 outcome (blockOfLeft n) = left (take 3 (drop 4 (blockOf (record { command = 1; status = 1; from = 1; to = 1; left = n; mask = 1; flags = 1 }))))
 outcome (leftOfBlock a b c) = number (registersOf (1 ∷ 1 ∷ 1 ∷ 1 ∷ a ∷ b ∷ c ∷ 1 ∷ 1 ∷ []) .left)
+outcome (setBitOf k n) = number (setBit k n)
 outcome (planInC n y) = number (inC (planAnswer y (replicate n 9)))
 outcome (checkInC bs y) = number (zeroInC (checkFault y bs))
 outcome (trialOfInC bs budget y) = number (inC (mapAnswer trialInC (trialAnswer y bs budget)))
@@ -210,6 +215,10 @@ zeros = pos 0 ∷ pos 0 ∷ pos 0 ∷ pos 0 ∷ pos 0 ∷ []
 -- a step that is refused: the block and the pebbles stay
 refusesStep : Bool → Yard → List ℕ → List ℕ → ℕ → ℕ → Case
 refusesStep failed y bs block n p = stepOf failed bs block y gives signalled (refused (row n p)) block (y .pebbles)
+
+-- with this mask and these flags an idle step answers 1 or 0 in C
+rings : ℕ → ℕ → ℕ → Case
+rings mask flags n = stepInC false [] (0 ∷ 0 ∷ 0 ∷ 0 ∷ 0 ∷ 0 ∷ 0 ∷ mask ∷ flags ∷ []) (yard (0 ∷ []) [] []) gives number n
 
 -- steps in yard B, with the pebbles where they then are
 stepB : Bool → List ℕ → List ℕ → List ℕ → Input
@@ -314,6 +323,10 @@ cases =
     ∷ (printOf "berth parent car target depth" gives printed (text "refusal place\n15 1\n"))
     ∷ (printOf "berth parent car target depth\n" gives printed (text "refusal place\n1 2\n"))
     ∷ (printOf "berth parent car target depth\n0 00 1 1 1\n" gives printed (text "refusal place\n16 2\n"))
+    -- an empty value is none: behind two spaces, in front, at the end
+    ∷ (printOf "berth parent car target depth\n0 0  0 1\n" gives printed (text "refusal place\n16 2\n"))
+    ∷ (printOf "berth parent car target depth\n 0 0 0 1\n" gives printed (text "refusal place\n16 2\n"))
+    ∷ (printOf "berth parent car target depth\n0 0 0 0 \n" gives printed (text "refusal place\n16 2\n"))
     ∷ (printOf "berth parent car target depth\n0 0 0 256 1\n" gives printed (text "refusal place\n16 2\n"))
     ∷ (printOf "berth parent car target depth\n0 0 0 0 1\n1 0 0 0 1" gives printed (text "refusal place\n16 3\n"))
     ∷ (printOf "berth parent car target depth\n1 0 1 1 1\n" gives printed (text "refusal place\n17 2\n"))
@@ -481,6 +494,22 @@ cases =
     ∷ (stepInC false planB (0 ∷ 1 ∷ 1 ∷ 2 ∷ 1 ∷ 0 ∷ 0 ∷ 1 ∷ 0 ∷ []) (holding yardB (1 ∷ 0 ∷ 1 ∷ [])) gives number 1)
     ∷ (stepInC false planB (0 ∷ 1 ∷ 1 ∷ 2 ∷ 1 ∷ 0 ∷ 0 ∷ 2 ∷ 0 ∷ []) (holding yardB (1 ∷ 0 ∷ 1 ∷ [])) gives number 0)
     ∷ (stepInC false planB (0 ∷ 1 ∷ 1 ∷ 2 ∷ 1 ∷ 0 ∷ 0 ∷ 2 ∷ 4 ∷ []) (holding yardB (1 ∷ 0 ∷ 1 ∷ [])) gives number 24_000_008)
+    -- the line by mask and flags: a set bit that both have, whatever else the mask has
+    ∷ rings 1 1 1
+    ∷ rings 3 1 1
+    ∷ rings 255 1 1
+    ∷ rings 254 1 0
+    ∷ rings 2 2 1
+    ∷ rings 3 2 1
+    ∷ rings 6 2 1
+    ∷ rings 253 2 0
+    ∷ rings 252 3 0
+    ∷ rings 255 0 0
+    -- a flag is set beside the other one
+    ∷ (stepOf false [] (1 ∷ 0 ∷ 7 ∷ 7 ∷ 0 ∷ 0 ∷ 0 ∷ 0 ∷ 2 ∷ []) (yard (0 ∷ []) [] []) gives signalled (answered false) (0 ∷ 0 ∷ 7 ∷ 7 ∷ 0 ∷ 0 ∷ 0 ∷ 0 ∷ 3 ∷ []) (0 ∷ []))
+    ∷ (stepB true (1 ∷ 0 ∷ 1 ∷ []) planB (0 ∷ 1 ∷ 1 ∷ 2 ∷ 1 ∷ 0 ∷ 0 ∷ 0 ∷ 1 ∷ []) gives signalled (answered false) (0 ∷ 2 ∷ 1 ∷ 2 ∷ 1 ∷ 0 ∷ 0 ∷ 0 ∷ 3 ∷ []) (1 ∷ 0 ∷ 1 ∷ []))
+    ∷ (setBitOf 0 12 gives number 13)
+    ∷ (setBitOf 1 12 gives number 14)
     -- refusals 1 to 6 come first, then 2
     ∷ refusesStep false (yardOf ([]) ([]) ([]) []) [] [] 1 0
     ∷ refusesStep false (yardOf (0 ∷ 2 ∷ 1 ∷ []) (0 ∷ 0 ∷ 0 ∷ []) (0 ∷ 0 ∷ 0 ∷ []) (1 ∷ 1 ∷ 1 ∷ [])) [] (9 ∷ []) 6 1
@@ -613,7 +642,7 @@ cases =
     ∷ []
 
 worked : map (λ (c : Case). outcome (c .input)) cases ≡ map (λ (c : Case). c .expected) cases
-unfolding twoDeep deep deepEnds pair pairYard refusesRead reader writeFault yardSheet wearFault wearOver wearAt most star thereAndBack wears twoParts between flatten climbed topmost tops masked partsPlan partsFault stepB refusesStep refusesB rounds blockOf registersOf bit setBit raised registerFault taskFault stepFault registersThen pebblesThen stepped steps near highRoot zeros nines anyOf reaches distance nearest nearestFault inReach reachFault demandsA siding placed occurs firstAt lastIn displaced demandsAfter eventFault leaves runLeaves keeps cases _gives_ outcome yard marks yardA yardB planB sum below roots climbs inside subtotal shortest judge moveFault pushFault legal shifted after accepted count needy lowestChild greatest neediestChild choice fills inject extract turn settle each balance planWithin planBy plan range demandsFault bytes movesOf planFault movesFault checkFault trialFault matchedFault text digits decimal stopBefore line lines header cut same value field readLine readNodes readYard moveLines edges report moveSheet refusalSheet program opening openings openingsFault
+unfolding rings twoDeep deep deepEnds pair pairYard refusesRead reader writeFault yardSheet wearFault wearOver wearAt most star thereAndBack wears twoParts between flatten climbed topmost tops masked partsPlan partsFault stepB refusesStep refusesB rounds blockOf registersOf bit setBit raised registerFault taskFault stepFault registersThen pebblesThen stepped steps near highRoot zeros nines anyOf reaches distance nearest nearestFault inReach reachFault demandsA siding placed occurs firstAt lastIn displaced demandsAfter eventFault leaves runLeaves keeps cases _gives_ outcome yard marks yardA yardB planB sum below roots climbs inside subtotal shortest judge moveFault pushFault legal shifted after accepted count needy lowestChild greatest neediestChild choice fills inject extract turn settle each balance planWithin planBy plan range demandsFault bytes movesOf planFault movesFault checkFault trialFault matchedFault text digits decimal stopBefore line lines header cut same value field readLine readNodes readYard moveLines edges report moveSheet refusalSheet program opening openings openingsFault
 worked = refl
 
 -- two pebbles start at node 1, and one at node 2: whichever is taken, pebble 1 may go the second time, and each has its own route
@@ -661,6 +690,18 @@ longest-length = refl
 
 longest-judged : maxSheetBytes < judgedBytes
 longest-judged = omega arith
+
+-- the program's plan list holds 32,768 moves, and the last row of the table is that of a width
+program-list : programPlanBytes ≡ 2 * 32_768
+program-list = refl
+
+last-row : paper Width ≡ row rowCount 0
+last-row = refl
+
+-- an event alters one count of a yard, and nothing else of it
+altered-siding : (altered siding PebbleArrives 2 ≡ yardOf (0 ∷ 0 ∷ 0 ∷ []) (0 ∷ 2 ∷ 2 ∷ []) (1 ∷ 1 ∷ 1 ∷ []) (1 ∷ 2 ∷ 2 ∷ [])) × (altered siding TargetSet 1 ≡ yardOf (0 ∷ 0 ∷ 0 ∷ []) (0 ∷ 2 ∷ 1 ∷ []) (1 ∷ 2 ∷ 1 ∷ []) (1 ∷ 2 ∷ 2 ∷ []))
+unfolding altered siding
+altered-siding = (refl, refl)
 
 -- request 2.3: the demands of yards A and B meet equation 2, entry by entry; in B a node's child is counted once
 equation2 : Equation2 yardA demandsA 0 × Equation2 yardA demandsA 1 × Equation2 yardA demandsA 2 × Equation2 yardA demandsA 3 × Equation2 yardA demandsA 4
