@@ -40,8 +40,7 @@ pub fn tree_demands(
     Done::Accepted
 }
 
-// The same, and refusal 7: the root's demand tells whether the totals differ. A yard that 7 meets has demands, and they are written. Left open is what the list
-// holds besides: behind the front always, and after refusals 1 to 6 at its front too.
+// The same, and refusal 7: the root's demand tells whether the totals differ. A yard that 7 meets has demands, and they are written.
 pub fn matched_demands(
     parents: &[u8],
     pebbles: &[u8],
@@ -52,6 +51,7 @@ pub fn matched_demands(
     requires { ⌜ 256 ≤ length (now list) ⌝ }
     ensures { λ r. ⌜ paperDone r ≡ matchedFault (given parents pebbles targets depths) ⌝ }
     ensures { λ _. ⌜ Told (given parents pebbles targets depths) (became list) ⌝ }
+    ensures { λ _. ⌜ drop (length (was parents)) (became list) ≡ drop (length (was parents)) (was list) ⌝ }
 {
     let tested = tree_demands(parents, pebbles, targets, depths, list);
     if let Done::Refused(r) = tested {

@@ -62,7 +62,7 @@ same-length c = search needs
 returns : tie.Need-returns
 returns c =
     let t = c .before .before .before .before in
-    (sym (matched-refused _ (sees (t .tree-demands .ensures .0) (c .before .tested .given .1))), t .tree-demands .ensures .1 .0)
+    (sym (matched-refused _ (sees (t .tree-demands .ensures .0) (c .before .tested .given .1))), t .tree-demands .ensures .1)
 
 enum-told : tie.Need-enum-told
 enum-told c = search needs
@@ -84,7 +84,7 @@ returns-2 c =
     let o = c .before .before in
     let e = o .before in
     let y = yard e in
-    (sym (matched-totals y (tree e) (λ m. c .if1 .taken (ap (ofZ w16) (entry o ∙ root-demand y (tree e) .0 m)))), e .before .before .before .tree-demands .ensures .1 .0)
+    (sym (matched-totals y (tree e) (λ m. c .if1 .taken (ap (ofZ w16) (entry o ∙ root-demand y (tree e) .0 m)))), e .before .before .before .tree-demands .ensures .1)
 
 same-length-3 : tie.Need-same-length-3
 same-length-3 c = search needs
@@ -92,7 +92,7 @@ same-length-3 c = search needs
 returns-3 : tie.Need-returns-3
 returns-3 c =
     let e = c .before .before .before in
-    (sym (matched-none (yard e) (tree e) (matched c)), e .before .before .before .tree-demands .ensures .1 .0)
+    (sym (matched-none (yard e) (tree e) (matched c)), e .before .before .before .tree-demands .ensures .1)
 
 pub matched-demands-spec : {M : Type 1} → statement M
 matched-demands-spec =

@@ -29,7 +29,7 @@ tree c = matched-tree (yard c) (accepted c) .0
 
 -- the demands
 front : (c : tie.After-enum-told) → take (size (yard c)) (c .before .before .before .matched-demands .last .1 .1 .1 .1 .0) ≡ demandsOf (yard c)
-front c = c .before .before .before .matched-demands .ensures .1 (tree c)
+front c = c .before .before .before .matched-demands .ensures .1 .0 (tree c)
 
 slice-aggregate-matched-demands : tie.Need-slice-aggregate-matched-demands
 slice-aggregate-matched-demands c = search needs

@@ -52,7 +52,7 @@ returns-2 : tie.Need-returns-2
 returns-2 c =
     let p = c .before in
     let e = p .before .before in
-    (sym (accepted e), λ _. placed-kept _ (tree e) _ _ (e .before .before .before .matched-demands .ensures .1 (tree e)) (p .place .ensures))
+    (sym (accepted e), λ _. placed-kept _ (tree e) _ _ (e .before .before .before .matched-demands .ensures .1 .0 (tree e)) (p .place .ensures))
 
 pub start-spec : {M : Type 1} → statement M
 start-spec =
