@@ -1,23 +1,25 @@
 -- What the tests of the account call say, case by case; and of a list of all demands of a tree that its entries are small and
 -- their sizes add up to the shortest length.
-use mathlib.Core.Path.{_≡_, sym, ap, _∙_}
+use mathlib.Core.Path.{_≡_, refl, sym, ap, _∙_}
 use mathlib.Core.List.{List, _++_}
 use mathlib.Core.Option.{Option, none, some}
 use Prim.Native.Nat.{ℕ, _≤_, _<_}
 use native.Mathlib.Omega.{arith}
-use lib.ListN.{length, getD, take, replicate, length-replicate}
+use lib.ListN.{length, getD, take, drop, replicate, length-replicate}
 use lib.Seq.{take-at, getD-take}
 use lib.IntN.{ℤ, pos, natAbs}
 use borrow.Author.Tests.{eq-eqb, ne-eqb}
 use Rattle.model.specs.Yard.{Yard, size, maxSize, maxDemand, sum, demand, imbalance, shortest}
-use Rattle.model.specs.Judge.{Fault, fault, judge, Tree}
+use Rattle.model.specs.Judge.{Fault, fault, firstOf, listTests, shapeTests, judge, Tree}
 use Rattle.model.specs.Calls.Answers.{lent}
 use Rattle.model.specs.Calls.Demands.{demandsFault, demandsOf}
 use Rattle.laws.proofs.Sums.{sum-cong}
 use Rattle.laws.proofs.Ranges.{length-range}
 use Rattle.laws.proofs.Equation2.{demands-entry}
-use Rattle.laws.proofs.Judged.{facts}
+use Rattle.laws.proofs.Tests.{judge-shape}
+use Rattle.laws.proofs.Judged.{facts, tree-lists}
 use Rattle.laws.proofs.Signed.{demand-size, demand-range}
+use Rattle.demand.specs.Filling.{demandsThen}
 use Rattle.demand.proofs.Lists.{all-listed}
 
 pub array-room : (n : ℕ) → n ≤ maxSize → n ≤ length (replicate 256 (pos 0))
@@ -63,6 +65,27 @@ module _ (y : Yard) where
   -- and whatever lies behind it there, it is the first n entries
   pub demands-front : {list : List ℤ} (rest : List ℤ) → list ≡ demandsOf y → take (size y) (list ++ rest) ≡ demandsOf y
   demands-front {list} rest e = take-at list rest (size y) (demands-long e) ∙ e
+
+  tree-shape : Tree y → firstOf (shapeTests y) ≡ none
+  tree-shape t = judge-shape y (sym (tree-lists y t)) ∙ t
+
+  -- what is left of a lent list whose lists are refused, whose parents' shape is, and of a tree
+  pub then-lists : {f : Fault} (list : List ℤ) → firstOf (listTests y) ≡ some f → list ≡ demandsThen y list
+  then-lists list e = rw e
+
+  pub then-shape : {front : List ℤ} (list : List ℤ) → firstOf (listTests y) ≡ none → ¬ Tree y → front ≡ replicate (size y) (pos 0)
+      → front ++ drop (size y) list ≡ demandsThen y list
+  then-shape {front} list e d z = by (firstOf (shapeTests y)) refl where
+    by : (f : Option Fault) → firstOf (shapeTests y) ≡ f → front ++ drop (size y) list ≡ demandsThen y list
+    by none h = absurd (d (sym (judge-shape y (sym e)) ∙ h))
+    by (some f) h = rw (e, h, z, length-replicate {A = ℤ} (size y) (pos 0))
+
+  pub then-tree : {front : List ℤ} (list : List ℤ) → Tree y → front ≡ demandsOf y → front ++ drop (size y) list ≡ demandsThen y list
+  then-tree list t d = rw (tree-lists y t, tree-shape t, d, length-range (demand y) 0 (size y))
+
+  -- of a tree the demands stand at the front
+  pub then-front : {now : List ℤ} (list : List ℤ) → now ≡ demandsThen y list → Tree y → take (size y) now ≡ demandsOf y
+  then-front list e t = rw (e, tree-lists y t, tree-shape t) (demands-front (drop (length (demandsOf y)) list) refl)
 
   -- what such a list has at a node
   pub demands-at : (list : List ℤ) (v : ℕ) → take (size y) list ≡ demandsOf y → v < size y → getD list v (pos 0) ≡ demand y v

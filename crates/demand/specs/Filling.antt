@@ -1,13 +1,14 @@
 -- What filling a list of demands begins with, and what it comes to.
 use mathlib.Core.Path.{_≡_}
-use mathlib.Core.List.{List}
-use mathlib.Core.Option.{none}
+use mathlib.Core.List.{List, []}
+use mathlib.Core.Option.{Option, none, some}
 use Prim.Native.Nat.{ℕ, _+_, _<_}
-use lib.ListN.{length, getD, take}
+use lib.ListN.{length, getD, replicate}
 use lib.Dec.{eqb}
 use lib.IntN.{ℤ, pos, subℕ}
 use Rattle.model.specs.Yard.{Yard, size, up, one, sum, Equation2}
-use Rattle.model.specs.Judge.{firstOf, shapeTests, Tree}
+use Rattle.model.specs.Judge.{Fault, firstOf, listTests, shapeTests, Tree}
+use Rattle.model.specs.Calls.Answers.{overwrite}
 use Rattle.model.specs.Calls.Demands.{demandsOf}
 
 -- the first n entries are target minus pebble of their nodes
@@ -25,6 +26,13 @@ pub record Gathered (y : Yard) (left : ℕ) (list : List ℤ) : Type 0 where
   pub tree : Tree y → left ≡ 1
   pub meets : left ≡ 1 → (v : ℕ) → v < size y → Equation2 y list v
 
--- the front of a list holds the demands, of a yard that refusals 1 to 6 do not meet
-abbrev pub Told : Yard → List ℤ → Type 0
-Told y list = Tree y → take (size y) list ≡ demandsOf y
+-- What is written at the front of a lent list, by the first refusal of the lists (1, 2, 26, 27, 4) and of the parents' shape (5, 6): nothing if the lists are
+-- refused, zeros if the shape is, and else the demands.
+abbrev pub frontOf : Option Fault → Option Fault → Yard → List ℤ
+frontOf (some _) _ y = []
+frontOf none (some _) y = replicate (size y) (pos 0)
+frontOf none none y = demandsOf y
+
+-- what the list then holds
+abbrev pub demandsThen : Yard → List ℤ → List ℤ
+demandsThen y list = overwrite (frontOf (firstOf (listTests y)) (firstOf (shapeTests y)) y) list

@@ -15,7 +15,7 @@ use Rattle.laws.proofs.Calls.{sees, matched-refused, matched-totals, matched-no
 use Rattle.laws.proofs.Signed.{demand-range}
 use Rattle.lists.proofs.Root.{root-found}
 use Rattle.demand.proofs.Numbers.{small-fits}
-use Rattle.demand.proofs.Answers.{demands-at}
+use Rattle.demand.proofs.Answers.{demands-at, then-front}
 use Rattle.demand.proofs.Refused.{root-demand}
 use Rattle.demand.proofs.matched.matched_demands.Statement.{statement}
 use Rattle.demand.proofs.matched.matched_demands.Tie as tie
@@ -39,7 +39,7 @@ within c = let e = c .before in omega (arith, found c, wood (yard e) (tree e) .r
 entry : (c : tie.After-first-own) → let e = c .before in getD (e .before .before .before .tree-demands .last .1 .1 .1 .1 .0) (c .first-own .result) (pos 0) ≡ demand (yard e) (root (yard e))
 entry c =
     let e = c .before in
-    rw (found c) (demands-at (yard e) _ (root (yard e)) (e .before .before .before .tree-demands .ensures .1 .0 (tree e)) (wood (yard e) (tree e) .root-lt))
+    rw (found c) (demands-at (yard e) _ (root (yard e)) (then-front (yard e) _ (e .before .before .before .tree-demands .ensures .1) (tree e)) (wood (yard e) (tree e) .root-lt))
 
 -- where the totals agree
 matched : (c : tie.Else1) → Matched (yard (c .before .before .before))

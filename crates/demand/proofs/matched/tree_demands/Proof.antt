@@ -2,21 +2,20 @@
 use borrow.Author.Needs.{needs}
 use native.Mathlib.Omega.{arith}
 use Prim.Native.Nat.{ℕ}
-use mathlib.Core.Path.{_≡_, refl, sym, _∙_}
-use mathlib.Core.Option.{none, some}
-use mathlib.Core.List.{List}
-use lib.ListN.{length, drop}
-use lib.IntN.{ℤ}
+use mathlib.Core.Path.{_≡_, sym, ap, _∙_}
+use mathlib.Core.Option.{none}
+use mathlib.Core.List.{List, _++_}
+use lib.ListN.{length, drop, replicate, length-append}
+use lib.IntN.{ℤ, pos}
 use lib.Seq.{length-take-le, drop-at}
 use Rattle.model.specs.Yard.{Yard, yardOf}
-use Rattle.model.specs.Judge.{Fault, firstOf, listTests, judge, Tree}
+use Rattle.model.specs.Judge.{firstOf, listTests, Tree}
 use Rattle.model.specs.Calls.Demands.{demandsOf}
 use Rattle.laws.proofs.Tests.{judge-lists, judge-shape}
 use Rattle.laws.proofs.Judged.{Flat, flat}
 use Rattle.laws.proofs.Calls.{sees}
 use Rattle.laws.proofs.Equation2.{only-demands}
-use Rattle.demand.proofs.Answers.{demands-front}
-use Rattle.demand.specs.Filling.{Told}
+use Rattle.demand.proofs.Answers.{then-lists, then-shape, then-tree}
 use Rattle.demand.proofs.matched.tree_demands.Statement.{statement}
 use Rattle.demand.proofs.matched.tree_demands.Tie as tie
 
@@ -40,10 +39,6 @@ tree c =
     let e = g .before .before in
     sym (judge-shape (yard e) (sym (passed e))) ∙ g .gather .ensures .shape (omega (arith, c .if1 .left))
 
--- a refusal of the lists, which leaves the list as it was
-told : (y : Yard) {f : Fault} (list : List ℤ) → judge y ≡ some f → (some f ≡ judge y) × (Told y list × (drop (length (y .parents)) list ≡ drop (length (y .parents)) list))
-told y list e = (sym e, ((λ t. let no : _≡_ {A = ℕ} 0 1 = cc (sym e ∙ t) in absurd (omega arith)), refl))
-
 test-lists-requires : tie.Need-test-lists-requires
 test-lists-requires c κs = search needs
 
@@ -55,7 +50,8 @@ returns c =
     let t = c .before .before .before in
     let a = t .before .before .before .before .before .args in
     let y = yardOf (a .parents .now) (a .pebbles .now) (a .targets .now) (a .depths .now) in
-    told y _ (sym (judge-lists y _ (sym (sees (t .test-lists .ensures) (c .before .lists .given .1)))))
+    let f = sees (t .test-lists .ensures) (c .before .lists .given .1) in
+    (judge-lists y _ (sym f), then-lists y _ f)
 
 enum-told : tie.Need-enum-told
 enum-told c = search needs
@@ -69,17 +65,34 @@ slice-aggregate-gather c = sym (length-take-le _ _ (slice-relend-prefix-gather (
 gather-requires : tie.Need-gather-requires
 gather-requires c κs = (passed (c .before), length-take-le _ _ (slice-relend-prefix-gather (c .before)))
 
+slice-relend-prefix-clear : tie.Need-slice-relend-prefix-clear
+slice-relend-prefix-clear c =
+    let g = c .before .before in
+    omega (arith, length-append {A = ℤ} (g .gather .last .1 .1 .1 .1 .0) (drop (length (start (g .before .before) .args .parents .now)) (start (g .before .before) .args .list .now)), g .gather .ensures .long)
+
+slice-aggregate-clear : tie.Need-slice-aggregate-clear
+slice-aggregate-clear c = sym (length-take-le _ _ (slice-relend-prefix-clear (c .before)))
+
+clear-requires : tie.Need-clear-requires
+clear-requires c κs = search needs
+
 test-shape-requires : tie.Need-test-shape-requires
-test-shape-requires c κs = let f = lists (c .before .before .before .before) in record { few = f .few .1; node = f .parent-lt }
+test-shape-requires c κs = let f = lists (c .before .before .before .before .before .before .before) in record { few = f .few .1; node = f .parent-lt }
 
 same-length : tie.Need-same-length
 same-length c = search needs
 
 returns-2 : tie.Need-returns-2
 returns-2 c =
-    let g = c .before .before .before in
+    let k = c .before .before in
+    let g = k .before .before .before .before in
     let e = g .before .before in
-    (c .test-shape .ensures ∙ judge-shape (yard e) (sym (passed e)), ((λ t. absurd (c .before .if1 .taken (g .gather .ensures .tree t))), drop-at (g .gather .last .1 .1 .1 .1 .0) _ (length (start e .args .parents .now)) (g .gather .ensures .long)))
+    let y = yard e in (
+      c .test-shape .ensures ∙ judge-shape y (sym (passed e)),
+      ap (λ (rest : List ℤ). k .clear .last .0 ++ rest) (drop-at (g .gather .last .1 .1 .1 .1 .0) _ (length (y .parents)) (g .gather .ensures .long))
+      ∙ then-shape y _ (passed e) (λ t. k .before .before .if1 .taken (g .gather .ensures .tree t))
+        (k .clear .ensures ∙ ap (λ (n : ℕ). replicate n (pos 0)) (length-take-le _ _ (slice-relend-prefix-clear (k .before .before)))),
+    )
 
 same-length-2 : tie.Need-same-length-2
 same-length-2 c = search needs
@@ -90,7 +103,7 @@ returns-3 c =
     let y = yard (g .before .before) in
     let e = g .gather .ensures in
     let gathered : g .gather .last .1 .1 .1 .1 .0 ≡ demandsOf y = only-demands y (tree c) _ (e .long) .0 (e .meets (e .tree (tree c))) in
-    (sym (tree c), ((λ _. demands-front y _ gathered), drop-at (g .gather .last .1 .1 .1 .1 .0) _ (length (y .parents)) (e .long)))
+    (sym (tree c), then-tree y _ (tree c) gathered)
 
 pub tree-demands-spec : {M : Type 1} → statement M
 tree-demands-spec =
@@ -103,6 +116,9 @@ tree-demands-spec =
     slice-relend-prefix-gather
     slice-aggregate-gather
     gather-requires
+    slice-relend-prefix-clear
+    slice-aggregate-clear
+    clear-requires
     test-shape-requires
     same-length
     returns-2

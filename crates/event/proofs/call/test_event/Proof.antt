@@ -15,6 +15,7 @@ use Rattle.model.specs.Calls.Events.{possible, readyTests}
 use Rattle.laws.proofs.Judged.{facts}
 use Rattle.laws.proofs.Calls.{sees}
 use Rattle.laws.proofs.EventRuns.{ready-judge, ready-length, ready-node, ready-already, ready-none, event-refused}
+use Rattle.demand.proofs.Answers.{then-front}
 use Rattle.event.proofs.Steps.{possible-can}
 use Rattle.event.proofs.Happened.{stale-refused, stale-passed}
 use Rattle.event.proofs.call.test_event.Statement.{statement}
@@ -31,7 +32,7 @@ tree e = sees (e .before .before .before .tree-demands .ensures .0) (e .enum-tol
 
 -- the demands
 front : (e : tie.After-enum-told) → take (size (yard e)) (e .before .before .before .tree-demands .last .1 .1 .1 .1 .0) ≡ demandsOf (yard e)
-front e = e .before .before .before .tree-demands .ensures .1 .0 (tree e)
+front e = then-front (yard e) _ (e .before .before .before .tree-demands .ensures .1) (tree e)
 
 -- where the node is one
 node-lt : (c : tie.Else2) → let e = c .before .before in start e .args .node < size (yard e)

@@ -14,7 +14,7 @@ use Rattle.laws.proofs.Judged.{facts}
 use Rattle.laws.proofs.Calls.{sees, matched-tree}
 use Rattle.laws.proofs.Signed.{shortest-small}
 use Rattle.laws.proofs.Longest.{bound-answer}
-use Rattle.demand.proofs.Answers.{demands-small, demands-sum}
+use Rattle.demand.proofs.Answers.{then-front, demands-small, demands-sum}
 use Rattle.figures.proofs.bound.length_bound.Statement.{statement}
 use Rattle.figures.proofs.bound.length_bound.Tie as tie
 
@@ -31,7 +31,7 @@ tree c = matched-tree (yard c) (accepted c) .0
 
 -- the demands
 front : (c : tie.After-enum-told) → take (size (yard c)) (c .before .before .before .matched-demands .last .1 .1 .1 .1 .0) ≡ demandsOf (yard c)
-front c = c .before .before .before .matched-demands .ensures .1 .0 (tree c)
+front c = then-front (yard c) _ (c .before .before .before .matched-demands .ensures .1) (tree c)
 
 measured : (c : tie.After-sizes) → c .sizes .result ≡ shortest (yard (c .before .before))
 measured c = c .sizes .ensures ∙ demands-sum (yard (c .before .before)) (front (c .before .before))

@@ -11,7 +11,7 @@ use Rattle.model.specs.Calls.Answers.{answered}
 use Rattle.model.specs.Calls.Demands.{demandsOf}
 use Rattle.laws.proofs.Judged.{facts}
 use Rattle.laws.proofs.Calls.{sees, matched-tree}
-use Rattle.demand.proofs.Answers.{demands-small}
+use Rattle.demand.proofs.Answers.{then-front, demands-small}
 use Rattle.figures.proofs.Leaving.{moving-displaced}
 use Rattle.figures.proofs.displaced.displaced.Statement.{statement}
 use Rattle.figures.proofs.displaced.displaced.Tie as tie
@@ -29,7 +29,7 @@ tree c = matched-tree (yard c) (accepted c) .0
 
 -- the demands
 front : (c : tie.After-enum-told) → take (size (yard c)) (c .before .before .before .matched-demands .last .1 .1 .1 .1 .0) ≡ demandsOf (yard c)
-front c = c .before .before .before .matched-demands .ensures .1 .0 (tree c)
+front c = then-front (yard c) _ (c .before .before .before .matched-demands .ensures .1) (tree c)
 
 slice-aggregate-matched-demands : tie.Need-slice-aggregate-matched-demands
 slice-aggregate-matched-demands c = search needs

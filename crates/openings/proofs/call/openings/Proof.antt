@@ -7,7 +7,7 @@ use Rattle.model.specs.Yard.{Yard, yardOf, Matched}
 use Rattle.model.specs.Judge.{Tree}
 use Rattle.laws.proofs.Calls.{sees, matched-tree}
 use Rattle.laws.proofs.Openings.{openings-matched}
-use Rattle.demand.proofs.Answers.{demands-at}
+use Rattle.demand.proofs.Answers.{then-front, demands-at}
 use Rattle.openings.proofs.Calling.{listed-fits, answer-is, list-is}
 use Rattle.openings.proofs.call.openings.Statement.{statement}
 use Rattle.openings.proofs.call.openings.Tie as tie
@@ -51,7 +51,7 @@ list-apart-requires c κs =
     let e = c .before .before in
     let d = e .before .before .before .matched-demands in
     let m = matched e in
-    ((m .0, m .1, (d .kept .1 .1 .1 .1 .0, λ v l. demands-at (yard (begin e)) _ v (d .ensures .1 (m .0)) l)), refl)
+    ((m .0, m .1, (d .kept .1 .1 .1 .1 .0, λ v l. demands-at (yard (begin e)) _ v (then-front (yard (begin e)) _ (d .ensures .1) (m .0)) l)), refl)
 
 slice-aggregate-hand-over : tie.Need-slice-aggregate-hand-over
 slice-aggregate-hand-over c = search needs

@@ -53,7 +53,7 @@ matched e = matched-tree (yard (begin e)) (accepted e) .1
 
 -- the state
 kept : (e : tie.After-enum-told) → Kept (yard (begin e)) (e .before .before .before .start .last .1 .1 .1 .1 .0)
-kept e = e .before .before .before .start .ensures .1 (accepted e)
+kept e = e .before .before .before .start .ensures .1 .0 (accepted e)
 
 returns-2 : tie.Need-returns-2
 returns-2 c =

@@ -52,7 +52,7 @@ matched e = matched-tree (yard (begin e)) (accepted e) .1
 
 -- the state
 kept : (e : tie.After-enum-told) → Kept (yard (begin e)) (e .before .before .before .start .last .1 .1 .1 .1 .0)
-kept e = e .before .before .before .start .ensures .1 (accepted e)
+kept e = e .before .before .before .start .ensures .1 .0 (accepted e)
 
 array-share-prefix-s : tie.Need-array-share-prefix-s
 array-share-prefix-s c = front-long _ (tree c) _ (kept c)

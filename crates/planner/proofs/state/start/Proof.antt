@@ -7,6 +7,7 @@ use Rattle.model.specs.Yard.{Yard, yardOf}
 use Rattle.model.specs.Judge.{Tree, matchedFault}
 use Rattle.laws.proofs.Judged.{facts}
 use Rattle.laws.proofs.Calls.{sees, matched-tree}
+use Rattle.demand.proofs.Answers.{then-front}
 use Rattle.planner.proofs.Planning.{placed-kept}
 use borrow.Author.Needs.{needs}
 use Rattle.planner.proofs.state.start.Statement.{statement}
@@ -23,8 +24,9 @@ same-length c = search needs
 
 returns : tie.Need-returns
 returns c =
-    let f = sees (c .before .before .before .before .matched-demands .ensures .0) (c .before .tested .given .1) in
-    (sym f, λ e. absurd (Option·none-ne-some _ (sym e ∙ f)))
+    let m = c .before .before .before .before .matched-demands .ensures in
+    let f = sees (m .0) (c .before .tested .given .1) in
+    (sym f, ((λ e. absurd (Option·none-ne-some _ (sym e ∙ f))), λ _. m .1))
 
 enum-told : tie.Need-enum-told
 enum-told c = search needs
@@ -52,7 +54,8 @@ returns-2 : tie.Need-returns-2
 returns-2 c =
     let p = c .before in
     let e = p .before .before in
-    (sym (accepted e), λ _. placed-kept _ (tree e) _ _ (e .before .before .before .matched-demands .ensures .1 .0 (tree e)) (p .place .ensures))
+    let m = e .before .before .before .matched-demands .ensures in
+    (sym (accepted e), ((λ _. placed-kept _ (tree e) _ _ (then-front (yard e) _ (m .1) (tree e)) (p .place .ensures)), λ d. absurd (d (accepted e))))
 
 pub start-spec : {M : Type 1} → statement M
 start-spec =
