@@ -7,6 +7,7 @@ ghost use Rattle.model.specs.Push.{push};
 ghost use Rattle.model.specs.Calls.Registers as Call;
 ghost use Rattle.model.specs.Calls.Registers.{blockOf, wholeMoves, pebblesThen};
 ghost use Rattle.model.specs.Paper.{paperSignalled};
+ghost use Rattle.laws.specs.Cabinet.{steppedTo, EachStep};
 ghost use Rattle.cabinet.specs.Step.{toldOf, LeftBy};
 use crate::block::load;
 use crate::block::store;
@@ -150,7 +151,9 @@ fn lend(
     Left { line, next }
 }
 
-// The step, of registers in a block of bytes: the same, and refusal 2 for a block of another length behind 1 to 6, 26 and 27.
+// The step of the registers in a block of bytes. The refusals are those of `step_registers`, with
+// refusal 2 for a block of another length after those of the yard. `EachStep` says when a step is
+// accepted, and that an accepted running step made a legal push.
 pub fn step_block(
     parents: &[u8],
     pebbles: &mut [u8],
@@ -163,6 +166,7 @@ pub fn step_block(
     ensures { λ r. ⌜ paperSignalled r ≡ Call.stepped (given parents pebbles targets depths) (was plan) (was block) failed .line ⌝ }
     ensures { λ _. ⌜ became block ≡ Call.stepped (given parents pebbles targets depths) (was plan) (was block) failed .block ⌝ }
     ensures { λ _. ⌜ became pebbles ≡ Call.stepped (given parents pebbles targets depths) (was plan) (was block) failed .pebbles ⌝ }
+    ensures { λ r. ⌜ EachStep (given parents pebbles targets depths) (was plan) (was block) failed (steppedTo (paperSignalled r) (became block) (became pebbles)) ⌝ }
 {
     if block.len() != 9 {
         let tested = test_yard(parents, pebbles, targets, depths);

@@ -1,2 +1,4 @@
 -- Definitions that the contracts of this crate's helpers cite.
 pub mod Reading
+pub mod Crossings
+pub mod Verdicts

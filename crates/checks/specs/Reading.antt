@@ -1,9 +1,8 @@
 -- What the program's helpers answer, in the model's words.
 use mathlib.Core.List.{List}
-use Prim.Native.Nat.{ℕ, _*_, _<_}
+use Prim.Native.Nat.{ℕ, _*_}
 use lib.ListN.{take}
-use Rattle.model.specs.Calls.Answers.{Answer, answered, refused, rowUnit, Row}
-use Rattle.model.specs.Calls.Checks.{Verdict}
+use Rattle.model.specs.Calls.Answers.{Answer, answered, refused}
 use Rattle.model.specs.CheckSheets.{movesRead}
 use Rattle.model.specs.Paper.{paper}
 use Rattle.model.specs.declared.Counted.{Counted}
@@ -20,8 +19,3 @@ planIn (Counted.Refused r) plan = refused (paper r)
 abbrev pub movesIn : Counted → ℕ
 movesIn (Counted.Number m) = m
 movesIn (Counted.Refused r) = 0
-
--- a verdict of two values below 1,000,000, or a refusal of the table
-abbrev pub Told : Answer Verdict → Type 0
-Told (answered v) = (v .moves < rowUnit) × (v .excess < rowUnit)
-Told (refused f) = Row f

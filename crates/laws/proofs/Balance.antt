@@ -12,7 +12,7 @@ use borrow.Author.Tests.{ltb-true, ltb-false}
 use Rattle.model.specs.Yard.{Yard, size, pebble, held, holding, root, inside, lacking, surplus, imbalance, shortest, isChild, children, Matched}
 use Rattle.model.specs.Judge.{Tree}
 use Rattle.model.specs.Push.{Move, after, run}
-use Rattle.model.specs.Plan.{needy, some, Rule, choice, Side, fills, turn, settle, each, balance, planWithin, enough, planBy, plan}
+use Rattle.model.specs.Plan.{needy, nonempty, Rule, choice, Side, fills, turn, settle, each, balance, planWithin, enough, planBy, plan}
 use Rattle.laws.proofs.Basics.{All, all-map, all-below, below-all}
 use Rattle.laws.proofs.Sums.{sum-term}
 use Rattle.laws.specs.Choice.{Child, Needy}
@@ -112,7 +112,7 @@ fills-steers o ps t u l e c k n = go (held y u) refl (needy (lacking y) y u) ref
     uneven : 0 < overChildren (y .parents) (lacking y) u + overChildren (y .parents) (surplus y) u
     uneven = omega (arith, child-le (y .parents) (lacking y) u c k, child-le (y .parents) (surplus y) u c k)
 
-    go : (h : Bool) → held y u ≡ h → (vs : List ℕ) → needy (lacking y) y u ≡ vs → Open y u (h && (some vs))
+    go : (h : Bool) → held y u ≡ h → (vs : List ℕ) → needy (lacking y) y u ≡ vs → Open y u (h && (nonempty vs))
     go false h vs q =
         let p : pebble y u ≤ 0 = ltb-false 0 (pebble y u) h in
         (omega (arith, facts y t .capacity-pos u l), omega (arith, uneven, parts-children y t u l))

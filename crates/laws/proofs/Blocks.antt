@@ -14,15 +14,15 @@ use borrow.Author.Tests.{ltb-true, leb-true, eqb-true, lt-ltb, le-leb, eq-eqb, n
 use Rattle.model.specs.Yard.{Yard, one}
 use Rattle.model.specs.Judge.{Fault, firstOf, Tree}
 use Rattle.model.specs.Push.{moveFault}
-use Rattle.model.specs.Calls.Answers.{answered, refused, mapAnswer, Small}
+use Rattle.model.specs.Calls.Answers.{Answer, answered, refused, mapAnswer, Small}
 use Rattle.model.specs.Calls.Checks.{bytesFault, checkFault}
 use Rattle.model.specs.declared.Registers.{Registers}
-use Rattle.model.specs.Calls.Registers.{noCommand, start, acknowledge, idle, running, stalled, blockLength, blockOf, registersOf, maxFlags, raised, wholeMoves, nextNumber, nextMove, obeying, registerTests, registerFault, startTests, nextTests, taskFault, stepTests, stepFault, registersThen, pebblesThen, stepped}
+use Rattle.model.specs.Calls.Registers.{lineInC, lineTold, noCommand, start, acknowledge, idle, running, stalled, blockLength, blockOf, registersOf, maxFlags, raised, wholeMoves, nextNumber, nextMove, obeying, registerTests, registerFault, startTests, nextTests, taskFault, stepTests, stepFault, registersThen, pebblesThen, stepped}
 use Rattle.laws.specs.Cabinet.{InRange}
 use Rattle.laws.proofs.Basics.{one-le, none-all, all-none, unless-none}
 use Rattle.laws.proofs.Calls.{answer-answered, answer-refused}
 use Rattle.laws.proofs.Sheets.{Bytes}
-use Rattle.laws.proofs.Places.{first, all, once, judge-low, move-low, few-moves, bytes-low, check-low, Low, small, map-answer}
+use Rattle.laws.proofs.Places.{tells, first, all, once, judge-low, move-low, few-moves, bytes-low, check-low, Low, small, map-answer}
 
 -- blockOf, registersOf
 pub registersOf-blockOf : (r : Registers) → registersOf (blockOf r) ≡ r
@@ -203,3 +203,9 @@ step-low y bs block = first (drop 1 (stepTests y bs block)) (judge-low y) (λ t.
 pub step-small : (y : Yard) (bs block : List ℕ) (failed : Bool) → Small (mapAnswer one (stepped y bs block failed .line))
 unfolding stepped
 step-small y bs block failed = rw map-answer (small _ (step-low y bs block) (λ _. omega (arith, one-le (raised (thenOf bs failed (registersOf block))))))
+
+-- and so does the number of a line
+pub line-tells : (a : Answer Bool) → Small (mapAnswer one a) → lineTold (lineInC a) ≡ a
+line-tells (answered true) h = refl
+line-tells (answered false) h = refl
+line-tells (refused f) h = rw (tells (refused f) h)

@@ -14,11 +14,12 @@ use borrow.Author.Tests.{eqb-true, ne-eqb}
 use Rattle.model.specs.Yard.{Yard, holding, pebbleCount}
 use Rattle.model.specs.Judge.{Fault, Tree}
 use Rattle.model.specs.Push.{push, pushed, after}
-use Rattle.model.specs.Calls.Answers.{answered}
+use Rattle.model.specs.Calls.Answers.{Answer, answered}
 use Rattle.model.specs.Calls.Checks.{bytesFault, checkTests, checkFault}
 use Rattle.model.specs.declared.Registers.{Registers}
 use Rattle.model.specs.Calls.Registers.{noCommand, start, stop, acknowledge, idle, running, stalled, blockLength, blockOf, registersOf, setBit, finishedBit, maxFlags, raised, wholeMoves, nextNumber, nextMove, obeying, stepFault, taskFault, counted, started, stopped, acknowledged, jammed, showing, advanced, registersThen, pebblesThen, stepped}
-use Rattle.laws.specs.Cabinet.{Leaves, InRange, WholePlan, Acceptable, EachStep}
+use Rattle.laws.specs.Limits.{WholePlan}
+use Rattle.laws.specs.Cabinet.{Leaves, InRange, Acceptable, steppedTo, EachStep}
 use Rattle.laws.proofs.Basics.{none-all, unless-none}
 use Rattle.laws.proofs.Runs.{pebbleCount-run}
 use Rattle.laws.proofs.Calls.{movesOf-half, move-at}
@@ -157,7 +158,7 @@ module _ (y : Yard) (bs block : List ℕ) (e : stepFault y bs block ≡ none) (c
   next-bytes = move-at bs (nextNumber bs (registersOf block)) (omega (arith, next-lt, movesOf-half bs))
 
 -- when a step is accepted
-bytesFault-whole : (bs : List ℕ) → (bytesFault bs ≡ none) ↔ WholePlan bs
+pub bytesFault-whole : (bs : List ℕ) → (bytesFault bs ≡ none) ↔ WholePlan bs
 bytesFault-whole bs = (
   (λ e. let even = eqb-true (length bs % 2) 0 (and-eq-true-iff _ _ .0 (unless-none _ 9 0 e) .0) in (omega (arith, even, movesOf-half bs), few-moves bs e)),
   λ h. bytesFault-even bs (wholeMoves bs) (h .0) (h .1),
@@ -215,7 +216,7 @@ module _ (y : Yard) (bs block : List ℕ) (failed : Bool) (e : stepFault y bs bl
         (λ _. (refl, kept l, refl, refl, refl)) (λ _. (refl, kept l, refl, refl, refl)) (λ _. (refl, kept l, refl, refl, refl)) (λ z _. absurd (omega arith)) (λ z _. absurd (omega arith));
     starts = λ c.
         let h = taskFault-start y bs r c .0 (stepFault-none y bs block .0 e .3) in
-        rw (then-start bs failed r c) (h .0, h .1, refl, (λ l. rw (ne-eqb (wholeMoves bs) 0 (λ z. omega arith)) (refl, refl)), λ z. rw z (refl, refl));
+        rw (then-start bs failed r c) (h .0, accepts-none y bs .1 (h .1), refl, (λ l. rw (ne-eqb (wholeMoves bs) 0 (λ z. omega arith)) (refl, refl)), λ z. rw z (refl, refl));
     stops = λ c. rw (then-stop bs failed r c) (refl, refl, refl);
     acknowledges = λ c. rw (then-acknowledge bs failed r c) (refl, refl, (λ s. rw s), λ s. rw (ne-eqb (r .status) stalled s));
     obeys = λ c s f. rw (then-obey bs failed r c s, pebbles-obey bs failed r y c s, f, acceptable y bs block .0 e .obeys c s .1) (refl, refl, refl, refl, refl, refl, (λ l. rw (ne-eqb (r .left - 1) 0 (λ z. omega arith)) (refl, refl)), λ z. rw z (refl, refl));
@@ -237,7 +238,7 @@ module _ (y : Yard) (bs block : List ℕ) (failed : Bool) (e : stepFault y bs bl
       go true = pebbleCount-run y (stepFault-none y bs block .0 e .0) (nextMove bs r ∷ [])
       go false = refl
 
-pub each-step : (y : Yard) (bs block : List ℕ) (failed : Bool) → EachStep y bs block failed
+pub each-step : (y : Yard) (bs block : List ℕ) (failed : Bool) → EachStep y bs block failed (stepped y bs block failed)
 each-step y bs block failed = record {
   accepts = ((λ a. acceptable y bs block .0 (line-answered y bs block failed (a .0) (a .1))), λ h. (_, stepped-line y bs block failed (acceptable y bs block .1 h)));
   accepted = λ l a. leaves y bs block failed (line-answered y bs block failed l a) l a;
@@ -248,6 +249,17 @@ each-step y bs block failed = record {
     go : (f : Option Fault) → stepFault y bs block ≡ f → pebbleCount (holding y (stepped y bs block failed .pebbles)) ≡ pebbleCount y
     go none e = kept-count y bs block failed e
     go (some f) e = rw (stepped-refused y bs block failed f e)
+
+-- the same of what a call gave that equals it
+pub each-step-of : {line : Answer Bool} {after pebbles : List ℕ} (y : Yard) (bs block : List ℕ) (failed : Bool) → line ≡ stepped y bs block failed .line
+    → after ≡ stepped y bs block failed .block → pebbles ≡ stepped y bs block failed .pebbles → EachStep y bs block failed (steppedTo line after pebbles)
+each-step-of y bs block failed l b p = rw (l, b, p) (each-step y bs block failed)
+
+pub also-each : {line : Answer Bool} {after pebbles : List ℕ} (y : Yard) (bs block : List ℕ) (failed : Bool)
+    → (line ≡ stepped y bs block failed .line) × ((after ≡ stepped y bs block failed .block) × (pebbles ≡ stepped y bs block failed .pebbles))
+    → (line ≡ stepped y bs block failed .line) × ((after ≡ stepped y bs block failed .block)
+    × ((pebbles ≡ stepped y bs block failed .pebbles) × EachStep y bs block failed (steppedTo line after pebbles)))
+also-each y bs block failed e = (e .0, (e .1 .0, (e .1 .1, each-step-of y bs block failed (e .0) (e .1 .0) (e .1 .1))))
 
 -- bytes stay bytes
 module _ (y : Yard) (bs block : List ℕ) (failed : Bool) (e : stepFault y bs block ≡ none) (b : Bytes block) (p : Bytes bs) where

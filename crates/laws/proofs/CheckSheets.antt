@@ -1,6 +1,6 @@
 -- The check program. A yard sheet with a move sheet behind it is read as that yard and those moves, with the crossing report behind them or without; what is
 -- read so is there; and what is cut off behind the bytes that the program judges lies behind the first line that is refused, or behind a move too many.
-use mathlib.Core.Path.{_≡_, refl, sym, ap, _∙_}
+use mathlib.Core.Path.{_≡_, refl, sym, ap, _∙_, subst}
 use mathlib.Core.Logic.{inl, inr}
 use mathlib.Core.Bool.{Bool, true, false, _&&_, and-eq-true-iff}
 use mathlib.Core.List.{List, [], _∷_, _++_, map, append-assoc, append-nil}
@@ -19,8 +19,8 @@ use Rattle.model.specs.Plan.{plan}
 use Rattle.model.specs.Calls.Plans.{bytes, movesOf, planFault}
 use Rattle.model.specs.Calls.Checks.{Verdict, maxPlanBytes, bytesFault, obeyTests, checkFault, checkAnswer}
 use Rattle.model.specs.Sheets.{text, line, lines, yardSheet, same, field, cut, begins, moveHead, reportHead, moveLines, report, moveSheet, sheetOf, printedOf, refusalSheet, programPlanBytes, program, Line, readLine, readYard}
-use Rattle.model.specs.CheckSheets.{digitFirst, yardPart, moveValues, readMoves, movesRead, readPlan, andThen, checkSheets, verdictSheet, checkedBytes, checks}
-use Rattle.laws.specs.CheckSheets.{Ends, NoMove, Judged, ByteMoves, SheetsChecked, Printed}
+use Rattle.model.specs.CheckSheets.{digitFirst, yardPart, moveValues, readMoves, movesRead, readPlan, andThen, BothSheets, withPlan, readSheets, verdictSheet, printedOfSheets, checkedBytes, checks}
+use Rattle.laws.specs.CheckSheets.{Ends, NoMove, Judged, ByteMoves, checkedSheet, SheetsChecked, Printed, YardRefused}
 use Rattle.laws.proofs.Basics.{All, not-so}
 use Rattle.laws.proofs.Lines.{same-true, Values, length-line, readLine-begins, readLine-some, cutLine, readLine-take}
 use Rattle.laws.proofs.Judged.{facts}
@@ -125,12 +125,12 @@ readPlan-take l m bs h =
     go false = refl
 
 -- So it makes no difference that the program judges only so many bytes: a yard sheet that is read has at most 5,040.
-abbrev checkedAs : List ℕ → List ℕ → Answer Yard → Answer Verdict
-checkedAs bs part r = andThen r (λ y. andThen (readPlan (size y + 2) (drop (length part) bs)) (checkAnswer y))
+abbrev readAs : List ℕ → List ℕ → Answer Yard → Answer BothSheets
+readAs bs part r = andThen r (λ y. mapAnswer (withPlan y) (readPlan (size y + 2) (drop (length part) bs)))
 
-checkSheets-cut : (bs : List ℕ) → checkSheets (take checkedBytes bs) ≡ checkSheets bs
-unfolding checkSheets
-checkSheets-cut bs = go (readYard part) refl
+readSheets-cut : (bs : List ℕ) → readSheets (take checkedBytes bs) ≡ readSheets bs
+unfolding readSheets
+readSheets-cut bs = go (readYard part) refl
   where
     part : List ℕ
     part = yardPart bs
@@ -141,20 +141,20 @@ checkSheets-cut bs = go (readYard part) refl
     cut-yard : readYard (yardPart (take checkedBytes bs)) ≡ readYard part
     cut-yard = ap readYard cut-part ∙ read-cut checkedBytes part (omega arith)
 
-    go : (r : Answer Yard) → readYard part ≡ r → checkSheets (take checkedBytes bs) ≡ checkSheets bs
-    go (refused f) e = ap (checkedAs (take checkedBytes bs) (yardPart (take checkedBytes bs))) (cut-yard ∙ e) ∙ sym (ap (checkedAs bs part) e)
+    go : (r : Answer Yard) → readYard part ≡ r → readSheets (take checkedBytes bs) ≡ readSheets bs
+    go (refused f) e = ap (readAs (take checkedBytes bs) (yardPart (take checkedBytes bs))) (cut-yard ∙ e) ∙ sym (ap (readAs bs part) e)
     go (answered y) e =
         let n = read-length part y e in
         let p : yardPart (take checkedBytes bs) ≡ part = cut-part ∙ take-all checkedBytes part (omega arith) in
         let q : drop (length (yardPart (take checkedBytes bs))) (take checkedBytes bs) ≡ take (checkedBytes - length part) (drop (length part) bs) =
         ap (λ (l : List ℕ). drop (length l) (take checkedBytes bs)) p ∙ drop-take (length part) checkedBytes bs (omega arith) in
-        ap (checkedAs (take checkedBytes bs) (yardPart (take checkedBytes bs))) (cut-yard ∙ e)
-        ∙ ap (λ (a : Answer (List ℕ)). andThen a (checkAnswer y)) (ap (readPlan (size y + 2)) q ∙ readPlan-take (size y + 2) (checkedBytes - length part) (drop (length part) bs) (omega arith))
-        ∙ sym (ap (checkedAs bs part) e)
+        ap (readAs (take checkedBytes bs) (yardPart (take checkedBytes bs))) (cut-yard ∙ e)
+        ∙ ap (mapAnswer (withPlan y)) (ap (readPlan (size y + 2)) q ∙ readPlan-take (size y + 2) (checkedBytes - length part) (drop (length part) bs) (omega arith))
+        ∙ sym (ap (readAs bs part) e)
 
-pub checks-cut : (input : List ℕ) → checks input ≡ verdictSheet (checkSheets input)
+pub checks-cut : (input : List ℕ) → checks input ≡ printedOfSheets (readSheets input)
 unfolding checks
-checks-cut input = ap verdictSheet (checkSheets-cut input)
+checks-cut input = ap printedOfSheets (readSheets-cut input)
 
 -- a refused move sheet is refused at a line, if its head is line l up to 131,073 lines behind it
 moves-places : (n k l : ℕ) (bs : List ℕ) → l + k ≤ suc n → AtLine n (readMoves k l bs)
@@ -249,27 +249,35 @@ readPlan-headless : (l : ℕ) (bs : List ℕ) → begins moveHead bs ≡ false �
 unfolding readPlan
 readPlan-headless l bs e = ap (λ (t : Bool). headed l t (drop (length moveHead) bs)) e
 
--- a plan that is too long is refused by its first 131,073 moves as it is whole
-first-of-three : {A : Type 0} (a b : Option Fault) (f : Fault) (xs ys : List (Option Fault)) (u v : A)
-    → answer (firstOf (a ∷ b ∷ some f ∷ xs)) u ≡ answer (firstOf (a ∷ b ∷ some f ∷ ys)) v
-first-of-three (some _) b f xs ys u v = refl
-first-of-three none (some _) f xs ys u v = refl
-first-of-three none none f xs ys u v = refl
+-- a plan that is too long is refused as it is by its first 131,073 moves, and so the same is printed
+abbrev tooLong : Option Fault → Option Fault → Fault
+tooLong (some f) b = f
+tooLong none (some f) = f
+tooLong none none = row 9 0
 
-too-long : (y : Yard) (bs : List ℕ) → maxPlanBytes < length bs → checkAnswer y bs ≡ answer (firstOf (judge y ∷ totalsFault y ∷ fault 9 0 ∷ [])) (record { moves = 0; excess = 0 })
+first-of-three : {A : Type 0} (a b : Option Fault) (xs : List (Option Fault)) (u : A) → answer (firstOf (a ∷ b ∷ fault 9 0 ∷ xs)) u ≡ refused (tooLong a b)
+first-of-three (some _) b xs u = refl
+first-of-three none (some _) xs u = refl
+first-of-three none none xs u = refl
+
+too-long : (y : Yard) (bs : List ℕ) → maxPlanBytes < length bs → checkAnswer y bs ≡ refused (tooLong (judge y) (totalsFault y))
 unfolding checkFault
 too-long y bs h =
     let n : bytesFault bs ≡ fault 9 0 = rw (not-so ((eqb (length bs % 2) 0) && (leb (length bs) maxPlanBytes)) (λ e. omega (arith, leb-true (length bs) maxPlanBytes (and-eq-true-iff (eqb (length bs % 2) 0) _ .0 e .1)))) in
-    rw n (first-of-three (judge y) (totalsFault y) (row 9 0) (obeyTests y (movesOf bs)) [] _ _)
+    rw n (first-of-three (judge y) (totalsFault y) (obeyTests y (movesOf bs)) _)
 
-check-long : (y : Yard) (ms : List Move) → checkAnswer y (bytes (take movesRead ms)) ≡ checkAnswer y (bytes ms)
+check-long : (y : Yard) (ms : List Move) → let bs = bytes (take movesRead ms) in verdictSheet y (movesOf bs) (checkAnswer y bs) ≡ checkedSheet y ms
+unfolding verdictSheet
 check-long y ms =
     either (leb (length ms) movesRead)
-    (λ e. ap (λ (l : List Move). checkAnswer y (bytes l)) (take-all movesRead ms (leb-true (length ms) movesRead e)))
+    (λ e.
+    let t = take-all movesRead ms (leb-true (length ms) movesRead e) in
+    ap (λ (l : List Move). verdictSheet y (movesOf (bytes l)) (checkAnswer y (bytes l))) t ∙ ap (λ (l : List Move). verdictSheet y l (checkAnswer y (bytes ms))) (movesOf-bytes ms))
     (λ e.
     let h = leb-false (length ms) movesRead e in
     let n = length-take-le movesRead ms (omega arith) in
-    too-long y (bytes (take movesRead ms)) (omega (arith, length-bytes (take movesRead ms))) ∙ sym (too-long y (bytes ms) (omega (arith, length-bytes ms))))
+    let bs = bytes (take movesRead ms) in
+    ap (verdictSheet y (movesOf bs)) (too-long y bs (omega (arith, length-bytes (take movesRead ms)))) ∙ sym (ap (verdictSheet y ms) (too-long y (bytes ms) (omega (arith, length-bytes ms)))))
 
 -- moves of bytes, as those of a plan are
 byte-moves : (ms : List Move) → ByteMoves ms → MoveBytes ms
@@ -287,21 +295,21 @@ unfolding digitFirst moveLines text
 moves-first ms rest = refl
 
 module _ (sheet : List ℕ) (y : Yard) (said : readYard sheet ≡ answered y) where
-  -- what is read behind it
-  checks-read : (back : List ℕ) → digitFirst back ≡ false → {a : Answer (List ℕ)} → readPlan (size y + 2) back ≡ a → checks (sheet ++ back) ≡ verdictSheet (andThen a (checkAnswer y))
-  unfolding checkSheets
+  -- what is read after it
+  checks-read : (back : List ℕ) → digitFirst back ≡ false → {a : Answer (List ℕ)} → readPlan (size y + 2) back ≡ a → checks (sheet ++ back) ≡ printedOfSheets (mapAnswer (withPlan y) a)
+  unfolding readSheets
   checks-read back e q =
       let part : yardPart (sheet ++ back) ≡ sheet = rw (← (write-read sheet y said)) (yardPart-sheet y back (omega (arith, read-sizes sheet y said)) (read-bytes sheet y said) e) in
       checks-cut (sheet ++ back)
-      ∙ ap verdictSheet (
-      ap (λ (p : List ℕ). checkedAs (sheet ++ back) p (readYard p)) part
-      ∙ ap (checkedAs (sheet ++ back) sheet) said
-      ∙ ap (λ (l : List ℕ). andThen (readPlan (size y + 2) l) (checkAnswer y)) (drop-append-seam sheet back)
-      ∙ ap (λ (a : Answer (List ℕ)). andThen a (checkAnswer y)) q
+      ∙ ap printedOfSheets (
+      ap (λ (p : List ℕ). readAs (sheet ++ back) p (readYard p)) part
+      ∙ ap (readAs (sheet ++ back) sheet) said
+      ∙ ap (λ (l : List ℕ). mapAnswer (withPlan y) (readPlan (size y + 2) l)) (drop-append-seam sheet back)
+      ∙ ap (mapAnswer (withPlan y)) q
       )
 
-  checks-said : (ms : List Move) → MoveBytes ms → (rest : List ℕ) → Ends rest → checks (sheet ++ (moveLines ms ++ rest)) ≡ verdictSheet (checkAnswer y (bytes ms))
-  checks-said ms c rest e = checks-read (moveLines ms ++ rest) (moves-first ms rest) (readPlan-lines (size y + 2) ms rest c e) ∙ ap verdictSheet (check-long y ms)
+  checks-said : (ms : List Move) → MoveBytes ms → (rest : List ℕ) → Ends rest → checks (sheet ++ (moveLines ms ++ rest)) ≡ checkedSheet y ms
+  checks-said ms c rest e = checks-read (moveLines ms ++ rest) (moves-first ms rest) (readPlan-lines (size y + 2) ms rest c e) ∙ check-long y ms
 
   pub sheets-checked : SheetsChecked sheet y
   unfolding report moveSheet text same verdictSheet
@@ -314,7 +322,7 @@ module _ (sheet : List ℕ) (y : Yard) (said : readYard sheet ≡ answered y) wh
         let p : program sheet ≡ moveLines ms ++ report y ms = program-cut sheet ∙ ap printedOf said ∙ ap (sheetOf y) e in
         let o = accepted-obeys y (n .0) (plan y) (plan-optimal y (n .0) (n .1) .obeyed) in
         let b = rw (a .1) at (obeys-bytes o (facts y (n .0) .few .1)) in
-        ap (λ (l : List ℕ). checks (sheet ++ l)) p ∙ checks-said ms b (report y ms) (inr refl) ∙ ap verdictSheet (rw (a .1) at (check-plan y (n .0) (n .1)));
+        ap (λ (l : List ℕ). checks (sheet ++ l)) p ∙ checks-said ms b (report y ms) (inr refl) ∙ ap (verdictSheet y ms) (rw (a .1) at (check-plan y (n .0) (n .1)));
     damaged = λ ms b h rest e n.
         checks-read (moveLines ms ++ rest) (moves-first ms rest) (readPlan-damaged (size y + 2) ms rest (byte-moves ms b) h e (no-move rest n))
         ∙ ap (λ (l : ℕ). refusalSheet (row 16 l)) (omega arith);
@@ -363,10 +371,17 @@ readPlan-said l bs plan e = go (begins moveHead bs) refl e
     go true q e = (sym (take-append-drop (length moveHead) bs) ∙ ap (λ (h : List ℕ). h ++ drop (length moveHead) bs) (same-true _ _ q), e)
     go false q e = absurd (refused-ne-answered e)
 
--- So a verdict is printed only of moves that stand behind the sheet of their yard.
-checks-judged : (bs : List ℕ) (v : Verdict) → checkSheets bs ≡ answered v → Judged bs v
-unfolding checkSheets moveLines
-checks-judged bs v e = go (readYard (yardPart bs)) refl e
+-- So a verdict is printed only of moves that stand after the sheet of their yard.
+record Sheets (bs : List ℕ) (s : BothSheets) : Type 0 where
+  moves : List Move
+  rest : List ℕ
+  is : bs ≡ yardSheet (s .yard) ++ (moveLines moves ++ rest)
+  bytes-are : s .plan ≡ bytes moves
+  ends : length moves < movesRead → Ends rest
+
+sheets-said : (bs : List ℕ) (s : BothSheets) → readSheets bs ≡ answered s → Sheets bs s
+unfolding readSheets moveLines
+sheets-said bs s e = go (readYard (yardPart bs)) refl e
   where
     back : List ℕ
     back = drop (length (yardPart bs)) bs
@@ -374,33 +389,47 @@ checks-judged bs v e = go (readYard (yardPart bs)) refl e
     whole : (y : Yard) → readYard (yardPart bs) ≡ answered y → bs ≡ yardSheet y ++ back
     whole y q = sym (take-append-drop (length (yardPart bs)) bs) ∙ ap (λ (l : List ℕ). l ++ back) (yardPart-front bs .0 ∙ sym (write-read (yardPart bs) y q))
 
-    planned : (y : Yard) → readYard (yardPart bs) ≡ answered y → (r : Answer (List ℕ)) → readPlan (size y + 2) back ≡ r → andThen r (checkAnswer y) ≡ answered v → Judged bs v
-    planned y q (refused f) p e = absurd (refused-ne-answered e)
-    planned y q (answered plan) p e =
-        let h = readPlan-said (size y + 2) back plan p in
-        let s = readMoves-said movesRead (suc (size y + 2)) (drop (length moveHead) back) plan (h .1) in
-        let a = answer-answered (checkFault y plan) _ v e in
-        let n : length (s .moves) ≤ 131_072 = omega (arith, few-checked y plan (a .0), ap (λ (l : List ℕ). length (movesOf l)) (s .bytes-are), ap length (movesOf-bytes (s .moves))) in
-        record {
-          yard = y;
-          moves = s .moves;
-          rest = s .rest;
-          is = whole y q ∙ ap (λ (l : List ℕ). yardSheet y ++ l) (h .0 ∙ ap (λ (l : List ℕ). moveHead ++ l) (s .is) ∙ sym (append-assoc moveHead (lines (map moveRow (s .moves))) (s .rest)));
-          ends = s .ends (omega arith);
-          answer = sym (ap (checkAnswer y) (s .bytes-are)) ∙ e;
-        }
-
-    go : (r : Answer Yard) → readYard (yardPart bs) ≡ r → checkedAs bs (yardPart bs) r ≡ answered v → Judged bs v
+    go : (r : Answer Yard) → readYard (yardPart bs) ≡ r → readAs bs (yardPart bs) r ≡ answered s → Sheets bs s
     go (refused f) q e = absurd (refused-ne-answered e)
-    go (answered y) q e = planned y q (readPlan (size y + 2) back) refl e
+    go (answered y) q e =
+        let p = mapAnswer-answered (withPlan y) (readPlan (size y + 2) back) e in
+        let h = readPlan-said (size y + 2) back (p .0) (p .1) in
+        let m = readMoves-said movesRead (suc (size y + 2)) (drop (length moveHead) back) (p .0) (h .1) in
+        subst (Sheets bs) (p .2) (record {
+          moves = m .moves;
+          rest = m .rest;
+          is = whole y q ∙ ap (λ (l : List ℕ). yardSheet y ++ l) (h .0 ∙ ap (λ (l : List ℕ). moveHead ++ l) (m .is) ∙ sym (append-assoc moveHead (lines (map moveRow (m .moves))) (m .rest)));
+          bytes-are = m .bytes-are;
+          ends = m .ends;
+        })
 
 pub checks-printed : (input : List ℕ) → Printed input
 unfolding verdictSheet
-checks-printed input = go (checkSheets input) refl
+checks-printed input = go (readSheets input) refl
   where
-    told : (a : Answer Verdict) → checkSheets input ≡ a → checks input ≡ verdictSheet a
-    told a e = checks-cut input ∙ ap verdictSheet e
+    told : (s : BothSheets) → readSheets input ≡ answered s → (a : Answer Verdict) → checkAnswer (s .yard) (s .plan) ≡ a → Printed input
+    told s e (refused f) q = inr (f, checks-cut input ∙ ap printedOfSheets e ∙ ap (verdictSheet (s .yard) (movesOf (s .plan))) q)
+    told s e (answered v) q =
+        let r = sheets-said input s e in
+        let m : movesOf (s .plan) ≡ r .moves = ap movesOf (r .bytes-are) ∙ movesOf-bytes (r .moves) in
+        let n = few-checked (s .yard) (s .plan) (answer-answered (checkFault (s .yard) (s .plan)) _ v q .0) in
+        inl (
+          v,
+          record {
+            yard = s .yard;
+            moves = r .moves;
+            rest = r .rest;
+            is = r .is;
+            ends = r .ends (omega (arith, n, ap length m));
+            answer = ap (checkAnswer (s .yard)) (sym (r .bytes-are)) ∙ q;
+            printed = checks-cut input ∙ ap printedOfSheets e ∙ ap (verdictSheet (s .yard) (movesOf (s .plan))) q ∙ ap (λ (l : List Move). verdictSheet (s .yard) l (answered v)) m;
+          },
+        )
 
-    go : (a : Answer Verdict) → checkSheets input ≡ a → Printed input
-    go (answered v) e = inl (v, told (answered v) e, checks-judged input v e)
-    go (refused f) e = inr (f, told (refused f) e)
+    go : (a : Answer BothSheets) → readSheets input ≡ a → Printed input
+    go (answered s) e = told s e (checkAnswer (s .yard) (s .plan)) refl
+    go (refused f) e = inr (f, checks-cut input ∙ ap printedOfSheets e)
+
+pub yard-refused : (input : List ℕ) → YardRefused input
+unfolding readSheets
+yard-refused input f e = checks-cut input ∙ ap (λ (r : Answer Yard). printedOfSheets (readAs input (yardPart input) r)) e

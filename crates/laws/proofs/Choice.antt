@@ -11,7 +11,7 @@ use native.Mathlib.Decide.{ℕ-discrete, decLt}
 use lib.Dec.{ltb, eqb}
 use borrow.Author.Tests.{ltb-true, ltb-false, lt-ltb, eq-eqb, ne-eqb}
 use Rattle.model.specs.Yard.{Yard, size, pebble, held, one, below, headOr, isChild, lacking}
-use Rattle.model.specs.Plan.{needy, some, Rule, lowestChild, greatest, neediestChild, choice, fills}
+use Rattle.model.specs.Plan.{needy, nonempty, Rule, lowestChild, greatest, neediestChild, choice, fills}
 use Rattle.laws.proofs.Basics.{All, all-map, all-below, below-all, below-none}
 use Rattle.laws.proofs.Found.{below-cong}
 use Rattle.laws.proofs.Sums.{sum-some}
@@ -239,7 +239,7 @@ pub fills-choice : (y : Yard) (u : ℕ) → fills y u ≡ ((held y u) && (not (e
 unfolding fills
 fills-choice y u = ap (λ (b : Bool). (held y u) && b) (go (needy (lacking y) y u) refl)
   where
-    go : (vs : List ℕ) → needy (lacking y) y u ≡ vs → some vs ≡ not (eqb (choice (lacking y) y u) u)
+    go : (vs : List ℕ) → needy (lacking y) y u ≡ vs → nonempty vs ≡ not (eqb (choice (lacking y) y u) u)
     go [] e = rw (eq-eqb (choice (lacking y) y u) u (sym (choice-none (lacking y) y u (none-needy (lacking y) y u e))))
     go (v ∷ vs) e =
         let k = choice-sound (lacking y) y u v (subst (All (Needy (lacking y) y u)) e (all-needy (lacking y) y u) .0) in

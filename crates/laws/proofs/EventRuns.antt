@@ -109,7 +109,7 @@ module _ (y : Yard) (list : List ℤ) (e : Event) (v : ℕ) (a : eventFault y li
   pub caught-right : demandsAfter y e v list ≡ demandsOf (altered y e v)
   caught-right = ap (demandsAfter y e v) caught-was ∙ demandsAfter-right y (accepted .tree) e v (accepted .node-lt) (accepted .can)
 
-  -- so no entry is outside −256 to 256 or goes outside, which 21 told before
+  -- so no entry of the list lies outside −2,048 to 2,048, before the event and after it
   pub caught-range : (u : ℕ) → u < size y → (natAbs (entry list u) ≤ maxDemand) × (natAbs (entry (demandsAfter y e v list) u) ≤ maxDemand)
   unfolding altered
   caught-range u l = (

@@ -63,5 +63,6 @@ pub mod CheckSheets
 pub mod Bits
 pub mod Blocks
 pub mod Cabinet
+pub mod Limits
 pub mod CabinetRun
 pub mod CabinetStall

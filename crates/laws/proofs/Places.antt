@@ -1,5 +1,5 @@
 -- Every answer of the calls is one that a number tells. A place is 0, a node, the number of a move, or the length of the plan: past refusal 1 there
--- are at most 256 nodes, past refusal 9 at most 131,072 moves, and the plan of a tree has at most 524,288; of a sheet it is a line up to 258, or its
+-- are at most 256 nodes, past refusal 9 at most 131,072 moves, and the plan of a tree has at most 131,072; of a sheet it is a line up to 258, or its
 -- length. The values are as small.
 use mathlib.Core.Path.{_≡_, refl}
 use mathlib.Core.Logic.{_↔_}
@@ -36,12 +36,10 @@ use Rattle.model.specs.Sheets.{maxSheetBytes, yardSheet, readYard, reader, read
 use Rattle.laws.proofs.Basics.{All, one-le, all-below, none-all, unless-none}
 use Rattle.laws.proofs.Sums.{sum-mono, sum-scale, sum-le}
 use Rattle.laws.proofs.Judged.{facts}
-use Rattle.laws.proofs.Signed.{shortest-small}
 use Rattle.laws.proofs.Calls.{movesOf-half, totals-none, plan-none, matched-tree}
-use Rattle.laws.proofs.Demand3.{plan-length, plan-fits}
+use Rattle.laws.proofs.Demand3.{plan-fits}
 use Rattle.laws.proofs.Distance.{distance-lt}
 use Rattle.laws.proofs.Nearest.{nearest-none, nearest-is}
-use Rattle.laws.proofs.Demand3.{plan-length}
 use Rattle.laws.proofs.Displaced.{displaced-le}
 use Rattle.laws.proofs.PartTurns.{partsPlan-length}
 use Rattle.laws.proofs.Wear.{wearAt-le, wear-answer}
@@ -198,7 +196,7 @@ module _ (y : Yard) where
   figure-low = all (matchedTests y) (judge-low y, (totals-low, tt))
 
   plan-short : Tree y → Matched y → length (plan y) < rowUnit
-  plan-short t m = omega (arith, plan-length y t m, shortest-small y t)
+  plan-short t m = omega (arith, plan-fits y t m)
 
   plan-low : (room : ℕ) → Low (planFault y room)
   unfolding planFault

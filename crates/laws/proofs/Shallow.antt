@@ -10,7 +10,7 @@ use borrow.Author.Tests.{ltb-true}
 use Rattle.model.specs.Yard.{Yard, size, pebble, Shallow, held, holding, lacking, surplus, imbalance, Matched}
 use Rattle.model.specs.Judge.{Tree}
 use Rattle.model.specs.Push.{Move}
-use Rattle.model.specs.Plan.{needy, some, Rule, choice, Side, fills, planBy, plan}
+use Rattle.model.specs.Plan.{needy, nonempty, Rule, choice, Side, fills, planBy, plan}
 use Rattle.model.specs.Calls.Answers.{answered}
 use Rattle.model.specs.Sheets.{readYard, moveSheet, program}
 use Rattle.laws.proofs.Basics.{All}
@@ -59,7 +59,7 @@ shallow-agree o d ps t u l e c k n = go (held y u) refl (needy (lacking y) y u) 
     y : Yard
     y = holding o ps
 
-    go : (h : Bool) → held y u ≡ h → (vs : List ℕ) → needy (lacking y) y u ≡ vs → (h && (some vs)) ≡ h
+    go : (h : Bool) → held y u ≡ h → (vs : List ℕ) → needy (lacking y) y u ≡ vs → (h && (nonempty vs)) ≡ h
     go false h vs q = refl
     go true h (v ∷ vs) q = refl
     go true h [] q =

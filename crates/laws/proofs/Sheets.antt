@@ -77,7 +77,7 @@ module _ (k v b : ℕ) (bs : List ℕ) where
   unfolding readNodes
   readNodes-other {l} e n = ap (parsed k v) e ∙ ap (checked k v l) (ne-eqb (nodeOf l) v n)
 
-  readNodes-cases : (Q : Answer (List (List ℕ)) → Type 0)
+  pub readNodes-cases : (Q : Answer (List (List ℕ)) → Type 0)
       → (readLine lineValues (b ∷ bs) ≡ none → Q (refused (row 16 (v + 2))))
       → ((l : Line) → readLine lineValues (b ∷ bs) ≡ some l → (nodeOf l ≡ v → ⊥) → Q (refused (row 17 (v + 2))))
       → ((l : Line) → readLine lineValues (b ∷ bs) ≡ some l → nodeOf l ≡ v → Q (mapAnswer (_∷_ (l .values)) (readNodes k (suc v) (l .rest))))

@@ -14,7 +14,7 @@ use borrow.Author.Tests.{eq-eqb, ne-eqb, ltb-false, leb-true, not-true}
 use Rattle.model.specs.Yard.{Yard, size, parent, pebble, capacity, held, isChild, one, sum, lacking, surplus, Matched}
 use Rattle.model.specs.Judge.{Tree}
 use Rattle.model.specs.Push.{Move, moved, after, run, Solved, isUp, isDown, count}
-use Rattle.model.specs.Plan.{needy, some, Rule, choice, fills, plan}
+use Rattle.model.specs.Plan.{needy, nonempty, Rule, choice, fills, plan}
 use Rattle.model.specs.Follow.{displaced}
 use Rattle.laws.proofs.Basics.{All}
 use Rattle.laws.proofs.Sums.{sum-cong, sum-mono, sum-add, sum-zero}
@@ -243,7 +243,7 @@ turn-lets : (y : Yard) (u : ℕ) → Even y u → Lets y (fills y u) u
 unfolding fills
 turn-lets y u e = go (held y u) refl (needy (lacking y) y u) refl
   where
-    go : (h : Bool) → held y u ≡ h → (vs : List ℕ) → needy (lacking y) y u ≡ vs → Lets y (h && (some vs)) u
+    go : (h : Bool) → held y u ≡ h → (vs : List ℕ) → needy (lacking y) y u ≡ vs → Lets y (h && (nonempty vs)) u
     go true h (v ∷ vs) q = inl (omega arith)
     go true h [] q = inr (omega (arith, none-over (lacking y) y u q))
     go false h vs q = inl (omega (arith, ltb-false 0 (pebble y u) h))

@@ -157,12 +157,12 @@ obeys-crossed d (Obeys.next {y} {m = m} s o) zero l = step-crossed y m s
 obeys-crossed d (Obeys.next {y} {m = m} s o) (suc j) l = let c = obeys-crossed d o j (omega arith) in record { from-lt = c .from-lt; edge-lt = c .edge-lt; off-root = c .off-root; once = c .once }
 
 -- count
-count-append : (p : Move → Bool) (ms ns : List Move) → count p (ms ++ ns) ≡ count p ms + count p ns
+pub count-append : (p : Move → Bool) (ms ns : List Move) → count p (ms ++ ns) ≡ count p ms + count p ns
 unfolding count
 count-append p [] ns = omega arith
 count-append p (m ∷ ms) ns = omega (arith, count-append p ms ns)
 
-count-le : (p : Move → Bool) (ms : List Move) → count p ms ≤ length ms
+pub count-le : (p : Move → Bool) (ms : List Move) → count p ms ≤ length ms
 unfolding count
 count-le p [] = omega arith
 count-le p (m ∷ ms) = omega (arith, one-le (p m), count-le p ms)

@@ -1,23 +1,23 @@
--- What the cabinet relies on (request 2.9): when a step is accepted and what it then leaves, sentence by sentence; the whole run behind an accepted start; and a stall
+-- What the cabinet relies on (request 2.9): when a step is accepted and what it then leaves, sentence by sentence; the whole run after an accepted start; and a stall
 -- that is acknowledged.
 use mathlib.Core.Path.{_≡_}
 use mathlib.Core.Logic.{_≢_, _↔_, _⊎_}
 use mathlib.Core.Bool.{Bool, true, false, cond}
 use mathlib.Core.List.{List}
-use mathlib.Core.Option.{none}
-use Prim.Native.Nat.{ℕ, suc, _-_, _*_, _≤_, _<_}
+use Prim.Native.Nat.{ℕ, suc, _-_, _≤_, _<_}
 use lib.ListN.{length, getD, take, set}
 use lib.Dec.{ltb}
 use Rattle.model.specs.Yard.{Yard, holding, pebbleCount}
 use Rattle.model.specs.Judge.{Fault, Tree}
 use Rattle.model.specs.Push.{push, legal, shifted, run, Solved}
 use Rattle.model.specs.declared.Registers.{Registers}
-use Rattle.model.specs.Calls.Answers.{answered, refused}
+use Rattle.model.specs.Calls.Answers.{Answer, answered, refused}
 use Rattle.model.specs.Calls.Plans.{movesOf}
-use Rattle.model.specs.Calls.Checks.{checkFault, checkAnswer}
+use Rattle.model.specs.Calls.Checks.{checkAnswer}
 use Rattle.model.specs.Calls.Registers.{noCommand, start, stop, acknowledge, idle, running, stalled, registersOf, bit, setBit, finishedBit, stalledBit, maxFlags, wholeMoves, nextMove, Stepped, stepped}
 use Rattle.model.specs.Cabinet.{steps}
 use Rattle.laws.specs.Demand2.{Accepts}
+use Rattle.laws.specs.Limits.{WholePlan}
 
 -- registers that can hold what they hold (24), where the plan has so many whole moves; the mask may be anything
 pub record InRange (moves : ℕ) (r : Registers) : Type 0 where
@@ -26,10 +26,6 @@ pub record InRange (moves : ℕ) (r : Registers) : Type 0 where
   pub left-le : r .left ≤ moves
   pub left-pos : (r .status ≡ idle) ⊎ (0 < r .left)
   pub flags-le : r .flags ≤ maxFlags
-
--- a plan of whole moves, at most 131,072
-abbrev pub WholePlan : List ℕ → Type 0
-WholePlan bs = (length bs ≡ 2 * wholeMoves bs) × (wholeMoves bs ≤ 131_072)
 
 -- when a step is accepted, whatever it is told of a failure
 pub record Acceptable (y : Yard) (bs block : List ℕ) (r : Registers) : Type 0 where
@@ -51,7 +47,7 @@ pub record Leaves (y : Yard) (bs : List ℕ) (failed l : Bool) (before now : Reg
       → (now .command ≡ noCommand) × (pebbles ≡ y .pebbles) × (now .from ≡ before .from) × (now .to ≡ before .to) × (now .mask ≡ before .mask)
   -- a start was idle, with a plan that the checker accepts, all moves of which are left then; it runs with the flags as they were, or without moves is done
   pub starts : before .command ≡ start
-      → (before .status ≡ idle) × (checkFault y bs ≡ none) × (now .left ≡ wholeMoves bs)
+      → (before .status ≡ idle) × Accepts (checkAnswer y bs) × (now .left ≡ wholeMoves bs)
       × (0 < wholeMoves bs → (now .status ≡ running) × (now .flags ≡ before .flags))
       × (wholeMoves bs ≡ 0 → (now .status ≡ idle) × (now .flags ≡ setBit finishedBit (before .flags)))
   -- after a stop it is idle, nothing is left, and the flags are as they were
@@ -73,13 +69,16 @@ pub record Leaves (y : Yard) (bs : List ℕ) (failed l : Bool) (before now : Reg
   -- without a command, not running: nothing changes
   pub rests : before .command ≡ noCommand → before .status ≢ running → (now ≡ before) × (pebbles ≡ y .pebbles)
 
--- of every step: it is accepted exactly then; accepted, it leaves that; refused, it alters nothing; and it brings no pebble in or out
-pub record EachStep (y : Yard) (bs block : List ℕ) (failed : Bool) : Type 0 where
-  pub accepts : ((l : Bool) × (stepped y bs block failed .line ≡ answered l)) ↔ Acceptable y bs block (registersOf block)
-  pub accepted : (l : Bool) → stepped y bs block failed .line ≡ answered l
-      → Leaves y bs failed l (registersOf block) (registersOf (stepped y bs block failed .block)) (stepped y bs block failed .pebbles)
-  pub refusal : (f : Fault) → stepped y bs block failed .line ≡ refused f → (stepped y bs block failed .block ≡ block) × (stepped y bs block failed .pebbles ≡ y .pebbles)
-  pub constant : pebbleCount (holding y (stepped y bs block failed .pebbles)) ≡ pebbleCount y
+-- what a step gave: its answer, and the block and the pebbles then
+abbrev pub steppedTo : Answer Bool → List ℕ → List ℕ → Stepped
+steppedTo line block pebbles = record { line = line; block = block; pebbles = pebbles }
+
+-- of every step, which gave s: it is accepted exactly then; accepted, it leaves that; refused, it alters nothing; and it brings no pebble in or out
+pub record EachStep (y : Yard) (bs block : List ℕ) (failed : Bool) (s : Stepped) : Type 0 where
+  pub accepts : ((l : Bool) × (s .line ≡ answered l)) ↔ Acceptable y bs block (registersOf block)
+  pub accepted : (l : Bool) → s .line ≡ answered l → Leaves y bs failed l (registersOf block) (registersOf (s .block)) (s .pebbles)
+  pub refusal : (f : Fault) → s .line ≡ refused f → (s .block ≡ block) × (s .pebbles ≡ y .pebbles)
+  pub constant : pebbleCount (holding y (s .pebbles)) ≡ pebbleCount y
 
 -- The yard and the registers after a first step and k more
 abbrev pub yardAfter : ℕ → Yard → List ℕ → List ℕ → Bool → Yard
@@ -137,7 +136,7 @@ pub record Resumes (y : Yard) (bs block : List ℕ) (failed : Bool) : Type 0 whe
   -- and so the run goes on as if it had not stalled
   pub goes-on : (k : ℕ) → ButForFlags (steps k y bs (resumed y bs block failed .block) false) (steps k y bs block false)
 
--- A run in which pushes fail: behind the start, each step obeys a move, or it stalls and is acknowledged. k counts the moves.
+-- A run in which pushes fail: after the start, each step obeys a move, or it stalls and is acknowledged. k counts the moves.
 pub data Drives (y : Yard) (bs block : List ℕ) : ℕ → Stepped → Type 0 where
   begun : (failed : Bool) → Drives y bs block 0 (stepped y bs block failed)
   moved : {k : ℕ} {s : Stepped} → Drives y bs block k s → Drives y bs block (suc k) (stepped (holding y (s .pebbles)) bs (s .block) false)

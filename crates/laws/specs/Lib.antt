@@ -11,6 +11,7 @@ pub mod Wear
 pub mod Openings
 pub mod Spare
 pub mod CheckSheets
+pub mod Limits
 pub mod Cabinet
 pub mod Choice
 pub mod Nearest

@@ -2,3 +2,4 @@
 pub mod Yards
 pub mod Worked
 pub mod WorkedChecks
+pub mod WorkedNumbers

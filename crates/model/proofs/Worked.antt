@@ -14,7 +14,7 @@ use Rattle.model.specs.declared.Event.{Event}
 use Rattle.model.specs.declared.Event.the-variants.{PebbleArrives, PebbleLeaves, TargetSet, TargetCleared}
 use Rattle.model.specs.declared.Refusal.the-variants.{Width}
 use Rattle.model.specs.Paper.{paper}
-use Rattle.model.specs.Yard.{Yard, yardOf, holding, sum, below, roots, climbs, inside, subtotal, most, sumℤ, Equation2, shortest}
+use Rattle.model.specs.Yard.{Yard, yardOf, fresh, holding, sum, below, roots, climbs, inside, subtotal, most, sumℤ, Equation2, shortest}
 use Rattle.model.specs.Judge.{Fault, rowCount, row, fault, judge, matchedFault}
 use Rattle.model.specs.Push.{Move, push, moveFault, pushFault, legal, shifted, after, accepted, count}
 use Rattle.model.specs.Plan.{needy, lowestChild, greatest, neediestChild, choice, fills, inject, extract, turn, settle, each, balance, planWithin, planBy, plan}
@@ -690,6 +690,11 @@ longest-length = refl
 
 longest-judged : maxSheetBytes < judgedBytes
 longest-judged = omega arith
+
+-- the fresh yard: one node, which is the root, without a pebble or a target, one deep
+fresh-yard : fresh ≡ yard (0 ∷ []) [] []
+unfolding yard marks
+fresh-yard = refl
 
 -- the program's plan list holds 32,768 moves, and the last row of the table is that of a width
 program-list : programPlanBytes ≡ 2 * 32_768

@@ -12,10 +12,10 @@ use Rattle.model.specs.Push.{Move, push, run}
 unfoldable pub needy : (ℕ → ℕ) → Yard → ℕ → List ℕ
 needy need y u = below (size y) (λ v. (isChild (y .parents) u v) && (ltb 0 (need v)))
 
--- whether there are any
-abbrev pub some : List ℕ → Bool
-some [] = false
-some (v ∷ vs) = true
+-- whether a list has an entry
+abbrev pub nonempty : List ℕ → Bool
+nonempty [] = false
+nonempty (v ∷ vs) = true
 
 -- a rule of choice: by what each node needs, the child of u that is served wherever one is chosen
 abbrev pub Rule : Type 0
@@ -44,7 +44,7 @@ Side = Yard → ℕ → Bool
 
 -- request 2.10, sidings several cars deep: it fills if u holds a pebble and some child lacks one. Before it filled if u held a pebble (`held`)
 unfoldable pub fills : Side
-fills y u = (held y u) && (some (needy (lacking y) y u))
+fills y u = (held y u) && (nonempty (needy (lacking y) y u))
 
 -- f at each of some nodes, one after another, each in the yard that the one before leaves
 unfoldable pub each : (Yard → ℕ → List Move) → Yard → List ℕ → List Move

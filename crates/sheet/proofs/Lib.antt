@@ -2,4 +2,5 @@
 pub mod Decimals
 pub mod Writing
 pub mod Rows
+pub mod Edges
 pub mod WriteCall

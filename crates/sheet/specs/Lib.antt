@@ -1,2 +1,3 @@
 -- Definitions that the contracts of this crate's helpers cite.
 pub mod Written
+pub mod Report

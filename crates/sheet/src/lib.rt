@@ -2,4 +2,5 @@
 pub mod decimal;
 pub mod line;
 pub mod output;
+pub mod report;
 pub mod writer;

@@ -10,7 +10,7 @@ use Rattle.model.specs.Yard.{Yard, one}
 use Rattle.model.specs.Judge.{Fault, fault, firstOf, unless, judge}
 use Rattle.model.specs.Push.{Move, push, moveFault, pushedPebbles}
 use Rattle.model.specs.declared.Registers.{Registers}
-use Rattle.model.specs.Calls.Answers.{Answer, answer, mapAnswer, inC, lent}
+use Rattle.model.specs.Calls.Answers.{Answer, answer, mapAnswer, inC, told, lent}
 use Rattle.model.specs.Calls.Plans.{movesOf}
 use Rattle.model.specs.Calls.Checks.{bytesFault, checkFault}
 
@@ -207,3 +207,7 @@ stepped y bs block failed =
 -- in C the step answers 1 if the line is raised, else 0
 abbrev pub lineInC : Answer Bool → ℕ
 lineInC a = inC (mapAnswer one a)
+
+-- the answer that such a number tells
+abbrev pub lineTold : ℕ → Answer Bool
+lineTold r = mapAnswer (ltb 0) (told r)

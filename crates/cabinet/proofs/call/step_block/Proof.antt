@@ -7,6 +7,7 @@ use Rattle.model.specs.Yard.{Yard, yardOf}
 use Rattle.model.specs.Calls.Registers.{blockLength}
 use Rattle.laws.proofs.Calls.{sees}
 use Rattle.laws.proofs.Sheets.{Bytes}
+use Rattle.laws.proofs.Cabinet.{also-each}
 use Rattle.cabinet.proofs.Laws.{left-block, left-fits, kept-yard, kept-long}
 use Rattle.cabinet.proofs.call.step_block.Statement.{statement}
 use Rattle.cabinet.proofs.call.step_block.Tie as tie
@@ -41,7 +42,7 @@ returns : tie.Need-returns
 returns c =
     let t = c .before .before .before in
     let s = begin t in
-    kept-yard (yard s) (s .args .plan .now) (s .args .failed) (s .args .block .now) (sees (t .test-yard .ensures) (c .before .tested .given .1))
+    also-each (yard s) _ _ _ (kept-yard (yard s) (s .args .plan .now) (s .args .failed) (s .args .block .now) (sees (t .test-yard .ensures) (c .before .tested .given .1)))
 
 enum-told : tie.Need-enum-told
 enum-told c = search needs
@@ -53,7 +54,7 @@ returns-2 : tie.Need-returns-2
 returns-2 c =
     let t = c .before .before in
     let s = begin t in
-    kept-long (yard s) (s .args .plan .now) (s .args .failed) (s .args .block .now) (sees (t .test-yard .ensures) (c .enum-told .given .1)) (t .before .before .if1 .taken)
+    also-each (yard s) _ _ _ (kept-long (yard s) (s .args .plan .now) (s .args .failed) (s .args .block .now) (sees (t .test-yard .ensures) (c .enum-told .given .1)) (t .before .before .if1 .taken))
 
 load-requires : tie.Need-load-requires
 load-requires c κs = search needs
@@ -78,7 +79,7 @@ returns-3 : tie.Need-returns-3
 returns-3 c =
     let l = c .before .before .before .before .before .before in
     let a = start l .args in
-    left-block (yard (start l)) (a .plan .now) (a .failed) (a .block .now) (bytes l .0) (long l) _ (l .before .load .ensures) (l .lend .ensures) (c .before .before .store .ensures)
+    also-each (yard (start l)) _ _ _ (left-block (yard (start l)) (a .plan .now) (a .failed) (a .block .now) (bytes l .0) (long l) _ (l .before .load .ensures) (l .lend .ensures) (c .before .before .store .ensures))
 
 pub step-block-spec : {M : Type 1} → statement M
 step-block-spec =

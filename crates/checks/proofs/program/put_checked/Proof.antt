@@ -13,16 +13,19 @@ use Rattle.model.specs.Paper.{paper}
 use Rattle.laws.proofs.CheckSheets.{plan-row}
 use Rattle.sheet.proofs.Writing.{printed-as}
 use Rattle.checks.specs.Reading.{planRoom}
-use Rattle.checks.proofs.Printed.{told, planned, unplanned}
+use Rattle.checks.proofs.Printed.{planned, unplanned}
 use Rattle.checks.proofs.program.put_checked.Statement.{statement}
 use Rattle.checks.proofs.program.put_checked.Tie as tie
 
 abbrev yard : tie.Start → Yard
 yard s = yardOf (s .args .parents .now) (s .args .pebbles .now) (s .args .targets .now) (s .args .depths .now)
 
--- what the move sheet says
+-- the bytes after the yard sheet, and what the move sheet says
+abbrev rest : tie.Start → List ℕ
+rest s = drop (s .args .at) (s .args .input .now)
+
 abbrev sheet : tie.Start → Answer (List ℕ)
-sheet s = readPlan (size (yard s) + 2) (drop (s .args .at) (s .args .input .now))
+sheet s = readPlan (size (yard s) + 2) (rest s)
 
 abbrev start : tie.After-count → tie.Start
 start c = c .before .before .before .before .before .before .before .before .before .before .before
@@ -60,14 +63,11 @@ mul-plan c = omega (arith, fits (c .before) .0)
 array-share-prefix-plan : tie.Need-array-share-prefix-plan
 array-share-prefix-plan c = fits (c .before) .1
 
-slice-aggregate-check : tie.Need-slice-aggregate-check
-slice-aggregate-check c = sym (length-take-le _ _ (fits (c .before .before) .1))
-
-check-requires : tie.Need-check-requires
-check-requires c κs = search needs
+slice-aggregate-put-verdict : tie.Need-slice-aggregate-put-verdict
+slice-aggregate-put-verdict c = sym (length-take-le _ _ (fits (c .before .before) .1))
 
 put-verdict-requires : tie.Need-put-verdict-requires
-put-verdict-requires c κs = (told _ _ _ (c .before .check .ensures .0), omega (arith, start (c .before .before .before .before) .pre .2))
+put-verdict-requires c κs = search needs
 
 enum-known-r : tie.Need-enum-known-r
 enum-known-r c = search needs
@@ -83,8 +83,8 @@ same-length c = search needs
 returns : tie.Need-returns
 returns c =
     let v = c .before .before in
-    let n = v .before .before .before .before .before in
-    printed-as (start n .args .out .now) (planned (yard (start n)) (number n) (v .before .before .check .ensures .0)) (v .put-verdict .ensures)
+    let n = v .before .before .before .before in
+    printed-as (start n .args .out .now) (planned (yard (start n)) (rest (start n)) (number n)) (v .put-verdict .ensures)
 
 same-length-2 : tie.Need-same-length-2
 same-length-2 c = search needs
@@ -93,7 +93,7 @@ returns-2 : tie.Need-returns-2
 returns-2 c =
     let p = c .before .before in
     let r = p .before .before .before in
-    printed-as (start-r r .args .out .now) (unplanned (yard (start-r r)) (refusal r)) (p .put-refused .ensures)
+    printed-as (start-r r .args .out .now) (unplanned (yard (start-r r)) (rest (start-r r)) (refusal r)) (p .put-refused .ensures)
 
 pub put-checked-spec : {M : Type 1} → statement M
 put-checked-spec =
@@ -105,8 +105,7 @@ put-checked-spec =
     enum-known-count
     mul-plan
     array-share-prefix-plan
-    slice-aggregate-check
-    check-requires
+    slice-aggregate-put-verdict
     put-verdict-requires
     enum-known-r
     put-refused-requires

@@ -90,8 +90,8 @@ returns-2 c =
     let y = yard e in (
       c .test-shape .ensures ∙ judge-shape y (sym (passed e)),
       ap (λ (rest : List ℤ). k .clear .last .0 ++ rest) (drop-at (g .gather .last .1 .1 .1 .1 .0) _ (length (y .parents)) (g .gather .ensures .long))
-      ∙ then-shape y _ (passed e) (λ t. k .before .before .if1 .taken (g .gather .ensures .tree t))
-        (k .clear .ensures ∙ ap (λ (n : ℕ). replicate n (pos 0)) (length-take-le _ _ (slice-relend-prefix-clear (k .before .before)))),
+          ∙ then-shape y _ (passed e) (λ t. k .before .before .if1 .taken (g .gather .ensures .tree t))
+          (k .clear .ensures ∙ ap (λ (n : ℕ). replicate n (pos 0)) (length-take-le _ _ (slice-relend-prefix-clear (k .before .before)))),
     )
 
 same-length-2 : tie.Need-same-length-2

@@ -5,22 +5,22 @@ use native.Mathlib.Omega.{arith}
 use lib.ListN.{length}
 use borrow.Author.Needs.{needs}
 use Rattle.model.specs.Sheets.{text}
 use Rattle.sheet.specs.Written.{Written}
 use Rattle.sheet.proofs.Writing.{written-append, written-length}
-use Rattle.moves.specs.Report.{edgeLines}
-use Rattle.moves.proofs.Edges.{edges-short, total-short}
-use Rattle.moves.proofs.report.put_report.Statement.{statement}
-use Rattle.moves.proofs.report.put_report.Tie as tie
+use Rattle.sheet.specs.Report.{edgeLines}
+use Rattle.sheet.proofs.Edges.{edges-short, total-short}
+use Rattle.sheet.proofs.report.put_report.Statement.{statement}
+use Rattle.sheet.proofs.report.put_report.Tie as tie
 
-short : (s : tie.Start) → let a = s .args in length (edgeLines (a .demands .now) (a .root) (length (a .demands .now))) ≤ 18 * length (a .demands .now)
-short s = edges-short (s .args .demands .now) (s .args .root) (s .pre .0) _ (omega arith)
+short : (s : tie.Start) → let a = s .args in length (edgeLines (a .ups .now) (a .downs .now) (a .root) (length (a .ups .now))) ≤ 18 * length (a .ups .now)
+short s = edges-short (s .args .ups .now) (s .args .downs .now) (s .args .root) (s .pre .0) _ (omega arith)
 
 abbrev start : tie.After-put-edges → tie.Start
-start e = e .before .before .before .before .before .before .before .before
+start e = e .before .before .before .before .before .before .before .before .before .before
 
 -- where the lines of the edges end, and how long the list is
 ended : (e : tie.After-put-edges) → let a = start e .args in
-    (e .put-edges .result ≤ a .at + 14 + 18 * length (a .demands .now)) × (length (e .put-edges .last .1 .1 .0) ≡ length (a .out .now))
+    (e .put-edges .result ≤ a .at + 14 + 18 * length (a .ups .now)) × (length (e .put-edges .last .1 .1 .1 .0) ≡ length (a .out .now))
 ended e =
     let t = e .before .before .before .before .put-text in
     (omega (arith, short (start e), e .put-edges .ensures .end, t .ensures .end), written-length (e .put-edges .ensures) ∙ written-length (t .ensures))
