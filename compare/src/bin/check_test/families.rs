@@ -1,11 +1,11 @@
 //! The cases, in families: what a fitter makes of good sheets, on purpose or by a slip.
 
-use crate::sheets::{lines, spare, Line, Planned, Sheets};
 use crate::Held;
 use std::ops::Range;
 use unrelated::check_sheet::{both_sheets, JUDGED_BYTES, MOST_MOVES_READ, MOVES_HEAD, REPORTED, REPORT_HEAD};
 use unrelated::checker::{check, step, Checked, MAX_PLAN_BYTES};
 use unrelated::damage;
+use unrelated::fitter::{lines, spare, Line, Planned, Sheets};
 use unrelated::piped::Outcome;
 use unrelated::random::Random;
 use unrelated::shapes::{self, every_yard, far, Shape};

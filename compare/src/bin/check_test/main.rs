@@ -6,7 +6,6 @@
 //! `--thin N` takes one case of N.
 
 mod families;
-mod sheets;
 
 use families::FAMILIES;
 use std::collections::BTreeMap;
