@@ -1,11 +1,13 @@
-/* Holds a library with the calls of javendriky.h to the cases of calls.txt, whose first lines say how they are written.
+/* Holds a library with the calls of javendriky.h to the cases of calls.txt. The first lines of that
+ * file say how a case is written.
  *
  *     calls [--at FILE] CASES [NUMBER...]
  *
- * Makes each call of the file CASES, or only those with the numbers named, and compares its answer, each list and each number
- * afterwards. Each list has guard bytes on both sides, which no call may alter. Prints the first difference of each call in
- * words, how many cases of each call are as they must be, and of all. With --at the number and the call of the case at hand
- * stand in FILE, so that it is known where a library ended the program.
+ * Makes each call of the file CASES, or only those with the numbers named. Compares the answer, and
+ * each list and number afterwards. Each list has guard bytes on both sides, which no call may alter.
+ * Prints the first difference of each call in words, and how many cases of each call and of all are
+ * as they must be. With --at the number and the call of the case at hand stand in FILE, so that it is
+ * known where a library ended the program.
  * Status: 0 all are as they must be, 1 one differs, 2 the cases could not be tried. */
 #include <errno.h>
 #include <inttypes.h>
@@ -20,7 +22,7 @@ enum { MOST_LISTS = 6, MOST_NUMBERS = 2, MOST_POINTERS = 2, GUARD_BYTES = 64, GU
 /* ---- What a call is handed */
 
 struct list {
-    unsigned char *block; /* guard bytes, the entries, guard bytes; NULL where the list has the pointer NULL */
+    unsigned char *block; /* guard bytes, entries, guard bytes; NULL where the list's pointer is */
     unsigned char *due;   /* the entries that are due after the call */
     size_t length;        /* entries */
     size_t width;         /* bytes of an entry: 1, or 2 for signed ones */
@@ -85,7 +87,8 @@ static uint32_t call_read_sheet(struct lent *lent)
 }
 static uint32_t call_write_sheet(struct lent *lent) { return javendriky_write_sheet(YARD, BYTES(4)); }
 
-/* A call: its name and those of its parameters in the header's order, lists, then numbers, then numbers behind pointers. */
+/* A call: its name, and those of its parameters in the header's order: lists, numbers, and numbers
+ * that it writes through pointers. */
 struct call {
     const char *name;
     uint32_t (*make)(struct lent *);
@@ -521,7 +524,7 @@ int main(int argc, char **argv)
     char *line;
     unsigned long tried = 0, right = 0;
     int i;
-    setvbuf(stdout, NULL, _IOLBF, BUFSIZ); /* what was told before a library ends the program is seen */
+    setvbuf(stdout, NULL, _IOLBF, BUFSIZ); /* what is told is seen if a library ends the program */
     argv++;
     argc--;
     if (argc > 1 && strcmp(argv[0], "--at") == 0) {

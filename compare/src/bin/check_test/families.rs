@@ -58,11 +58,7 @@ fn by_hand(held: &mut Held, _: &mut Random) -> Outcome {
         ("as it is printed", "1 0\n0 2\n3 1\n1 4\n", "moves spare\n4 0\ntrack up down\n1 1 0\n2 0 1\n3 1 0\n4 0 1\ntotal\n4\n"),
         ("another way", "1 4\n3 1\n1 0\n0 2\n", "moves spare\n4 0\ntrack up down\n1 1 0\n2 0 1\n3 1 0\n4 0 1\ntotal\n4\n"),
         ("a detour", "1 0\n0 2\n3 1\n1 0\n0 1\n1 4\n", "moves spare\n6 2\ntrack up down\n1 2 1\n2 0 1\n3 1 0\n4 0 1\ntotal\n6\n"),
-        (
-            "two detours",
-            "1 0\n0 1\n1 0\n0 2\n2 0\n0 2\n3 1\n1 4\n",
-            "moves spare\n8 4\ntrack up down\n1 2 1\n2 1 2\n3 1 0\n4 0 1\ntotal\n8\n",
-        ),
+        ("two detours", "1 0\n0 1\n1 0\n0 2\n2 0\n0 2\n3 1\n1 4\n", "moves spare\n8 4\ntrack up down\n1 2 1\n2 1 2\n3 1 0\n4 0 1\ntotal\n8\n"),
         ("a node too many", "1 0\n0 2\n3 1\n1 5\n", "refusal place\n10 3\n"),
         ("no edge", "1 0\n0 3\n3 1\n1 4\n", "refusal place\n11 1\n"),
         ("a node to itself", "1 1\n0 2\n3 1\n1 4\n", "refusal place\n11 0\n"),

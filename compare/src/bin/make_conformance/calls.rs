@@ -1,5 +1,5 @@
-//! Cases of the C calls: what each call is handed, what it must answer, and what the lent lists then
-//! hold. The first lines of the file say how it is written.
+//! Cases of the C calls: what each call is handed, what it must answer, and what the lent lists
+//! then hold. The first lines of the file say how it is written.
 
 mod families;
 

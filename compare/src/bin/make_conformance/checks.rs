@@ -2,7 +2,7 @@
 //! and what any supplier's check program must print for them, `NNN-name.out`.
 
 use std::path::Path;
-use unrelated::check_sheet::{program, MOST_MOVES_READ, MOVES_HEAD, REPORT_HEAD};
+use unrelated::check_sheet::{program, MOST_MOVES_READ, MOVES_HEAD, REPORTED, REPORT_HEAD};
 use unrelated::checker::step;
 use unrelated::damage;
 use unrelated::fitter::{lines, Line, Planned, Sheets};
@@ -54,7 +54,8 @@ impl Inputs {
 
     /// Accepted with so many moves, of which so many are spare.
     fn accepted(&mut self, name: &str, input: Vec<u8>, moves: usize, spare: usize) {
-        self.add(name, input, &format!("moves spare\n{moves} {spare}\ntrack up down\n"));
+        let report = if REPORTED { "track up down\n" } else { "" };
+        self.add(name, input, &format!("moves spare\n{moves} {spare}\n{report}"));
     }
 
     fn refused(&mut self, number: u32, place: usize, name: &str, input: Vec<u8>) {
@@ -475,9 +476,8 @@ fn reports(inputs: &mut Inputs) {
 fn line_ends(inputs: &mut Inputs) {
     let planned = yard_a();
     let text = planned.sheets.text();
-    let ended = |text: &[u8], end: &[u8]| -> Vec<u8> {
-        text.iter().flat_map(|&byte| if byte == b'\n' { end.to_vec() } else { vec![byte] }).collect()
-    };
+    let ended =
+        |text: &[u8], end: &[u8]| -> Vec<u8> { text.iter().flat_map(|&byte| if byte == b'\n' { end.to_vec() } else { vec![byte] }).collect() };
     inputs.refused(15, 1, "crlf-everywhere", ended(&text, b"\r\n"));
     inputs.refused(15, 1, "cr-everywhere", ended(&text, b"\r"));
     let Sheets { yard, moves, report } = &planned.sheets;
@@ -492,8 +492,8 @@ fn line_ends(inputs: &mut Inputs) {
     inputs.refused(15, 7, "a-byte-order-mark-between-the-sheets", [&yard[..], b"\xef\xbb\xbf", &moves, &report].concat());
 }
 
-/// Faults of a star of 9 nodes, in the order in which they are told: the lines that are altered, the
-/// refusal and its place. No line has two faults.
+/// Faults of a star of 9 nodes, in the order in which they are told: the lines that are altered,
+/// the refusal and its place. No line has two faults.
 type Fault = (&'static [(usize, &'static str)], u32, usize);
 
 const FAULTS: [Fault; 16] = [

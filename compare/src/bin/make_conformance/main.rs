@@ -1,6 +1,6 @@
 //! Writes the conformance set into the folder named: sheets for a move program, sheets for a check
-//! program in its folder `check`, and cases of the C calls in `calls.txt`. Seeds are fixed, so every
-//! run writes the same bytes.
+//! program in its folder `check`, and cases of the C calls in `calls.txt`. Seeds are fixed, so
+//! every run writes the same bytes.
 
 mod calls;
 mod checks;

@@ -793,25 +793,79 @@ fn sheets_read(calls: &mut Calls, random: &mut Random) {
     }
     let header = sheet::HEADER;
     let one = format!("{header}0 0 1 1 1\n");
-    for lengths in [[256, 256, 256, 255], [255, 256, 256, 256], [256, 255, 256, 256], [256, 256, 255, 256], [0; 4], [257, 300, 256, 512], [65_536; 4]] {
+    for lengths in [[256, 256, 256, 255], [255, 256, 256, 256], [256, 255, 256, 256], [256, 256, 255, 256], [0; 4], [257, 300, 256, 512], [65_536; 4]]
+    {
         read(calls, &format!("lists of {lengths:?} entries"), one.as_bytes(), lengths);
         read(calls, &format!("lists of {lengths:?} entries and no sheet"), b"", lengths);
     }
     for text in [
-        "", "\n", "berth", "berth parent car target depth", "berth parent car target\n0 0 1 1\n", "berth parent car target depth\r\n0 0 1 1 1\r\n",
-        "Berth parent car target depth\n0 0 1 1 1\n", " berth parent car target depth\n0 0 1 1 1\n", "berth  parent car target depth\n0 0 1 1 1\n",
-        "berth parent car target depth \n0 0 1 1 1\n", "\u{feff}berth parent car target depth\n0 0 1 1 1\n", "0 0 1 1 1\n", "from to\n",
+        "",
+        "\n",
+        "berth",
+        "berth parent car target depth",
+        "berth parent car target\n0 0 1 1\n",
+        "berth parent car target depth\r\n0 0 1 1 1\r\n",
+        "Berth parent car target depth\n0 0 1 1 1\n",
+        " berth parent car target depth\n0 0 1 1 1\n",
+        "berth  parent car target depth\n0 0 1 1 1\n",
+        "berth parent car target depth \n0 0 1 1 1\n",
+        "\u{feff}berth parent car target depth\n0 0 1 1 1\n",
+        "0 0 1 1 1\n",
+        "from to\n",
     ] {
         read(calls, "a header that differs", text.as_bytes(), room);
     }
     for line in [
-        "", "\n", "1", "1 0 0 0 1", "1 0 0 0 1\n", "01 0 0 0 1\n", "1 00 0 0 1\n", "1 0 00 0 1\n", "1 0 0 00 1\n", "1 0 0 0 01\n", "256 0 0 0 1\n",
-        "1 256 0 0 1\n", "1 0 256 0 1\n", "1 0 0 256 1\n", "1 0 0 0 256\n", "1 255 255 255 255\n", "1 300 0 0 1\n", "1 1000 0 0 1\n",
-        "1 4294967296 0 0 1\n", "1 18446744073709551616 0 0 1\n", "1 -1 0 0 1\n", "1 +1 0 0 1\n", "1 a 0 0 1\n", "1 0x0 0 0 1\n", "1 0.0 0 0 1\n",
-        "1 0 0 1\n", "1 0 0 0 0 1\n", "1\n", " 1 0 0 0 1\n", "1 0 0 0 1 \n", "1  0 0 0 1\n", "1\t0 0 0 1\n", "1,0,0,0,1\n", "1 0 0 0 1\r\n",
-        "1 0 0 0 1\r", "1 0 0 0 1\0\n", "1 0 0 \u{660} 1\n", " \n", "1 0 0 0 1\n\n", "7 0 0 0 1", "7 0 0 0 1\n", "0 0 0 0 1\n", "2 0 0 0 1\n",
-        "7 0 0 256 1\n", "255 0 0 0 1\n", "1 0 0 0 1\n3 0 0 0 1\n", "1 0 0 0 1\n2 0 0 0 1\n2 0 0 0 1\n", "berth parent car target depth\n",
-        "1 0 9 9 9\n", "1 1 255 0 0\n",
+        "",
+        "\n",
+        "1",
+        "1 0 0 0 1",
+        "1 0 0 0 1\n",
+        "01 0 0 0 1\n",
+        "1 00 0 0 1\n",
+        "1 0 00 0 1\n",
+        "1 0 0 00 1\n",
+        "1 0 0 0 01\n",
+        "256 0 0 0 1\n",
+        "1 256 0 0 1\n",
+        "1 0 256 0 1\n",
+        "1 0 0 256 1\n",
+        "1 0 0 0 256\n",
+        "1 255 255 255 255\n",
+        "1 300 0 0 1\n",
+        "1 1000 0 0 1\n",
+        "1 4294967296 0 0 1\n",
+        "1 18446744073709551616 0 0 1\n",
+        "1 -1 0 0 1\n",
+        "1 +1 0 0 1\n",
+        "1 a 0 0 1\n",
+        "1 0x0 0 0 1\n",
+        "1 0.0 0 0 1\n",
+        "1 0 0 1\n",
+        "1 0 0 0 0 1\n",
+        "1\n",
+        " 1 0 0 0 1\n",
+        "1 0 0 0 1 \n",
+        "1  0 0 0 1\n",
+        "1\t0 0 0 1\n",
+        "1,0,0,0,1\n",
+        "1 0 0 0 1\r\n",
+        "1 0 0 0 1\r",
+        "1 0 0 0 1\0\n",
+        "1 0 0 \u{660} 1\n",
+        " \n",
+        "1 0 0 0 1\n\n",
+        "7 0 0 0 1",
+        "7 0 0 0 1\n",
+        "0 0 0 0 1\n",
+        "2 0 0 0 1\n",
+        "7 0 0 256 1\n",
+        "255 0 0 0 1\n",
+        "1 0 0 0 1\n3 0 0 0 1\n",
+        "1 0 0 0 1\n2 0 0 0 1\n2 0 0 0 1\n",
+        "berth parent car target depth\n",
+        "1 0 9 9 9\n",
+        "1 1 255 0 0\n",
     ] {
         read(calls, "a second berth's line", format!("{header}0 0 0 0 1\n{line}").as_bytes(), room);
     }
