@@ -1,6 +1,7 @@
 //! Inputs of a check program, `NNN-name.in`, each a yard sheet with a move sheet directly after it,
 //! and what any supplier's check program must print for them, `NNN-name.out`.
 
+use crate::must_meet;
 use std::path::Path;
 use unrelated::check_sheet::{program, MOST_MOVES_READ, MOVES_HEAD, REPORTED, REPORT_HEAD};
 use unrelated::checker::step;
@@ -31,6 +32,7 @@ pub fn write(folder: &Path) -> std::io::Result<usize> {
     two_faults(&mut inputs);
     by_a_hand(&mut inputs);
     long(&mut inputs);
+    must_meet(&[0, 1, 4, 5, 6, 7, 9, 10, 11, 12, 13, 14, 15, 16, 17, 26, 27], inputs.all.iter().map(|(_, input)| program(input)));
     std::fs::create_dir_all(folder)?;
     for (name, input) in &inputs.all {
         std::fs::write(folder.join(format!("{name}.in")), input)?;

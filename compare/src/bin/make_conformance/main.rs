@@ -6,6 +6,7 @@ mod calls;
 mod checks;
 mod moves;
 
+use std::collections::BTreeSet;
 use std::path::Path;
 use std::process::ExitCode;
 
@@ -29,4 +30,14 @@ fn main() -> ExitCode {
 
 fn write(folder: &Path) -> std::io::Result<[usize; 3]> {
     Ok([moves::write(folder)?, checks::write(&folder.join("check"))?, calls::write(&folder.join("calls.txt"))?])
+}
+
+/// Sees that each of these refusals is printed by one of the sheets, and no other. 0 is a sheet that
+/// is accepted.
+fn must_meet(refusals: &[u32], printed: impl Iterator<Item = Vec<u8>>) {
+    let number = |sheet: Vec<u8>| match sheet.strip_prefix(b"refusal place\n") {
+        Some(values) => String::from_utf8_lossy(values).split(' ').next().and_then(|word| word.parse().ok()).expect("a number"),
+        None => 0,
+    };
+    assert_eq!(printed.map(number).collect::<BTreeSet<u32>>(), refusals.iter().copied().collect(), "the refusals that are met");
 }

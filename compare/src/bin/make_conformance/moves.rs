@@ -1,6 +1,7 @@
 //! Yard sheets `NNN-name.yard`, each with what any supplier's move program must print for it,
 //! `NNN-name.moves`.
 
+use crate::must_meet;
 use std::path::Path;
 use unrelated::planner::{plan_by, Choice, Turn};
 use unrelated::random::Random;
@@ -21,6 +22,7 @@ pub fn write(folder: &Path) -> std::io::Result<usize> {
     reports(&mut sheets);
     neediest(&mut sheets);
     deep(&mut sheets);
+    must_meet(&[0, 1, 4, 5, 6, 7, 8, 15, 16, 17, 26, 27], sheets.all.iter().map(|(_, sheet)| sheet::program(sheet)));
     sheets.write(folder)?;
     Ok(sheets.all.len())
 }
