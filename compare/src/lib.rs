@@ -2,8 +2,9 @@
 //! document 01 and the requests (document 02) alone, plain first and quick nowhere. The program `compare` holds the library against it.
 //!
 //! `fast` is the same planner written for speed, as the benchmark's measure. `random`, `shapes` and `damage` make the inputs; equal seeds make
-//! equal inputs. `piped` runs a program on them.
+//! equal inputs. `fitter` has sheets as lines. `piped` runs a program on inputs.
 
+pub mod c_calls;
 pub mod cabinet;
 pub mod check_sheet;
 pub mod checker;
@@ -13,6 +14,7 @@ pub mod distance;
 pub mod event;
 pub mod fast;
 pub mod figures;
+pub mod fitter;
 pub mod follow;
 // A list on a line, as in the header.
 #[cfg(feature = "library")]

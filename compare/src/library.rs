@@ -1,17 +1,13 @@
 //! The proved library's calls, as include/javendriky.h tells them, with Rust's lists and answers.
 
+use crate::c_calls::{BUDGET_ENDED, REFUSED};
+pub use crate::c_calls::VERSION; // of the calls declared here: no other library must be called
 use crate::checker::Tried;
 use crate::distance::Nearest;
 use crate::event::Event;
 use crate::figures::Length;
 use crate::wear::Wear;
 use crate::yard::{Answer, Refusal};
-
-/// The version of the calls that are declared here: JAVENDRIKY_VERSION of the header. A library of another version must not be called.
-pub const VERSION: u32 = 12;
-
-/// What an accepted trial adds to the moves taken where the budget ended it.
-const BUDGET_ENDED: u32 = 500_000;
 
 /// The calls as C sees them.
 pub mod raw {
@@ -108,9 +104,9 @@ pub mod raw {
 
 /// The number that a call answers, taken apart.
 pub fn answer(number: u32) -> Answer<u32> {
-    match number / 1_000_000 {
+    match number / REFUSED {
         0 => Ok(number),
-        refusal => Err(Refusal { number: refusal, place: number % 1_000_000 }),
+        refusal => Err(Refusal { number: refusal, place: number % REFUSED }),
     }
 }
 

@@ -17,7 +17,7 @@ pub fn judge(yard: &Yard, printed: &[u8]) -> Result<(), String> {
 }
 
 /// The report, and the sum of both its columns.
-fn due(yard: &Yard) -> (String, usize) {
+pub fn due(yard: &Yard) -> (String, usize) {
     let children = yard.children();
     let mut report = String::from("track up down\n");
     let mut sum = 0;

@@ -77,13 +77,18 @@ pub fn move_sheet(yard: &Yard, plan: &[u8]) -> Vec<u8> {
     for ends in plan.chunks(2) {
         sheet += &format!("{} {}\n", ends[0], ends[1]);
     }
-    let [up, down] = crossings(yard, plan);
-    sheet += "track up down\n";
-    for node in (0..yard.nodes()).filter(|&node| !yard.is_root(node)) {
-        sheet += &format!("{node} {} {}\n", up[node], down[node]);
-    }
-    sheet += &format!("total\n{}\n", plan.len() / 2);
+    sheet += &crossing_report(yard, plan);
     sheet.into_bytes()
+}
+
+/// The crossing report of moves along edges.
+pub fn crossing_report(yard: &Yard, plan: &[u8]) -> String {
+    let [up, down] = crossings(yard, plan);
+    let mut report = String::from("track up down\n");
+    for node in (0..yard.nodes()).filter(|&node| !yard.is_root(node)) {
+        report += &format!("{node} {} {}\n", up[node], down[node]);
+    }
+    report + &format!("total\n{}\n", plan.len() / 2)
 }
 
 /// How often the edge above each node is crossed towards the root, and away from it: the moves counted one by one.

@@ -1,5 +1,6 @@
-//! The check program over the unrelated checker: a yard sheet and a move sheet from standard input, the number of moves and how many of them are spare, or
-//! the refusal, to standard output.
+//! The check program over the unrelated checker: a yard sheet and a move sheet from standard
+//! input; to standard output the number of moves, how many of them are spare and their crossing
+//! report, or the refusal.
 
 use std::io::{stdin, stdout, Read, Result, Write};
 use unrelated::check_sheet::{program, JUDGED_BYTES};

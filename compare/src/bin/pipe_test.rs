@@ -106,12 +106,14 @@ fn for_checks(random: &mut Random) -> Inputs {
     large.extend((check_sheet::JUDGED_BYTES - 1..=check_sheet::JUDGED_BYTES + 1).map(|length| filled(&small, b"1", length)));
 
     let nonsense = (0..400).map(|_| damage::check_input(random)).collect();
-    // A yard that has a plan gets its moves, of which none is spare.
+    // A yard that has a plan gets its moves, of which none is spare, and the report that its counts ask for.
     let judged = |yard: Yard| {
         let sheets = both(&yard);
-        let due = format!("moves spare\n{} 0\n", plan(&yard).len() / 2);
+        let accepted = planner::plan(&yard, usize::MAX).is_ok();
+        let (report, _) = if accepted && check_sheet::REPORTED { report::due(&yard) } else { Default::default() };
+        let due = format!("moves spare\n{} 0\n{report}", plan(&yard).len() / 2);
         let printed = check_sheet::program(&sheets);
-        let wrong = planner::plan(&yard, usize::MAX).is_ok() && printed != due.as_bytes();
+        let wrong = accepted && printed != due.as_bytes();
         (sheets, if wrong { Err(format!("the plan asks for {due:?}, due is {:?}", shown(&printed))) } else { Ok(()) })
     };
     Inputs {
