@@ -4,10 +4,9 @@
 #include <stdio.h>
 #include <stdlib.h>
 
-#include "javendriky.h"
+#include "javendriky_yard.h"
 
-static uint8_t sheet[5200]; /* more than JAVENDRIKY_MAX_SHEET_BYTES: the rest of a longer sheet changes no answer */
-static uint8_t parents[JAVENDRIKY_MAX_NODES], pebbles[JAVENDRIKY_MAX_NODES], targets[JAVENDRIKY_MAX_NODES], depths[JAVENDRIKY_MAX_NODES];
+static jv_yard yard;
 static uint8_t within[JAVENDRIKY_MAX_NODES];
 
 static void stop(int status, const char *what)
@@ -19,9 +18,10 @@ static void stop(int status, const char *what)
 /* The value of an accepted call; a refusal ends the program. */
 static uint32_t accepted(uint32_t answer)
 {
-    if (JAVENDRIKY_REFUSAL(answer) != 0) {
-        printf("refusal place\n%u %u\n", (unsigned)JAVENDRIKY_REFUSAL(answer), (unsigned)JAVENDRIKY_PLACE(answer));
-        stop(1, javendriky_refusal_text(answer));
+    jv_words words = jv_tell(answer);
+    if (jv_refused(answer)) {
+        printf("refusal place\n%u %u\n", words.number, words.place);
+        stop(1, words.sentence);
     }
     return answer;
 }
@@ -39,30 +39,25 @@ static unsigned long number(const char *word, unsigned long greatest)
 int main(int count, char **arguments)
 {
     unsigned long berth, tracks;
-    uint32_t n, node, distance, berths, cars = 0;
-    size_t bytes;
-    FILE *file;
+    uint32_t answer, node, distance, berths, cars = 0;
 
-    if (javendriky_version() != JAVENDRIKY_VERSION)
+    if (!jv_same_version())
         stop(2, "built with a header of another version than the library: build it with that library's header");
-    if (count != 4 || (file = fopen(arguments[1], "rb")) == NULL)
+    answer = count == 4 ? jv_read_file(&yard, arguments[1]) : JV_FILE_FAILED;
+    if (answer == JV_FILE_FAILED)
         stop(2, "name a yard sheet that can be read, a berth and a number of tracks");
-    bytes = fread(sheet, 1, sizeof sheet, file);
-    if (ferror(file))
-        stop(2, "the yard sheet could not be read");
-    fclose(file);
     berth = number(arguments[2], (unsigned long)-1);
     tracks = number(arguments[3], UINT16_MAX);
 
-    n = accepted(javendriky_read_sheet(sheet, bytes, parents, sizeof parents, pebbles, sizeof pebbles, targets, sizeof targets, depths, sizeof depths));
-    node = accepted(javendriky_nearest(parents, n, pebbles, n, targets, n, depths, n, berth, &distance));
+    accepted(answer);
+    node = accepted(jv_nearest(&yard, berth, &distance));
     printf("nearest car: berth %u, tracks %u\n", (unsigned)node, (unsigned)distance);
-    berths = accepted(javendriky_reach(parents, n, pebbles, n, targets, n, depths, n, within, n, berth, (uint16_t)tracks));
-    for (node = 0; node < n; node++)
+    berths = accepted(jv_reach(&yard, within, berth, (uint16_t)tracks));
+    for (node = 0; node < yard.n; node++)
         if (within[node] == 1)
-            cars += pebbles[node];
+            cars += yard.pebbles[node];
     printf("cars within reach: %u, berths that hold them (%u):", (unsigned)cars, (unsigned)berths);
-    for (node = 0; node < n; node++)
+    for (node = 0; node < yard.n; node++)
         if (within[node] == 1)
             printf(" %u", (unsigned)node);
     putchar('\n');

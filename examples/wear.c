@@ -4,10 +4,9 @@
 #include <stdio.h>
 #include <stdlib.h>
 
-#include "javendriky.h"
+#include "javendriky_yard.h"
 
-static uint8_t sheet[5200]; /* more than JAVENDRIKY_MAX_SHEET_BYTES: the rest of a longer sheet changes no answer */
-static uint8_t parents[JAVENDRIKY_MAX_NODES], pebbles[JAVENDRIKY_MAX_NODES], targets[JAVENDRIKY_MAX_NODES], depths[JAVENDRIKY_MAX_NODES];
+static jv_yard yard;
 static uint8_t plan[JAVENDRIKY_LONGEST_PLAN_BYTES];
 
 static void stop(int status, const char *what)
@@ -19,9 +18,10 @@ static void stop(int status, const char *what)
 /* The value of an accepted call; a refusal ends the program. */
 static uint32_t accepted(uint32_t answer)
 {
-    if (JAVENDRIKY_REFUSAL(answer) != 0) {
-        printf("refusal place\n%u %u\n", (unsigned)JAVENDRIKY_REFUSAL(answer), (unsigned)JAVENDRIKY_PLACE(answer));
-        stop(1, javendriky_refusal_text(answer));
+    jv_words words = jv_tell(answer);
+    if (jv_refused(answer)) {
+        printf("refusal place\n%u %u\n", words.number, words.place);
+        stop(1, words.sentence);
     }
     return answer;
 }
@@ -29,26 +29,21 @@ static uint32_t accepted(uint32_t answer)
 int main(int count, char **arguments)
 {
     unsigned long width;
-    uint32_t n, moves, crossings, first, edge;
-    size_t bytes;
+    uint32_t answer, moves, crossings, first, edge;
     char *end;
-    FILE *file;
 
-    if (javendriky_version() != JAVENDRIKY_VERSION)
+    if (!jv_same_version())
         stop(2, "built with a header of another version than the library: build it with that library's header");
-    if (count != 3 || (file = fopen(arguments[1], "rb")) == NULL)
+    answer = count == 3 ? jv_read_file(&yard, arguments[1]) : JV_FILE_FAILED;
+    if (answer == JV_FILE_FAILED)
         stop(2, "name a yard sheet that can be read, and a number of moves");
-    bytes = fread(sheet, 1, sizeof sheet, file);
-    if (ferror(file))
-        stop(2, "the yard sheet could not be read");
-    fclose(file);
     width = strtoul(arguments[2], &end, 10);
     if (arguments[2][0] < '0' || arguments[2][0] > '9' || *end != '\0' || width > UINT32_MAX)
         stop(2, "the number of moves is a whole number");
 
-    n = accepted(javendriky_read_sheet(sheet, bytes, parents, sizeof parents, pebbles, sizeof pebbles, targets, sizeof targets, depths, sizeof depths));
-    moves = accepted(javendriky_plan(parents, n, pebbles, n, targets, n, depths, n, plan, sizeof plan));
-    crossings = accepted(javendriky_wear(parents, n, pebbles, n, targets, n, depths, n, plan, 2 * (size_t)moves, (uint32_t)width, &first, &edge));
+    accepted(answer);
+    moves = accepted(jv_plan(&yard, plan, sizeof plan));
+    crossings = accepted(jv_wear(&yard, plan, 2 * (size_t)moves, (uint32_t)width, &first, &edge));
     printf("track %u, crossed %u times within %lu moves, from move %u on\n", (unsigned)edge, (unsigned)crossings, width, (unsigned)first);
     return 0;
 }
