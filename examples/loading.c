@@ -3,11 +3,10 @@
  * after it, or with its refusal and place and a sentence, after which everything is as before; at the end the yard sheet as it then is. `restart` goes on with
  * the demands of the start, as a console would that is started again in the middle: events are refused with 23 then, until `afresh` works them out anew. Status
  * 1 if the yard is refused, 2 if the library is not the header's or did not keep to it, or if the input could not be read. */
-#include <stdio.h>
-#include <stdlib.h>
 #include <string.h>
 
-#include "javendriky_yard.h"
+#define PROGRAM "loading"
+#include "console.h"
 
 static jv_yard yard;
 static int16_t demands[JAVENDRIKY_MAX_NODES], afresh[JAVENDRIKY_MAX_NODES], at_start[JAVENDRIKY_MAX_NODES];
@@ -21,23 +20,6 @@ static event_call *named(const char *word)
     if (strcmp(word, "set") == 0) return jv_target_set;
     if (strcmp(word, "cleared") == 0) return jv_target_cleared;
     return NULL;
-}
-
-static void stop(int status, const char *what)
-{
-    fprintf(stderr, "loading: %s\n", what);
-    exit(status);
-}
-
-/* The value of an accepted call; a refused yard ends the program. */
-static uint32_t accepted(uint32_t answer)
-{
-    jv_words words = jv_tell(answer);
-    if (jv_refused(answer)) {
-        printf("refusal place\n%u %u\n", words.number, words.place);
-        stop(1, words.sentence);
-    }
-    return answer;
 }
 
 /* After an accepted event the list is the one worked out afresh. */
@@ -62,12 +44,7 @@ int main(int count, char **arguments)
     unsigned long node;
     uint32_t answer;
 
-    if (!jv_same_version())
-        stop(2, "built with a header of another version than the library: build it with that library's header");
-    answer = count == 2 ? jv_read_file(&yard, arguments[1]) : JV_FILE_FAILED;
-    if (answer == JV_FILE_FAILED)
-        stop(2, "name a yard sheet that can be read");
-    accepted(answer);
+    read_yard(&yard, count == 2, arguments, "name a yard sheet that can be read");
     accepted(jv_demands(&yard, demands));
     memcpy(at_start, demands, sizeof demands);
     printf("at the start:");

@@ -1,30 +1,12 @@
 /* For a keeper at a berth: reads the yard sheet that is its first argument, and tells of the berth that is its second which car is nearest, and which are at most
  * so many tracks away as its third says: how many cars, and which berths hold them, as one can hold several. A refusal is told with its place and a sentence.
  * Status 1 if one of the two is refused, 2 if the library is not the header's, or if the input could not be read. */
-#include <stdio.h>
-#include <stdlib.h>
 
-#include "javendriky_yard.h"
+#define PROGRAM "nearby"
+#include "console.h"
 
 static jv_yard yard;
 static uint8_t within[JAVENDRIKY_MAX_NODES];
-
-static void stop(int status, const char *what)
-{
-    fprintf(stderr, "nearby: %s\n", what);
-    exit(status);
-}
-
-/* The value of an accepted call; a refusal ends the program. */
-static uint32_t accepted(uint32_t answer)
-{
-    jv_words words = jv_tell(answer);
-    if (jv_refused(answer)) {
-        printf("refusal place\n%u %u\n", words.number, words.place);
-        stop(1, words.sentence);
-    }
-    return answer;
-}
 
 /* A whole number from 0 to a greatest. */
 static unsigned long number(const char *word, unsigned long greatest)
@@ -39,17 +21,12 @@ static unsigned long number(const char *word, unsigned long greatest)
 int main(int count, char **arguments)
 {
     unsigned long berth, tracks;
-    uint32_t answer, node, distance, berths, cars = 0;
+    uint32_t node, distance, berths, cars = 0;
 
-    if (!jv_same_version())
-        stop(2, "built with a header of another version than the library: build it with that library's header");
-    answer = count == 4 ? jv_read_file(&yard, arguments[1]) : JV_FILE_FAILED;
-    if (answer == JV_FILE_FAILED)
-        stop(2, "name a yard sheet that can be read, a berth and a number of tracks");
+    read_yard(&yard, count == 4, arguments, "name a yard sheet that can be read, a berth and a number of tracks");
     berth = number(arguments[2], (unsigned long)-1);
     tracks = number(arguments[3], UINT16_MAX);
 
-    accepted(answer);
     node = accepted(jv_nearest(&yard, berth, &distance));
     printf("nearest car: berth %u, tracks %u\n", (unsigned)node, (unsigned)distance);
     berths = accepted(jv_reach(&yard, within, berth, (uint16_t)tracks));

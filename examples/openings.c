@@ -2,43 +2,20 @@
  * the one that it goes to. Before each choice it prints how many pushes are left at the least and which of them can come first; a choice among these is made, any other
  * is told and leaves the yard as it was. It ends when the cars are on the targets, or with the input. A refusal is told with its place and a sentence.
  * Status 1 if the yard is refused, 2 if the library is not the header's, or if the input could not be read. */
-#include <stdio.h>
-#include <stdlib.h>
 
-#include "javendriky_yard.h"
+#define PROGRAM "openings"
+#include "console.h"
 
 static jv_yard yard;
 static uint8_t openings[2 * JAVENDRIKY_MAX_NODES]; /* there are fewer openings than nodes */
 
-static void stop(int status, const char *what)
-{
-    fprintf(stderr, "openings: %s\n", what);
-    exit(status);
-}
-
-/* The value of an accepted call; a refusal ends the program. */
-static uint32_t accepted(uint32_t answer)
-{
-    jv_words words = jv_tell(answer);
-    if (jv_refused(answer)) {
-        printf("refusal place\n%u %u\n", words.number, words.place);
-        stop(1, words.sentence);
-    }
-    return answer;
-}
-
 int main(int count, char **arguments)
 {
-    uint32_t answer, left, list_bytes, k, i, chosen;
+    uint32_t left, list_bytes, k, i, chosen;
     unsigned from, to;
 
-    if (!jv_same_version())
-        stop(2, "built with a header of another version than the library: build it with that library's header");
-    answer = count == 2 ? jv_read_file(&yard, arguments[1]) : JV_FILE_FAILED;
-    if (answer == JV_FILE_FAILED)
-        stop(2, "name a yard sheet that can be read");
+    read_yard(&yard, count == 2, arguments, "name a yard sheet that can be read");
 
-    accepted(answer);
     for (;;) {
         left = accepted(jv_length_bound(&yard, &list_bytes));
         k = accepted(jv_openings(&yard, openings, sizeof openings));

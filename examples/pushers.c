@@ -2,10 +2,9 @@
  * Prints how many parts have moves, and each pusher's moves. As parts cannot disturb one another, neither pusher needs to know what the other does: here they take
  * turns, and the checker is asked what came of it. A refusal is told with its place and a sentence.
  * Status 1 if the yard is refused, 2 if the library is not the header's, or if the input could not be read. */
-#include <stdio.h>
-#include <stdlib.h>
 
-#include "javendriky_yard.h"
+#define PROGRAM "pushers"
+#include "console.h"
 
 #define PUSHERS 2
 
@@ -13,23 +12,6 @@ static jv_yard yard;
 static uint8_t plan[JAVENDRIKY_LONGEST_PLAN_BYTES], parts[JAVENDRIKY_MAX_NODES];
 static uint8_t own[PUSHERS][JAVENDRIKY_LONGEST_PLAN_BYTES], together[JAVENDRIKY_LONGEST_PLAN_BYTES];
 static size_t bytes_of[PUSHERS];
-
-static void stop(int status, const char *what)
-{
-    fprintf(stderr, "pushers: %s\n", what);
-    exit(status);
-}
-
-/* The value of an accepted call; a refusal ends the program. */
-static uint32_t accepted(uint32_t answer)
-{
-    jv_words words = jv_tell(answer);
-    if (jv_refused(answer)) {
-        printf("refusal place\n%u %u\n", words.number, words.place);
-        stop(1, words.sentence);
-    }
-    return answer;
-}
 
 /* Hands the move at a place of the plan on to a list, behind the bytes that it has. */
 static void hand_on(const uint8_t *from, size_t at, uint8_t *to, size_t *bytes)
@@ -41,17 +23,12 @@ static void hand_on(const uint8_t *from, size_t at, uint8_t *to, size_t *bytes)
 
 int main(int count, char **arguments)
 {
-    uint32_t answer, moves, moving = 0, excess;
+    uint32_t moves, moving = 0, excess;
     size_t at, done = 0;
     unsigned pusher = 0;
 
-    if (!jv_same_version())
-        stop(2, "built with a header of another version than the library: build it with that library's header");
-    answer = count == 2 ? jv_read_file(&yard, arguments[1]) : JV_FILE_FAILED;
-    if (answer == JV_FILE_FAILED)
-        stop(2, "name a yard sheet that can be read");
+    read_yard(&yard, count == 2, arguments, "name a yard sheet that can be read");
 
-    accepted(answer);
     moves = accepted(jv_plan_parts(&yard, plan, sizeof plan, parts));
 
     /* The moves of a part stand in a row: where one is in another part than the one before, a part begins. */
