@@ -23,11 +23,15 @@ part == "usage" {
     text = substr($0, 5)
     two = index(text, "  ")
     print ".TP\n.B " quoted(two ? substr(text, 1, two - 1) : text)
-    if (two) { sub(/^.*   */, "", text); line(text) }
+    if (two) {
+        text = substr(text, two)
+        sub(/^ +/, "", text)
+        line(text == "prints this" ? "prints this page in short" : text)
+    }
     next
 }
 part == "options" && /^     +/ { sub(/^ +/, ""); line($0); next }
-part == "options" && /[^ ]/ { print ".SH NOTES"; part = "text" }
+part == "options" && /[^ ]/ { if (!/^Status: /) print ".SH NOTES"; part = "text" }
 
 /^$/ { if (inside == "example") held++; else gap = 1; next }
 /^    / {
