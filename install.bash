@@ -1,6 +1,6 @@
 # shellcheck shell=bash disable=SC2034,SC2154 # name and top are the command's; it uses what is set here
-# What install, uninstall, release and examples/run share. A command sets name (its own) and top (this
-# folder), and sources this file.
+# What install, uninstall, release and examples/run share. A command sets name (its own) and top
+# (this folder), and sources this file.
 
 # The commands for people, of which those that are there are installed; and the programs under them.
 commands=(movesheet checksheet yardpicture mendsheet yardpage)
@@ -24,10 +24,10 @@ sources() {
     (cd "$top" && find crates.txt crates -path '*/must-fail' -prune -o -type f -print0 | LC_ALL=C sort -z | xargs -0 sha256sum | sha256sum | cut -d ' ' -f 1)
 }
 
-# Builds the programs and the library in target/ where they are missing, or were made from other sources
-# or with another kit. The kit tells of the programs what they were made from; of the library a file
-# here does, as the kit proves it anew each time. Without the kit, what was made from these sources is
-# taken.
+# Builds the programs and the library in target/ where they are missing, or were made from other
+# sources or with another kit. The kit tells of the programs what they were made from; of the
+# library a file here does, as the kit proves it anew each time. Without the kit, what was made from
+# these sources is taken.
 build_all() {
     local made=$top/target/made-from sum kit
     kit_run() { (cd "$top" && rt "$@" 2>&1) | sed -un "/ proved (unchanged /d; /^rt: ok, /d; s/^rt: /$name: /p" >&2; } # WORD…
@@ -45,8 +45,9 @@ build_all() {
     fi
 }
 
-# Links the shared library from the static one, whose code is position independent: -z text refuses it
-# if it is not. Only the calls are exported, and -z defs sees that nothing but the C library is missing.
+# Links the shared library from the static one, whose code is position independent: -z text refuses
+# it if it is not. Only the calls are exported, and -z defs sees that nothing but the C library is
+# missing.
 link_shared() { # FILE
     local script
     script=$(mktemp) || fail 'no temporary file can be made'

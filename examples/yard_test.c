@@ -1,7 +1,8 @@
-/* The header javendriky_yard.h, in C99 and in C++: each jv_ function answers, writes and leaves what
- * the javendriky_ call does with the four lists. On each yard sheet that is named, on yards that are
- * refused, and with nodes, plans and lists that are. Prints how many calls were compared, or names the
- * first that differs. Its status is 1 then, and 2 if a sheet cannot be read. */
+/* The header javendriky_yard.h, in C99 and in C++: each jv_ function answers, writes and leaves
+ * what the javendriky_ call does with the four lists. On each yard sheet that is named, on yards
+ * that are refused, and with nodes, plans and lists that are. Prints how many calls were
+ * compared, or names the first that differs. Its status is 1 then, and 2 if a sheet cannot be
+ * read. */
 #include <stdio.h>
 #include <stdlib.h>
 #include <string.h>
@@ -150,7 +151,8 @@ static void with_sheet(const char *path)
     with_yard();
 }
 
-/* Streams: a folder cannot be read, nothing can be written to a full one, and what is written can be read. */
+/* Streams: a folder cannot be read, nothing can be written to a full one, and what is written
+ * can be read. */
 static void with_streams(void)
 {
     static jv_yard left;

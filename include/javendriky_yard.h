@@ -1,9 +1,9 @@
-/* javendriky_yard.h: a yard in one argument. The calls of javendriky.h with the four lists of a yard
- * in a struct, for C99 and C++. Every function here is inline: include this file, and link the same
- * library. No function asks for memory.
+/* javendriky_yard.h: a yard in one argument. The calls of javendriky.h with the four lists of a
+ * yard in a struct, for C99 and C++. Every function here is inline: include this file, and link
+ * the same library. No function asks for memory.
  *
  *     jv_yard yard;
- *     uint8_t plan[JAVENDRIKY_LONGEST_PLAN_BYTES];
+ *     static uint8_t plan[JAVENDRIKY_LONGEST_PLAN_BYTES];
  *     uint32_t answer = jv_read_file(&yard, "my.yard");
  *     if (!jv_refused(answer))
  *         answer = jv_plan(&yard, plan, sizeof plan);
@@ -13,14 +13,14 @@
  *     else
  *         printf("%u moves\n", (unsigned)answer);
  *
- * Names. `jv_x` calls `javendriky_x`, answers what it answers and writes what it writes: javendriky.h
- * tells what that is, and in which order a call refuses. Two things differ. The yard is one argument,
- * the first. A list that must have an entry for each node (parts, demands, reach), and the cabinet's
- * registers, are passed without their length: lend yard->n entries, or JAVENDRIKY_BLOCK_BYTES.
- * A list of JAVENDRIKY_MAX_NODES entries is always enough.
+ * Names. `jv_x` calls `javendriky_x`, answers what it answers and writes what it writes:
+ * javendriky.h tells what that is, and in which order a call refuses. Two things differ. The
+ * yard is one argument, the first. A list that must have an entry for each node (parts, demands,
+ * reach), and the cabinet's registers, are passed without their length: lend yard->n entries, or
+ * JAVENDRIKY_BLOCK_BYTES. A list of JAVENDRIKY_MAX_NODES entries is always enough.
  *
- * With JV_NO_STDIO defined before the file is included, <stdio.h> is left out, and so are jv_read_file,
- * jv_read_stream and jv_write_stream: for a cabinet without files. */
+ * With JV_NO_STDIO defined before the file is included, <stdio.h> is left out, and so are
+ * jv_read_file, jv_read_stream and jv_write_stream: for a cabinet without files. */
 #ifndef JAVENDRIKY_YARD_H
 #define JAVENDRIKY_YARD_H
 
@@ -30,8 +30,8 @@
 #include <stdio.h>
 #endif
 
-/* A yard: n nodes, and in each list the first n entries. It can be copied by assignment. With n above
- * JAVENDRIKY_MAX_NODES every function refuses it with JAVENDRIKY_NODE_COUNT (1). */
+/* A yard: n nodes, and in each list the first n entries. It can be copied by assignment. A call
+ * refuses a yard with n above JAVENDRIKY_MAX_NODES with JAVENDRIKY_NODE_COUNT (1). */
 typedef struct jv_yard {
     size_t n;
     uint8_t parents[JAVENDRIKY_MAX_NODES];
@@ -40,8 +40,8 @@ typedef struct jv_yard {
     uint8_t depths[JAVENDRIKY_MAX_NODES];
 } jv_yard;
 
-/* What jv_read_file, jv_read_stream and jv_write_stream answer if the file cannot be read or written.
- * It is a refusal with a number, 999, that no call of javendriky.h has. */
+/* What jv_read_file, jv_read_stream and jv_write_stream answer if the file cannot be read or
+ * written. It is a refusal with a number, 999, that no call of javendriky.h has. */
 #define JV_FILE_FAILED 999000000u
 
 /* An answer in words. Of an accepted call the number and the place are 0, and the sentence says
@@ -78,12 +78,13 @@ static inline int jv_same_version(void)
 
 /* The yard as four lists with their lengths, in the order of the calls. */
 #define JV_LISTS(yard) \
-    (yard)->parents, (yard)->n, (yard)->pebbles, (yard)->n, (yard)->targets, (yard)->n, (yard)->depths, (yard)->n
+    (yard)->parents, (yard)->n, (yard)->pebbles, (yard)->n, \
+    (yard)->targets, (yard)->n, (yard)->depths, (yard)->n
 
 /* ---- Yard sheets */
 
-/* Reads the yard sheet in `sheet`. Answers the number of nodes, which is yard->n then. A refusal leaves
- * the yard as it was. Whether the lists are a yard is not tested: jv_test_yard does that. */
+/* Reads the yard sheet in `sheet`. Answers the number of nodes, which is yard->n then. A refusal
+ * leaves the yard as it was. Whether the lists are a yard is not tested: jv_test_yard does that. */
 static inline uint32_t jv_read_sheet(jv_yard *yard, const void *sheet, size_t sheet_len)
 {
     uint32_t answer = javendriky_read_sheet((const uint8_t *)sheet, sheet_len,
@@ -103,9 +104,9 @@ static inline uint32_t jv_write_sheet(const jv_yard *yard, void *sheet, size_t s
 }
 
 #ifndef JV_NO_STDIO
-/* Reads the yard sheet that a stream holds up to its end. Of a longer input the first 5,200 bytes are
- * read, more than any sheet has; the rest would change no answer (proved, as read-cut in
- * crates/laws/proofs). They stand on the stack. JV_FILE_FAILED if the stream cannot be read. */
+/* Reads the yard sheet that a stream holds up to its end. Of a longer input the first 5,200
+ * bytes are read, more than any sheet has; the rest would change no answer (proved, as read-cut
+ * in crates/laws/proofs). They stand on the stack. JV_FILE_FAILED if the stream cannot be read. */
 static inline uint32_t jv_read_stream(jv_yard *yard, FILE *stream)
 {
     uint8_t sheet[5200];
@@ -125,8 +126,9 @@ static inline uint32_t jv_read_file(jv_yard *yard, const char *path)
     return answer;
 }
 
-/* Writes the yard sheet of the yard to a stream, and answers its bytes. A refused yard writes nothing.
- * JV_FILE_FAILED if the stream takes fewer bytes; what it keeps back shows when it is closed. */
+/* Writes the yard sheet of the yard to a stream, and answers its bytes. A refused yard writes
+ * nothing. JV_FILE_FAILED if the stream takes fewer bytes; what it keeps back shows when it is
+ * closed. */
 static inline uint32_t jv_write_stream(const jv_yard *yard, FILE *stream)
 {
     uint8_t sheet[JAVENDRIKY_MAX_SHEET_BYTES];

@@ -15,7 +15,8 @@ part == "usage" {
     next
 }
 
-# The options: '    -h, --help  prints this', perhaps with further lines, each with more spaces in front.
+# The options: '    -h, --help  prints this', perhaps with further lines, each with more spaces in
+# front.
 /^    -/ {
     leave()
     if (part != "options") print ".SH OPTIONS"
