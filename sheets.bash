@@ -3,6 +3,18 @@
 # wrong with a refused sheet and how that came to be. A command sets name (its own) and top (this folder), sources this file and has a function usage.
 
 worked=$top/examples/yards/a.yard
+# In the source tree a program is built where it is needed. Installed, the programs stand below the
+# commands' folder, which has no sources.
+programs=$top/target/bin
+[ -e "$top/crates.txt" ] || programs=$top/programs
+
+# Which release this is. The file version is the installed commands'.
+version() {
+    if [ -e "$top/version" ]; then echo "$name $(<"$top/version")"; return; fi
+    echo "$name $( ([ -e "$top/.git" ] && git -C "$top" describe --tags --always --dirty --abbrev=12) 2>/dev/null || echo unknown)," \
+        "calls $(sed -n 's/^#define JAVENDRIKY_VERSION //p' "$top/include/javendriky.h")," \
+        "conformance set $(<"$top/conformance/VERSION")"
+}
 
 say() { echo "$name: $*" >&2; }
 fail() { say "$@"; exit 2; }
@@ -10,7 +22,12 @@ fail() { say "$@"; exit 2; }
 # Sets files: what is named behind the options. A file that is named as an option would be is a file.
 arguments() { # ARGUMENT…
     case ${1-} in
-    -h | --help) usage; exit ;;
+    -h | --help)
+        usage
+        echo '    --version   prints which release this is, with its versions of calls and conformance set'
+        [ ! -e "$top/crates.txt" ] || printf '\nThe first time it proves and builds its program, which takes a few minutes.\n'
+        exit ;;
+    --version) version; exit ;;
     --) shift ;;
     -?*) [ -e "$1" ] || fail "there is no option $1, nor a file of that name: '$name --help' tells how it is used" ;;
     esac
@@ -38,7 +55,8 @@ take() { # KIND BYTES COPY FILE
 # Sets program. The crates are those that it is made from.
 build() { # PROGRAM WHAT CRATE…
     local what=$2 crates
-    program=$top/target/bin/$1
+    program=$programs/$1
+    if [ ! -e "$top/crates.txt" ]; then [ -x "$program" ] || fail "$what is missing, the file $program: install Javendriky anew"; return 0; fi
     crates=("${@:3}" "$1")
     if [ -x "$program" ] && [ -z "$(cd "$top" && find crates.txt "${crates[@]/#/crates/}" -newer "$program" -print -quit)" ]; then return; fi
     command -v rt >/dev/null || fail "the Rattle kit is missing, and $what is still to be built with it: unpack the kit (rattle-kit-5) and put its folder bin/, which holds the command rt, on the PATH"

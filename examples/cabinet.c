@@ -6,11 +6,9 @@
 #include <stdlib.h>
 #include <string.h>
 
-#include "javendriky.h"
+#include "javendriky_yard.h"
 
-static uint8_t sheet[5200]; /* more than JAVENDRIKY_MAX_SHEET_BYTES: the rest of a longer input changes no answer */
-static uint8_t parents[JAVENDRIKY_MAX_NODES], pebbles[JAVENDRIKY_MAX_NODES], targets[JAVENDRIKY_MAX_NODES], depths[JAVENDRIKY_MAX_NODES];
-static uint8_t start[JAVENDRIKY_MAX_NODES], before[JAVENDRIKY_MAX_NODES];
+static jv_yard yard, start, before; /* as it is, at the start, and before a stall */
 static uint8_t registers[JAVENDRIKY_BLOCK_BYTES];
 static uint8_t plan[JAVENDRIKY_LONGEST_PLAN_BYTES], again[JAVENDRIKY_LONGEST_PLAN_BYTES];
 static int16_t demands[JAVENDRIKY_MAX_NODES]; /* at the start */
@@ -19,9 +17,10 @@ static unsigned up[JAVENDRIKY_MAX_NODES], down[JAVENDRIKY_MAX_NODES]; /* crossin
 /* The value of an accepted call; a refusal ends the program. */
 static uint32_t accepted(uint32_t answer)
 {
-    if (JAVENDRIKY_REFUSAL(answer) != 0) {
-        printf("refusal place\n%u %u\n", (unsigned)JAVENDRIKY_REFUSAL(answer), (unsigned)JAVENDRIKY_PLACE(answer));
-        fprintf(stderr, "cabinet: refused, place %u: %s.\n", (unsigned)JAVENDRIKY_PLACE(answer), javendriky_refusal_text(answer));
+    jv_words words = jv_tell(answer);
+    if (jv_refused(answer)) {
+        printf("refusal place\n%u %u\n", words.number, words.place);
+        fprintf(stderr, "cabinet: refused, place %u: %s.\n", words.place, words.sentence);
         exit(1);
     }
     return answer;
@@ -36,10 +35,10 @@ static void expect(const char *what, int holds)
 }
 
 /* One step of the cabinet: whether the line is raised. */
-static int step(uint32_t n, uint32_t moves, uint8_t command, uint8_t failed)
+static int step(uint32_t moves, uint8_t command, uint8_t failed)
 {
     registers[JAVENDRIKY_REGISTER_COMMAND] = command;
-    return accepted(javendriky_step(parents, n, pebbles, n, targets, n, depths, n, plan, 2 * moves, registers, sizeof registers, failed)) == 1;
+    return accepted(jv_step(&yard, plan, 2 * moves, registers, failed)) == 1;
 }
 
 static int is(uint8_t status, uint8_t flags)
@@ -48,23 +47,23 @@ static int is(uint8_t status, uint8_t flags)
 }
 
 /* A car does not arrive: the step stalls, which raises the line and leaves all cars; once it is acknowledged the same move is next. */
-static void stall(uint32_t n, uint32_t moves)
+static void stall(uint32_t moves)
 {
     uint32_t left = javendriky_moves_left(registers);
-    memcpy(before, pebbles, n);
-    expect("a stall raises the line", step(n, moves, JAVENDRIKY_COMMAND_NONE, 1) && is(JAVENDRIKY_STATUS_STALLED, JAVENDRIKY_FLAG_STALLED));
-    expect("a stalled step changes nothing", step(n, moves, JAVENDRIKY_COMMAND_NONE, 0) && is(JAVENDRIKY_STATUS_STALLED, JAVENDRIKY_FLAG_STALLED));
-    expect("acknowledged, it runs", !step(n, moves, JAVENDRIKY_COMMAND_ACKNOWLEDGE, 0) && is(JAVENDRIKY_STATUS_RUNNING, 0));
-    expect("no car has moved", memcmp(before, pebbles, n) == 0 && javendriky_moves_left(registers) == left);
+    before = yard;
+    expect("a stall raises the line", step(moves, JAVENDRIKY_COMMAND_NONE, 1) && is(JAVENDRIKY_STATUS_STALLED, JAVENDRIKY_FLAG_STALLED));
+    expect("a stalled step changes nothing", step(moves, JAVENDRIKY_COMMAND_NONE, 0) && is(JAVENDRIKY_STATUS_STALLED, JAVENDRIKY_FLAG_STALLED));
+    expect("acknowledged, it runs", !step(moves, JAVENDRIKY_COMMAND_ACKNOWLEDGE, 0) && is(JAVENDRIKY_STATUS_RUNNING, 0));
+    expect("no car has moved", memcmp(before.pebbles, yard.pebbles, yard.n) == 0 && javendriky_moves_left(registers) == left);
 }
 
 /* One move: obeyed by a step, which shows it; printed, and counted at the edge that it crosses. */
-static int obey(uint32_t n, uint32_t moves)
+static int obey(uint32_t moves)
 {
-    int raised = step(n, moves, JAVENDRIKY_COMMAND_NONE, 0);
+    int raised = step(moves, JAVENDRIKY_COMMAND_NONE, 0);
     uint8_t from = registers[JAVENDRIKY_REGISTER_FROM], to = registers[JAVENDRIKY_REGISTER_TO];
     printf("%u %u\n", (unsigned)from, (unsigned)to);
-    if (parents[from] == to)
+    if (yard.parents[from] == to)
         up[from]++;
     else
         down[to]++;
@@ -72,28 +71,28 @@ static int obey(uint32_t n, uint32_t moves)
 }
 
 /* The whole run: the line is raised at its end, and not before, as the mask lets both flags through. */
-static void drive(uint32_t n, uint32_t moves)
+static void drive(uint32_t moves)
 {
     uint32_t i;
     int raised;
     registers[JAVENDRIKY_REGISTER_MASK] = JAVENDRIKY_FLAG_FINISHED | JAVENDRIKY_FLAG_STALLED;
-    raised = step(n, moves, JAVENDRIKY_COMMAND_START, 0);
+    raised = step(moves, JAVENDRIKY_COMMAND_START, 0);
     for (i = 0; i < moves; i++) {
         expect("it runs until the last move", !raised && is(JAVENDRIKY_STATUS_RUNNING, 0) && javendriky_moves_left(registers) == moves - i);
         if (i == moves / 2)
-            stall(n, moves);
-        raised = obey(n, moves);
+            stall(moves);
+        raised = obey(moves);
     }
     expect("it is idle and says so", raised && is(JAVENDRIKY_STATUS_IDLE, JAVENDRIKY_FLAG_FINISHED) && javendriky_moves_left(registers) == 0);
 }
 
 /* The crossing report. An edge ('track' there) has the number of its lower node, so the root has none. */
-static void report(uint32_t n, uint32_t moves)
+static void report(uint32_t moves)
 {
     uint32_t node;
     puts("track up down");
-    for (node = 0; node < n; node++) {
-        if (parents[node] == node)
+    for (node = 0; node < yard.n; node++) {
+        if (yard.parents[node] == node)
             continue;
         expect("each edge is crossed one way only", up[node] == 0 || down[node] == 0);
         expect("as often as its demand says", (int)down[node] - (int)up[node] == demands[node]);
@@ -103,11 +102,11 @@ static void report(uint32_t n, uint32_t moves)
 }
 
 /* A plan list one byte too short is refused with the moves needed, and nothing is written. */
-static void too_short(uint32_t n, uint32_t moves)
+static void too_short(uint32_t moves)
 {
     uint32_t answer;
     memset(again, 0, sizeof again);
-    answer = javendriky_plan(parents, n, start, n, targets, n, depths, n, again, 2 * moves - 1);
+    answer = jv_plan(&start, again, 2 * moves - 1);
     expect("a short list is refusal 8", JAVENDRIKY_REFUSAL(answer) == JAVENDRIKY_LIST_TOO_SHORT);
     expect("its place is the moves needed", JAVENDRIKY_PLACE(answer) == moves);
     expect("it is left as it was", again[0] == 0 && memcmp(again, again + 1, sizeof again - 1) == 0);
@@ -116,7 +115,7 @@ static void too_short(uint32_t n, uint32_t moves)
 /* A library of another version has other calls under the same names, so nothing else is called before this. */
 static void same_version(void)
 {
-    if (javendriky_version() != JAVENDRIKY_VERSION) {
+    if (!jv_same_version()) {
         fprintf(stderr, "cabinet: built with version %u of javendriky.h but linked to version %u of the library: build it with that library's header\n",
                 (unsigned)JAVENDRIKY_VERSION, (unsigned)javendriky_version());
         exit(2);
@@ -125,29 +124,28 @@ static void same_version(void)
 
 int main(void)
 {
-    size_t bytes;
-    uint32_t n, moves, needed;
+    uint32_t answer, moves, needed;
 
     same_version();
-    bytes = fread(sheet, 1, sizeof sheet, stdin);
-    expect("standard input can be read", !ferror(stdin));
-    n = accepted(javendriky_read_sheet(sheet, bytes, parents, sizeof parents, pebbles, sizeof pebbles, targets, sizeof targets, depths, sizeof depths));
+    answer = jv_read_stream(&yard, stdin);
+    expect("standard input can be read", answer != JV_FILE_FAILED);
+    accepted(answer);
     /* The bytes of the plan are known before it is made: a cabinet with little memory lends just those. */
-    moves = accepted(javendriky_length_bound(parents, n, pebbles, n, targets, n, depths, n, &needed));
-    expect("no plan is longer", moves <= javendriky_longest_plan(n) && needed <= sizeof plan);
-    expect("the plan is as long as told", javendriky_plan(parents, n, pebbles, n, targets, n, depths, n, plan, needed) == moves);
-    expect("the checker accepts the plan", javendriky_check(parents, n, pebbles, n, targets, n, depths, n, plan, 2 * moves) == 0);
-    expect("no move is spare", javendriky_excess(parents, n, pebbles, n, targets, n, depths, n, plan, 2 * moves) == 0);
+    moves = accepted(jv_length_bound(&yard, &needed));
+    expect("no plan is longer", moves <= javendriky_longest_plan(yard.n) && needed <= sizeof plan);
+    expect("the plan is as long as told", jv_plan(&yard, plan, needed) == moves);
+    expect("the checker accepts the plan", jv_check(&yard, plan, 2 * moves) == 0);
+    expect("no move is spare", jv_excess(&yard, plan, 2 * moves) == 0);
 
-    accepted(javendriky_demands(parents, n, pebbles, n, targets, n, depths, n, demands, n));
+    accepted(jv_demands(&yard, demands));
 
-    memcpy(start, pebbles, n);
+    start = yard;
     puts("from to");
-    drive(n, moves);
-    report(n, moves);
-    expect("each node holds as many pebbles as its target count", memcmp(pebbles, targets, n) == 0);
-    expect("there is nothing left to do", javendriky_plan(parents, n, pebbles, n, targets, n, depths, n, plan, 0) == 0);
+    drive(moves);
+    report(moves);
+    expect("each node holds as many pebbles as its target count", memcmp(yard.pebbles, yard.targets, yard.n) == 0);
+    expect("there is nothing left to do", jv_plan(&yard, plan, 0) == 0);
     if (moves > 0)
-        too_short(n, moves);
+        too_short(moves);
     return 0;
 }

@@ -2,34 +2,16 @@
  * Prints how many parts have moves, and each pusher's moves. As parts cannot disturb one another, neither pusher needs to know what the other does: here they take
  * turns, and the checker is asked what came of it. A refusal is told with its place and a sentence.
  * Status 1 if the yard is refused, 2 if the library is not the header's, or if the input could not be read. */
-#include <stdio.h>
-#include <stdlib.h>
 
-#include "javendriky.h"
+#define PROGRAM "pushers"
+#include "console.h"
 
 #define PUSHERS 2
 
-static uint8_t sheet[5200]; /* more than JAVENDRIKY_MAX_SHEET_BYTES: the rest of a longer sheet changes no answer */
-static uint8_t parents[JAVENDRIKY_MAX_NODES], pebbles[JAVENDRIKY_MAX_NODES], targets[JAVENDRIKY_MAX_NODES], depths[JAVENDRIKY_MAX_NODES];
+static jv_yard yard;
 static uint8_t plan[JAVENDRIKY_LONGEST_PLAN_BYTES], parts[JAVENDRIKY_MAX_NODES];
 static uint8_t own[PUSHERS][JAVENDRIKY_LONGEST_PLAN_BYTES], together[JAVENDRIKY_LONGEST_PLAN_BYTES];
 static size_t bytes_of[PUSHERS];
-
-static void stop(int status, const char *what)
-{
-    fprintf(stderr, "pushers: %s\n", what);
-    exit(status);
-}
-
-/* The value of an accepted call; a refusal ends the program. */
-static uint32_t accepted(uint32_t answer)
-{
-    if (JAVENDRIKY_REFUSAL(answer) != 0) {
-        printf("refusal place\n%u %u\n", (unsigned)JAVENDRIKY_REFUSAL(answer), (unsigned)JAVENDRIKY_PLACE(answer));
-        stop(1, javendriky_refusal_text(answer));
-    }
-    return answer;
-}
 
 /* Hands the move at a place of the plan on to a list, behind the bytes that it has. */
 static void hand_on(const uint8_t *from, size_t at, uint8_t *to, size_t *bytes)
@@ -41,22 +23,13 @@ static void hand_on(const uint8_t *from, size_t at, uint8_t *to, size_t *bytes)
 
 int main(int count, char **arguments)
 {
-    uint32_t n, moves, moving = 0, excess;
-    size_t bytes, at, done = 0;
+    uint32_t moves, moving = 0, excess;
+    size_t at, done = 0;
     unsigned pusher = 0;
-    FILE *file;
 
-    if (javendriky_version() != JAVENDRIKY_VERSION)
-        stop(2, "built with a header of another version than the library: build it with that library's header");
-    if (count != 2 || (file = fopen(arguments[1], "rb")) == NULL)
-        stop(2, "name a yard sheet that can be read");
-    bytes = fread(sheet, 1, sizeof sheet, file);
-    if (ferror(file))
-        stop(2, "the yard sheet could not be read");
-    fclose(file);
+    read_yard(&yard, count == 2, arguments, "name a yard sheet that can be read");
 
-    n = accepted(javendriky_read_sheet(sheet, bytes, parents, sizeof parents, pebbles, sizeof pebbles, targets, sizeof targets, depths, sizeof depths));
-    moves = accepted(javendriky_plan_parts(parents, n, pebbles, n, targets, n, depths, n, plan, sizeof plan, parts, n));
+    moves = accepted(jv_plan_parts(&yard, plan, sizeof plan, parts));
 
     /* The moves of a part stand in a row: where one is in another part than the one before, a part begins. */
     for (at = 0; at < 2 * (size_t)moves; at += 2) {
@@ -78,7 +51,7 @@ int main(int count, char **arguments)
         for (pusher = 0; pusher < PUSHERS; pusher++)
             if (at < bytes_of[pusher])
                 hand_on(own[pusher], at, together, &done);
-    excess = accepted(javendriky_excess(parents, n, pebbles, n, targets, n, depths, n, together, done));
+    excess = accepted(jv_excess(&yard, together, done));
     printf("taking turns: %u moves, %u of them spare\n", (unsigned)moves, (unsigned)excess);
     return 0;
 }
