@@ -223,7 +223,7 @@ function arrow(way, from, to, y, count,    middle, at) {
     if (way == "down") printf "<path class=\"down\" d=\"M%d %dH%d\"/><path class=\"downhead\" d=\"M%d %dv10l8 -5z\"/>", from + 4, at, to - 10, to - 11, at - 5
     else printf "<path class=\"up\" d=\"M%d %dH%d\"/><path class=\"uphead\" d=\"M%d %dv10l-8 -5z\"/>", to - 4, at, from + 10, from + 11, at - 5
     printf "<rect class=\"under\" x=\"%d\" y=\"%d\" width=\"%d\" height=\"10\"/>", middle - int(count_width / 2), at - 5, count_width
-    printf "<text class=\"%stimes\" x=\"%d\" y=\"%d\">%d</text>", way, middle, at + 4, count
+    printf "<text class=\"%stimes\" x=\"%d\" y=\"%d\">%s</text>", way, middle, at + 4, count
 }
 
 function berth(b,    p, x, y, i) {
@@ -263,21 +263,21 @@ function mark(x, y, kind, target) {
     if (target) printf "<circle class=\"%s\" cx=\"%d\" cy=\"%d\" r=\"3\"/>", kind == "car" ? "on" : "ring", x + place / 2, y + place / 2
 }
 
-# The head and the legend, with all that is drawn; gives the height that they take. A line each, so
-# that a page can be as narrow as its yard.
-function legend(said,    y) {
-    printf "<text class=\"head\" x=\"%d\" y=\"28\">%s</text>\n", margin, said
-    y = 52
-    key_box = box_height
+# The head, which a page has of its own, and the legend, with all that is drawn; gives the height
+# that they take.
+function legend(said,    y, tall) {
+    if (!so_far) printf "<text class=\"head\" x=\"%d\" y=\"28\">%s</text>\n", margin, said
+    y = legend_top()
+    tall = box_height
     box_height = 24
     box("box", margin, y, 50, y, 7)
     mark(place_x(margin, 0), y - place / 2, "free", 0)
     words(76, y, "berth 7 and its place for a car; the root is at the left, children stand right of their parent")
     y += 26
     key(margin, y, "car", 0, "car that stays")
-    key(196, y, "moving", 0, planned ? "car that the plan moves" : "")
+    if (planned) key(196, y, "moving", 0, "car that the plan moves")
     key(396, y, "car", 1, "car that stays, on a target")
-    key(606, y, "moving", 1, planned ? "car on a target, and yet moved" : "")
+    if (planned) key(606, y, "moving", 1, "car on a target, and yet moved")
     y += 26
     key(margin, y, "free", 0, "empty place")
     key(196, y, "free", 1, "target without a car")
@@ -285,12 +285,21 @@ function legend(said,    y) {
     printf "<path class=\"rail\" d=\"M%d %dH%d\"/>", margin, y, margin + 60
     words(margin + 68, y, planned ? "track that no push crosses" : "track")
     if (planned) {
-        printf "<path class=\"rail\" d=\"M296 %dH366\"/>", y
-        arrow("down", 296, 366, y, 3)
-        words(374, y, "crossed 3 times away from the root")
-        printf "<path class=\"rail\" d=\"M606 %dH676\"/>", y
-        arrow("up", 606, 676, y, 3)
-        words(684, y, "crossed 3 times towards the root")
+        printf "<path class=\"rail\" d=\"M286 %dH366\"/>", y
+        arrow("down", 286, 366, y, so_far ? "2/3" : 3)
+        words(374, y, so_far ? "crossed away from the root, 2 of 3 times" : "crossed 3 times away from the root")
+        printf "<path class=\"rail\" d=\"M606 %dH686\"/>", y
+        arrow("up", 606, 686, y, so_far ? "2/3" : 3)
+        words(694, y, so_far ? "crossed towards the root, 2 of 3 times" : "crossed 3 times towards the root")
+    }
+    if (so_far) {
+        y += 26
+        printf "<g class=\"berth left\">"
+        box("box", margin, y, 32, y, 5)
+        printf "</g><g class=\"track current\"><path class=\"rail\" d=\"M%d %dH%d\"/></g><g class=\"berth entered\">", margin + 32, y, margin + 72
+        box("box", margin + 72, y, 32, y, 6)
+        print "</g>"
+        words(margin + 112, y, "the push that is shown: a car went from berth 5 to berth 6")
     }
     if (any_spare()) {
         y += 26
@@ -302,16 +311,17 @@ function legend(said,    y) {
         box("elsewhere", margin, y, 32, y, 9)
         words(60, y, "berth 9, whose cars are drawn in another part")
     }
-    box_height = key_box
+    box_height = tall
     printf "<rect width=\"%d\" height=\"1\" y=\"%d\" fill=\"#ccc\"/>\n", picture_width(), y + 24
-    return y + 24 + 20
+    return y + 44
 }
+function legend_top() { return so_far ? 24 : 52 }
+function legend_height() { return legend_top() + 26 * (3 + so_far + any_spare() + (parts > 1)) + 44 }
 function any_spare(    b) {
     for (b = 0; b < berths; b++) if (up[b] > 0 && down[b] > 0) return 1
     return 0
 }
 function key(x, y, kind, target, text) {
-    if (text == "") return
     mark(x, y - place / 2, kind, target)
     words(x + 20, y, text)
 }
@@ -343,7 +353,8 @@ function style() {
 }
 
 # A picture as it stands in a file of its own, or in a page.
-function picture(said,    height, top) {
+function picture(said,    height) {
+    so_far += 0
     height = legend_height() + bottom + 8
     printf "<svg xmlns=\"http://www.w3.org/2000/svg\" width=\"%d\" height=\"%d\" viewBox=\"0 0 %d %d\">\n", picture_width(), height, picture_width(), height
     print "<title>Kiln yard: " said "</title>"
@@ -351,11 +362,8 @@ function picture(said,    height, top) {
     style()
     print "</style>"
     printf "<rect width=\"%d\" height=\"%d\" fill=\"#fff\"/>\n", picture_width(), height
-    top = legend(said)
-    draw(top)
+    draw(legend(said))
     print "</svg>"
 }
-function legend_height() { return 52 + 26 * (3 + any_spare() + (parts > 1)) + 44 }
-
 function counted(n, one, many) { return (n == 0 ? "no" : n) " " (n == 1 ? one : many) }
 function stands(n, one, many) { return n > 1 ? n " cars " many : (n == 1 ? "1" : "no") " car " one }
