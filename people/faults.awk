@@ -36,7 +36,7 @@ BEGIN {
 }
 END {
     lines = NR
-    if (ENVIRON["CUT"] + 0) lines-- # the last line may be cut
+    if (ENVIRON["CUT"] + 0 && lines > 1) lines-- # the last line may be cut
     if (lines == 0) { print what " is empty"; exit }
     first = 2 # the first line after the header
     if (number == 15 && strange()) { print "it is no " (yard ? "yard" : "move") " sheet: line 1" of " is " quoted(raw[1]) ", and no line begins with a number"; exit }
@@ -89,7 +89,7 @@ function header(    h, l, i, ours, theirs, count) {
     else if (h == "refusal place") { first = 0; print "this is what movesheet prints for a refused yard sheet, and has no moves: mend the yard sheet first" }
     else if (yard && (h == "from to" || h == "track up down")) { first = 0; print "this is what movesheet prints: hand in the yard sheet that it was made from" }
     else if (!yard && (h ~ /^berth/ || five(h))) { first = 0; print "this is a yard sheet: hand in the move sheet after it" }
-    else if (h ~ /^[0-9]/) {
+    else if (h ~ /^[0-9]/ && length(h) < 100) {
         first = 1
         print "the header is missing: line 1" of ", " quoted(raw[1]) ", is " (yard ? "a berth's line" : "a move") " already. Write the line '" head "' above it"
     } else if (yard && h == "berth parent car target") {
@@ -156,6 +156,7 @@ function good(text,    v, i) {
     return 1
 }
 function value_faults(text, is_first,    i, c, at_character, word, begun, count, sound, told, before, c_fault) {
+    if (length(text) > 400) return "it is " length(text) " characters long, and " values
     if (is_first && substr(text, 1, 3) == "\357\273\277") text = substr(text, 4)
     text = text " "
     told = word = before = ""
