@@ -1,6 +1,8 @@
 # shellcheck shell=bash disable=SC2154 # name and top are the command's
-# What the commands for people share: how they tell something, take a sheet, build a program where it is missing or older than its sources, and say what is
-# wrong with a refused sheet and how that came to be. A command sets name (its own) and top (this folder), sources this file and has a function usage.
+# What the commands for people share: how they tell something, take a sheet, build a program where
+# it is missing or older than its sources, and say what is wrong with a refused sheet and how that
+# came to be. A command sets name (its own) and top (this folder), sources this file and has a
+# function usage.
 
 worked=$top/examples/yards/a.yard
 most_yard=65536 # bytes of a yard sheet that are taken; the move program judges the first 5,200
@@ -8,7 +10,8 @@ most_yard=65536 # bytes of a yard sheet that are taken; the move program judges 
 say() { echo "$name: $*" >&2; }
 fail() { say "$@"; exit 2; }
 
-# Sets files: what is named behind the options. A file that is named as an option would be is a file.
+# Sets files: what is named after the options. A file that is named as an option would be is a
+# file.
 arguments() { # ARGUMENT…
     case ${1-} in
     -h | --help) usage; exit ;;

@@ -25,7 +25,8 @@ told() { # STATUS OUT ERR COMMAND…
 }
 input() { local file=$1; shift; "$@" <"$file"; } # FILE COMMAND…
 
-# A copy of a file that may not be read, and what to put before a command so that this holds for root too.
+# A copy of a file that may not be read, and what to put before a command so that this holds for
+# root too.
 lock() { # FILE COPY
     cp "$1" "$2"
     chmod 0 "$2"
@@ -33,7 +34,8 @@ lock() { # FILE COPY
     if [ -r "$2" ]; then as=(setpriv '--bounding-set=-dac_override,-dac_read_search'); fi # root reads everything
 }
 
-# A fresh copy of a command in the folder fresh, where its program is missing, and a command rt in kit that only says that it was called.
+# A fresh copy of a command in the folder fresh, where its program is missing, and a command rt in
+# kit that only says that it was called.
 make_fresh() { # COMMAND
     mkdir -p fresh/crates kit
     cp -r "$top/$1" "$top/sheets.bash" "$top/people" "$top/crates.txt" fresh

@@ -36,8 +36,8 @@ function by_accounts(    b, a, own, out, stays) {
 function least(a, b) { return a < b ? a : b }
 function most_of(a, b) { return a > b ? a : b }
 
-# Gives each berth its part, row and column, and each part its place. Without recursion, as a line of
-# berths would nest as deep as it is long.
+# Gives each berth its part, row and column, and each part its place. Without recursion, as a line
+# of berths would nest as deep as it is long.
 function arrange(    b, i, widest, deepest, digits, lowest, best) {
     box_height = 24; row_gap = 12; place = 12; pitch = 15; in_line = 4
     margin = 16; number_width = 32; page_width = 1200; between = 40
