@@ -38,7 +38,7 @@ function most_of(a, b) { return a > b ? a : b }
 
 # Gives each berth its part, row and column, and each part its place. Without recursion, as a line
 # of berths would nest as deep as it is long.
-function arrange(    b, i, widest, deepest, digits, lowest, best) {
+function arrange(    b, widest, deepest, digits) {
     box_height = 24; row_gap = 12; place = 12; pitch = 15; in_line = 4
     margin = 16; number_width = 32; page_width = 1200; between = 40
     digits = 1
@@ -56,23 +56,13 @@ function arrange(    b, i, widest, deepest, digits, lowest, best) {
     track_length = most_of(44, count_width + 28)
     column_width = widest + track_length
     by_level()
-    # Of parts as wide as the page or half as wide, those that take less height.
     most_rows = 20
-    lowest = -1
-    for (i = 1; i <= 2; i++) {
-        try_parts(i)
-        if (lowest < 0 || bottom < lowest) { lowest = bottom; best = i }
-        if (parts == 1) break
-    }
-    if (i != best) try_parts(best)
-}
-function try_parts(share,    b) {
-    for (b in cut) delete cut[b]
-    for (b in part) delete part[b]
-    for (b in last_row) delete last_row[b]
-    most_columns = most_of(3, int(((page_width - 2 * margin + between) / share - between + track_length) / column_width))
+    most_columns = most_of(3, int((page_width - 2 * margin + track_length) / column_width))
     cut_parts()
     place_parts()
+    # Parts side by side, if one below another they are far taller than wide; on a page, which is to
+    # be readable on paper, they stay as they are.
+    if (bottom > 2 * page_width && !so_far) { page_width *= 2; place_parts() }
 }
 function box_width(b) { return number_width + pitch * least(depth[b], in_line) + 3 }
 
@@ -115,6 +105,8 @@ function rows_in_parent(c) { return (c in cut) ? 1 : rows[c] }
 
 # Numbers the parts in the order in which their berths are met, and lays out each.
 function place_parts(    stack, waiting, b, k, p, y, lane, lanes, span, best, highest, filled) {
+    for (b in part) delete part[b]
+    for (b in last_row) delete last_row[b]
     parts = 0
     waiting = 0
     stack[waiting++] = root
@@ -274,9 +266,9 @@ function legend(said,    y, tall) {
     mark(place_x(margin, 0), y - place / 2, "free", 0)
     words(76, y, "berth 7 and its place for a car; the root is at the left, children stand right of their parent")
     y += 26
-    key(margin, y, "car", 0, "car that stays")
+    key(margin, y, "car", 0, planned ? "car that stays" : "car")
     if (planned) key(196, y, "moving", 0, "car that the plan moves")
-    key(396, y, "car", 1, "car that stays, on a target")
+    key(396, y, "car", 1, planned ? "car that stays, on a target" : "car on a target")
     if (planned) key(606, y, "moving", 1, "car on a target, and yet moved")
     y += 26
     key(margin, y, "free", 0, "empty place")
