@@ -125,7 +125,7 @@ extern "C" {
 /* Refusal text: a refusal as a sentence, without its full stop, that says what is wrong and what to mend. It is in the words of those who mend it
  * (berth for node, car for pebble). 'The named berth' (line, move) is the one whose number is the place, so print the place beside it; moves count from 0.
  * Takes what a call answered, whole, as with refusals 1 and 5 the place tells which fault it is. Answers a constant text, never NULL, for any number.
- * `./movesheet`, `./checksheet` and `./yardpicture` read their sentences here, so each stands in one line. */
+ * `./movesheet`, `./checksheet`, `./yardpicture` and `./yardpage` read their sentences here, so each stands in one line. */
 static inline const char *javendriky_refusal_text(uint32_t answer)
 {
     switch (answer) {

@@ -332,14 +332,18 @@ function further(    l, text, due, v, shaped, count, passed) {
 }
 
 # Whether the crossing report of a move sheet begins at a line: at its own head, or where a line is
-# no move and none follows.
+# like one of a report and no move follows.
 function report_from(l) {
     if (mended[l] == "track up down") return 1
     return looks_like_report(l)
 }
-function looks_like_report(l,    k) {
-    if (two(mended[l]) || mended[l] == "") return 0
-    if (mended[l] !~ /^[a-z]+ [a-z]+ [a-z]+$/ && mended[l] !~ /^[0-9]+ [0-9]+ [0-9]+$/ && mended[l] !~ /^[Tt]/) return 0
+function looks_like_report(l,    text, k) {
+    text = tolower(mended[l])
     if (last_move == "") for (last_move = lines; last_move > 0 && !two(mended[last_move]); last_move--);
-    return last_move < l
+    if (two(text) || last_move > l) return 0
+    if (text ~ /^total/ || (text ~ /^[a-z]+ [a-z]+ [a-z]+$/ && text ~ /track|up|down/)) return 1
+    if (!three(text)) return 0
+    for (k = l + 1; k <= lines; k++) if (three(mended[k]) || mended[k] ~ /^total/) return 1
+    return 0
 }
+function three(text) { return text ~ /^[0-9]+ [0-9]+ [0-9]+$/ }
