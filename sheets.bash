@@ -1,6 +1,8 @@
 # shellcheck shell=bash disable=SC2154 # name and top are the command's
-# What the commands for people share: how they tell something, take a sheet, build a program where it is missing or older than its sources, and say what is
-# wrong with a refused sheet and how that came to be. A command sets name (its own) and top (this folder), sources this file and has a function usage.
+# What the commands for people share: how they tell something, take a sheet, build a program where
+# it is missing or older than its sources, and say what is wrong with a refused sheet and how that
+# came to be. A command sets name (its own) and top (this folder), sources this file and has a
+# function usage.
 
 worked=$top/examples/yards/a.yard
 # In the source tree a program is built where it is needed. Installed, the programs stand below the
@@ -15,11 +17,13 @@ version() {
         "calls $(sed -n 's/^#define JAVENDRIKY_VERSION //p' "$top/include/javendriky.h")," \
         "conformance set $(<"$top/conformance/VERSION")"
 }
+most_yard=65536 # bytes of a yard sheet that are taken; the move program judges the first 5,200
 
 say() { echo "$name: $*" >&2; }
 fail() { say "$@"; exit 2; }
 
-# Sets files: what is named behind the options. A file that is named as an option would be is a file.
+# Sets files: what is named after the options. A file that is named as an option would be is a
+# file.
 arguments() { # ARGUMENT…
     case ${1-} in
     -h | --help)
@@ -65,15 +69,16 @@ build() { # PROGRAM WHAT CRATE…
     touch "$program"
 }
 
-# Takes one yard sheet, as many bytes as the move program judges, which is more than any legal sheet has: FILE, standard input, or else the worked yard A.
-# Leaves it in $work/sheet, and what the move program prints for it in $work/out.
+# Takes one yard sheet: FILE, standard input, or else the worked yard A. More bytes are taken than
+# the move program judges, so that people are told of all lines. Leaves the sheet in $work/sheet,
+# and what the move program prints for it in $work/out.
 plan() { # ARGUMENT…
     arguments "$@"
     [ ${#files[@]} -le 1 ] || fail "one yard sheet at a time: '$name --help' tells how it is used"
     make_work
     : >"$work/sheet"
     # Without FILE standard input may be a terminal, or closed.
-    if [ ${#files[@]} -gt 0 ] || { [ ! -t 0 ] && [ -e /dev/fd/0 ]; }; then take 'yard sheet' 5200 "$work/sheet" "${files[0]--}"; fi
+    if [ ${#files[@]} -gt 0 ] || { [ ! -t 0 ] && [ -e /dev/fd/0 ]; }; then take 'yard sheet' "$most_yard" "$work/sheet" "${files[0]--}"; fi
     if [ ${#files[@]} -eq 0 ] && [ ! -s "$work/sheet" ]; then
         say "no yard sheet was given: this is the worked yard A, examples/yards/a.yard"
         cp "$worked" "$work/sheet"
@@ -92,13 +97,15 @@ end_if_refused() {
     { read -r head && read -r number place; } <"$work/out" || :
     if [ "$head" != 'refusal place' ]; then return 0; fi
     say "refused: $(explain "$number" "$place" "$work/sheet")."
-    hint "$number" "$place" "$work/sheet"
+    faults yard "$number" "$place" "$work/sheet" "$most_yard" "${files[0]-}"
     exit 1
 }
 
-# What is wrong with the yard, and what to mend: the sentence of the C header, by the whole answer where the place tells which fault it is, else by the
-# number, with the place put in. A berth's line is two further down, as the header is line 1 and berths count from 0. With 8 there is nothing to mend in the
-# sheet, and no list that its keeper lends. WHAT and OF tell which sheet it is, where there are two: 'the yard sheet', ' of my.yard'.
+# What is wrong with the yard, and what to mend: the sentence of the C header, by the whole answer
+# where the place tells which fault it is, else by the number, with the place put in. The header is
+# line 1 and berths count from 0, so a berth's line is its number and 2. With 8 there is nothing to
+# mend in the sheet, and no list that its keeper lends. WHAT and OF tell which sheet it is, where
+# there are two: 'the yard sheet', ' of my.yard'.
 explain() { # NUMBER PLACE SHEET [WHAT OF]
     local text what=${4-the sheet} of=${5-}
     if [ "$1" -eq 8 ]; then
@@ -118,58 +125,41 @@ explain() { # NUMBER PLACE SHEET [WHAT OF]
 sentence() { sed -n "s/^ *case $1: return \"\(.*\)\";\$/\1/p" "$top/include/javendriky.h" || :; } # CASE
 total() { awk -v column="$1" 'NR > 1 { sum += $column } END { print sum + 0 }' "$2"; }
 
-# How a refused yard sheet came to be, where that shows: what an editor, a spreadsheet or a wrong file leaves behind, often unseen.
-hint() { # NUMBER LINE SHEET [WHAT OF]
-    local line of=${5-}
-    local fifth='a fifth value, the depth, which is how many cars the berth has room for: 1 for a berth with no siding'
-    hint_whole "$3" "${4-the sheet}" yard || return 0
-    case $1 in 15 | 16) ;; *) return 0 ;; esac
-    line=$(sed -n "$2p" "$3")
-    case $line in
-    'from to' | 'refusal place') say "this is what movesheet prints: hand in the yard sheet that it was made from." ;;
-    'berth parent car target') say "this sheet is from before berths had depths: the header now ends in 'depth', and each line has $fifth. If no berth has a siding, write a 1 behind every line, or run: sed -e '1s/\$/ depth/' -e '1!s/\$/ 1/' your.yard >mended.yard" ;;
-    *) hint_line "$2$of" "$line" || [[ ! $line =~ ^[0-9]+(\ [0-9]+){3}$ ]] || say "line $2$of has four values: since berths have depths each line has $fifth." ;;
+# What exactly is wrong with a refused sheet, and which of its further lines are faulty too. KIND is
+# yard or moves. FILE is the name that it was handed in by, '-' or '' for standard input. BYTES is
+# how much of it was taken at most.
+faults() { # KIND NUMBER PLACE SHEET BYTES FILE [WHAT OF]
+    local -x LC_ALL=C KIND=$1 NUMBER=$2 LINE=$3 BERTH=$3 WHAT=${7-the sheet} OF=${8-} UNENDED=0 CUT=0 MEND
+    local text
+    [ "$2" -ne 8 ] || return 0
+    case $(head -c 3 "$4" | od -An -tx1) in
+    ' ff fe'* | ' fe ff'*) say "$WHAT is text in UTF-16: save it as plain text (ASCII or UTF-8)."; return 0 ;;
     esac
-    hint_end "$2" "$3" 5200 "$of"
-}
-
-# What can be said of a sheet as a whole. Status 1 if there is no more to say. ENDING is yard or moves, as the files' names end.
-hint_whole() { # SHEET WHAT ENDING
-    local -x LC_ALL=C
-    local start text
-    start=$(head -c 3 "$1" | od -An -tx1)
-    case $start in
-    ' ff fe'* | ' fe ff'*) say "$2 is text in UTF-16: save it as plain text (ASCII or UTF-8)."; return 1 ;;
-    ' ef bb bf') say "$2 begins with a byte order mark (BOM), which editors do not show: save it as UTF-8 without BOM, or run: tail -c +4 your.$3 >mended.$3" ;;
-    esac
-    if [ "$(tr -d '\11\12\15\40-\176\200-\377' <"$1" | wc -c)" -gt 0 ]; then
-        say "the file is no plain text: if a spreadsheet or a word processor wrote it, or it is packed, save the ${3%s} sheet from there as plain text."
-        return 1
+    if [ "$(tr -d '\11\12\15\40-\176\200-\377' <"$4" | wc -c)" -gt 0 ]; then
+        say "the file is no plain text: if a spreadsheet or a word processor wrote it, or it is packed, save the ${1%s} sheet from there as plain text."
+        return 0
     fi
-    text=$(cat "$1"; echo .)
-    case $text in
-    *$'\r\n'*) say "$2's lines end in carriage return and line feed: save it with line feeds alone (line ends 'LF' or 'Unix'), or run: tr -d '\\r' <your.$3 >mended.$3"; return 1 ;;
-    *$'\r'*) say "$2 has carriage returns, which end no line: save it with line feeds alone (line ends 'LF' or 'Unix'), or run: tr '\\r' '\\n' <your.$3 >mended.$3"; return 1 ;;
-    .) say "$2 is empty."; return 1 ;;
-    esac
-}
-
-# What is hard to see in a line. Status 1 if there is no such thing. WHICH is its number, and the file where there are two.
-hint_line() { # WHICH TEXT
-    local -x LC_ALL=C
-    case $2 in
-    $'\xef\xbb\xbf'*) ;; # told of the whole
-    *[$'\t,;']*) say "line $1 has tabs, commas or semicolons, as a spreadsheet writes them: put one space between the values instead." ;;
-    *[!\ -~]*) say "line $1 has characters that are not plain ASCII, as a space copied from elsewhere can be: type the line anew." ;;
-    ' '*[!\ ]* | *[!\ ]*' ' | *[!\ ]*'  '*) say "line $1 has a space too many: before the first value, behind the last, or two together." ;;
-    *[!\ ]*) return 1 ;;
-    *) say "line $1 is empty: take it out." ;;
-    esac
-}
-
-# That the last line has no line feed, in a sheet of fewer bytes than are taken.
-hint_end() { # LINE SHEET BYTES [OF]
-    if [ -n "$(tail -c 1 "$2")" ] && [ "$(wc -c <"$2")" -lt "$3" ] && [ "$(wc -l <"$2")" -eq $(($1 - 1)) ]; then
-        say "line $1${4-}, the last, has no line feed behind it: press Enter at its end and save the sheet."
+    MEND="$(mendsheet_command "$6" "$1") >mended.$1"
+    if grep -q $'\r[^\r]' "$4"; then
+        say "$WHAT has carriage returns that end no line: save it with line feeds alone (line ends 'LF' or 'Unix'), or run: $MEND"
+        return 0
     fi
+    case $2 in 1 | 15 | 16 | 17) ;; *) LINE=$(($3 + 2)) ;; esac
+    if [ -n "$(tail -c 1 "$4")" ]; then
+        if [ "$(wc -c <"$4")" -lt "$5" ]; then UNENDED=1; else CUT=1; fi
+    fi
+    awk -f "$top/people/mend.awk" -f "$top/people/faults.awk" "$4" >"$work/faults" || fail "the faults of $WHAT could not be told"
+    while IFS= read -r text; do
+        case $text in *', or run: '*) say "$text" ;; *) say "$text." ;; esac
+    done <"$work/faults"
+}
+# The command that mends a sheet, as it can be typed where this one was called.
+mendsheet_command() { # FILE KIND
+    local folder file=$1
+    folder=$(dirname "$0")
+    if [ ! -x "$folder/mendsheet" ]; then folder=$top; fi
+    if [ "$file" = - ] || [ -z "$file" ]; then file=your.$2; fi
+    printf '%q ' "$folder/mendsheet"
+    case $file in -*) printf -- '-- ' ;; esac
+    printf '%q' "$file"
 }

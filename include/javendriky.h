@@ -125,7 +125,7 @@ extern "C" {
 /* Refusal text: a refusal as a sentence, without its full stop, that says what is wrong and what to mend. It is in the words of those who mend it
  * (berth for node, car for pebble). 'The named berth' (line, move) is the one whose number is the place, so print the place beside it; moves count from 0.
  * Takes what a call answered, whole, as with refusals 1 and 5 the place tells which fault it is. Answers a constant text, never NULL, for any number.
- * `./movesheet`, `./checksheet` and `./yardpicture` read their sentences here, so each stands in one line. */
+ * `./movesheet`, `./checksheet`, `./yardpicture` and `./yardpage` read their sentences here, so each stands in one line. */
 static inline const char *javendriky_refusal_text(uint32_t answer)
 {
     switch (answer) {
@@ -149,7 +149,7 @@ static inline const char *javendriky_refusal_text(uint32_t answer)
     case 12: return "the named move leaves a berth where no car stands at that time: let it leave one where a car stands";
     case 13: return "the named move enters a berth that is full at that time: move a car on from there first";
     case 14: return "the named berth holds fewer cars after the last move than it has targets: add the moves that bring the others there";
-    case 15: return "line 1 is not the header: it must be 'berth parent car target depth', with a line feed behind it";
+    case 15: return "line 1 is not the header: a sheet begins with the line 'berth parent car target depth', which ends in a line feed";
     case 16: return "the named line is not five numbers from 0 to 255, without leading zeros, with one space between and a line feed behind: write it so";
     case 17: return "the named line is not that of the next berth: the berths stand in rising number from 0, one line each";
     case 18: return "a list lent for reading a sheet has fewer than 256 entries: lend four of at least 256";
