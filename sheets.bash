@@ -140,7 +140,7 @@ faults() { # KIND NUMBER PLACE SHEET BYTES FILE [WHAT OF]
         return 0
     fi
     MEND="$(mendsheet_command "$6" "$1") >mended.$1"
-    if grep -q $'\r[^\r]' "$4"; then
+    if LC_ALL=C awk '/\r[^\r]/ { found = 1; exit } END { exit !found }' "$4"; then
         say "$WHAT has carriage returns that end no line: save it with line feeds alone (line ends 'LF' or 'Unix'), or run: $MEND"
         return 0
     fi
