@@ -25,8 +25,9 @@
  * Stack. No call needs more than 36 KiB of stack, which javendriky_plan and javendriky_plan_parts take on a line of 256 nodes; every other call needs at most 6 KiB (measured with the
  * library that `rt staticlib` builds for x86-64).
  *
- * Numbers. A call with a further value writes it through a pointer to one uint32_t, which is never NULL and overlaps no list of the call. A refused call
- * leaves the number as it was.
+ * Numbers. A call with further values writes each through a pointer to one uint32_t. Such a pointer
+ * is never NULL. The number overlaps no list of the call, and no other number that the call writes:
+ * the pointers of one call are to different numbers. A refused call leaves the numbers as they were.
  *
  * Answers. Each call answers one number a:
  *   a < 1,000,000     accepted: a is the value, or 0 where the call has none
@@ -43,8 +44,9 @@
 extern "C" {
 #endif
 
-/* The version of these calls, which the library answers too. It is raised whenever a call is added, or gets further arguments or another
- * meaning under the same name, which requests to come will do: a program built with another header would still link. So compare the two once, before any other call. */
+/* The version of these calls, which the library answers too. It is raised whenever a call is added,
+ * gets further arguments, or gets another meaning under the same name. A program built with another
+ * header would still link: so compare the two once, before any other call. */
 #define JAVENDRIKY_VERSION 12
 
 /* The most nodes that a yard can have. */

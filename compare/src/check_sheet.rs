@@ -10,9 +10,6 @@ pub const JUDGED_BYTES: usize = 1_060_000;
 /// It reads one move more than the checker takes, and nothing behind it.
 pub const MOST_MOVES_READ: usize = MAX_PLAN_BYTES / 2 + 1;
 
-/// Whether the crossing report of the moves stands below the verdict on accepted ones.
-pub const REPORTED: bool = true;
-
 pub const MOVES_HEAD: &[u8] = b"from to\n";
 pub const REPORT_HEAD: &[u8] = b"track up down\n";
 
@@ -32,7 +29,7 @@ pub fn uncut(input: &[u8]) -> Vec<u8> {
 /// The checker's answer to a yard and a plan as it is printed.
 pub fn answer_sheet(yard: &Yard, plan: &[u8]) -> Vec<u8> {
     let answer = check(yard, plan);
-    let report = if REPORTED && answer.is_ok() { crossing_report(yard, plan) } else { String::new() };
+    let report = if answer.is_ok() { crossing_report(yard, plan) } else { String::new() };
     [answer_lines(answer), report.into_bytes()].concat()
 }
 

@@ -110,7 +110,7 @@ fn for_checks(random: &mut Random) -> Inputs {
     let judged = |yard: Yard| {
         let sheets = both(&yard);
         let accepted = planner::plan(&yard, usize::MAX).is_ok();
-        let (report, _) = if accepted && check_sheet::REPORTED { report::due(&yard) } else { Default::default() };
+        let (report, _) = if accepted { report::due(&yard) } else { Default::default() };
         let due = format!("moves spare\n{} 0\n{report}", plan(&yard).len() / 2);
         let printed = check_sheet::program(&sheets);
         let wrong = accepted && printed != due.as_bytes();

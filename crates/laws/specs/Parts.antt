@@ -18,7 +18,8 @@ use Rattle.model.specs.Calls.Checks.{checkAnswer}
 abbrev pub liesIn : (ℕ → Bool) → Move → Bool
 liesIn p m = (p (m .from)) && (p (m .to))
 
--- it lies in some part: its nodes are in the same one
+-- It lies in some part: its nodes are in the same one. `to` needs no test of its own: a number that is no node has no pebble and no target beyond it, so it is
+-- its own topmost node, and no node's.
 abbrev pub liesInOne : Yard → Move → Bool
 liesInOne y m = (ltb (m .from) (size y)) && (eqb (topmost y (m .from)) (topmost y (m .to)))
 

@@ -2,7 +2,7 @@
 
 use crate::Held;
 use std::ops::Range;
-use unrelated::check_sheet::{both_sheets, JUDGED_BYTES, MOST_MOVES_READ, MOVES_HEAD, REPORTED, REPORT_HEAD};
+use unrelated::check_sheet::{both_sheets, JUDGED_BYTES, MOST_MOVES_READ, MOVES_HEAD, REPORT_HEAD};
 use unrelated::checker::{check, step, Checked, MAX_PLAN_BYTES};
 use unrelated::damage;
 use unrelated::fitter::{lines, spare, Line, Planned, Sheets};
@@ -69,7 +69,6 @@ fn by_hand(held: &mut Held, _: &mut Random) -> Outcome {
         ("a line of another shape", "1 0\n0 2 \n3 1\n1 4\n", "refusal place\n16 9\n"),
         ("the same behind a wrong move", "9 9\n0 2\n3 1\n1 4,\n", "refusal place\n16 11\n"),
     ] {
-        let due = if REPORTED { due } else { due.split("track").next().expect("a front") };
         held.prints(what, format!("{yard}from to\n{moves}").as_bytes(), due)?;
         held.prints(what, format!("{yard}from to\n{moves}{report}").as_bytes(), due)?;
     }

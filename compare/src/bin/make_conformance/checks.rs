@@ -3,7 +3,7 @@
 
 use crate::must_meet;
 use std::path::Path;
-use unrelated::check_sheet::{program, MOST_MOVES_READ, MOVES_HEAD, REPORTED, REPORT_HEAD};
+use unrelated::check_sheet::{program, MOST_MOVES_READ, MOVES_HEAD, REPORT_HEAD};
 use unrelated::checker::step;
 use unrelated::damage;
 use unrelated::fitter::{lines, Line, Planned, Sheets};
@@ -56,7 +56,7 @@ impl Inputs {
 
     /// Accepted with so many moves, of which so many are spare.
     fn accepted(&mut self, name: &str, input: Vec<u8>, moves: usize, spare: usize) {
-        let report = if REPORTED { "track up down\n" } else { "" };
+        let report = "track up down\n";
         self.add(name, input, &format!("moves spare\n{moves} {spare}\n{report}"));
     }
 
