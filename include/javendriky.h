@@ -22,8 +22,9 @@
  * call writes overlaps no other list of that call. A list passed as const is only read. No call keeps a pointer, asks for memory, or has a state of
  * its own, so calls on different lists may run at the same time.
  *
- * Stack. No call needs more than 36 KiB of stack, which javendriky_plan and javendriky_plan_parts take on a line of 256 nodes; every other call needs at most 6 KiB (measured with the
- * library that `rt staticlib` builds for x86-64).
+ * Stack. No call needs more than 40 KiB of stack, which javendriky_plan and javendriky_plan_parts take
+ * on a line of 256 nodes; every other call needs at most 6 KiB (measured with the library that
+ * `rt staticlib` builds for x86-64).
  *
  * Numbers. A call with further values writes each through a pointer to one uint32_t. Such a pointer
  * is never NULL. The number overlaps no list of the call, and no other number that the call writes:
