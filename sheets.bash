@@ -14,7 +14,7 @@ programs=$top/target/bin
 version() {
     if [ -e "$top/version" ]; then echo "$name $(<"$top/version")"; return; fi
     echo "$name $( ([ -e "$top/.git" ] && git -C "$top" describe --tags --always --dirty --abbrev=12) 2>/dev/null || echo unknown)," \
-        "calls $(sed -n 's/^#define JAVENDRIKY_VERSION //p' "$top/include/javendriky.h")," \
+        "calls $(awk '/^#define JAVENDRIKY_VERSION / { print $3 }' "$top/include/javendriky.h")," \
         "conformance set $(<"$top/conformance/VERSION")"
 }
 most_yard=65536 # bytes of a yard sheet that are taken; the move program judges the first 5,200
@@ -122,7 +122,10 @@ explain() { # NUMBER PLACE SHEET [WHAT OF]
     text=${text/#the sheet/"$what"}
     echo "${text/cars and targets differ/cars ($(total 3 "$3")) and targets ($(total 4 "$3")) differ}"
 }
-sentence() { sed -n "s/^ *case $1: return \"\(.*\)\";\$/\1/p" "$top/include/javendriky.h" || :; } # CASE
+sentence() { # CASE
+    awk -v front="case $1: return \"" '{ sub(/^ */, "") }
+        index($0, front) == 1 && /";$/ { print substr($0, length(front) + 1, length($0) - length(front) - 2) }' "$top/include/javendriky.h" || :
+}
 total() { awk -v column="$1" 'NR > 1 { sum += $column } END { print sum + 0 }' "$2"; }
 
 # What exactly is wrong with a refused sheet, and which of its further lines are faulty too. KIND is
