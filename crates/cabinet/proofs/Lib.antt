@@ -1,4 +1,3 @@
 -- Laws that the proofs of the functions share.
 pub mod Loan
-pub mod Walk
 pub mod Laws

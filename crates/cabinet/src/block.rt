@@ -1,15 +1,13 @@
-// The block: nine bytes that hold the registers. Three of them hold the moves left, low byte first.
+// The block: nine bytes that hold the registers. The moves left are three of them, the lowest byte first.
 ghost use Rattle.std.specs.Prelude.{◌≡◌, ◌<◌, length};
 ghost use Rattle.model.specs.Given.{was, became};
 ghost use Rattle.model.specs.Calls.Registers.{block_length, block_of, registers_of};
-ghost use Rattle.cabinet.specs.Step.{left_limit};
 
 use model::Registers;
 
-// The registers that a block holds.
 pub fn load(block: &[u8]) -> Registers
     requires { length block.now ≡ block_length }
-    ensures registers { result ≡ registers_of (was block) }
+    ensures { result ≡ registers_of (was block) }
 {
     Registers {
         command: block[0],
@@ -22,10 +20,9 @@ pub fn load(block: &[u8]) -> Registers
     }
 }
 
-// Writes the registers into the block.
 pub fn store(block: &mut [u8], r: Registers)
-    requires { (length block.old ≡ block_length) × (r.left < left_limit) }
-    ensures block { became block ≡ block_of r }
+    requires { (length block.old ≡ block_length) × (r.left < 16_777_216) }
+    ensures { became block ≡ block_of r }
 {
     block[0] = r.command;
     block[1] = r.status;

@@ -2,27 +2,28 @@
 ghost use Rattle.std.specs.Prelude.{◌≡◌, ◌≤◌};
 ghost use Rattle.model.specs.Given.{given, handed, was, became};
 ghost use Rattle.model.specs.Judge.{Tree};
+ghost use Rattle.model.specs.Push.{push};
 ghost use Rattle.model.specs.Calls.Registers as Call;
-ghost use Rattle.model.specs.Calls.Registers.{whole_moves};
-ghost use Rattle.model.specs.Meaning.{answer_of_signalled};
+ghost use Rattle.model.specs.Calls.Registers.{block_of, whole_moves, pebbles_then};
+ghost use Rattle.model.specs.Paper.{paper_signalled};
 ghost use Rattle.laws.specs.Cabinet.{stepped_to, EachStep};
-ghost use Rattle.cabinet.specs.Step.{input_of, pebbles_with, StepsTo};
+ghost use Rattle.cabinet.specs.Step.{told_of, LeftBy};
 
 use crate::block::{load, store};
-use crate::registers::{StepInput, next_registers, raised};
+use crate::registers::{Told, next_registers, raised};
 use crate::test::test_step;
 use judge::test::test_yard;
 use model::{Done, Refusal, Registers, Signalled};
 use yard::step::step;
 
-// What a step takes from the plan. With no move left, the next move is 0 to 0.
-fn step_input(plan: &[u8], r: Registers, failed: bool) -> StepInput
+// What a step is told of the plan: its whole moves and the next of them, of which one is left at least; else any.
+fn tell(plan: &[u8], r: Registers, failed: bool) -> Told
     requires { r.left ≤ whole_moves plan.now }
-    ensures { result ≡ input_of (was plan) r failed }
+    ensures { result ≡ told_of (was plan) r failed }
 {
     let moves = plan.len() / 2;
     if r.left == 0 {
-        return StepInput {
+        return Told {
             moves,
             from: 0,
             to: 0,
@@ -30,7 +31,7 @@ fn step_input(plan: &[u8], r: Registers, failed: bool) -> StepInput
         };
     }
     let i = moves - r.left;
-    StepInput {
+    Told {
         moves,
         from: plan[2 * i],
         to: plan[2 * i + 1],
@@ -38,17 +39,17 @@ fn step_input(plan: &[u8], r: Registers, failed: bool) -> StepInput
     }
 }
 
-// Makes the push of a running step without a command, unless its pebble failed to arrive.
+// The push of a running step with command 0, unless its pebble failed to arrive.
 fn push_next(
     parents: &[u8],
     pebbles: &mut [u8],
     targets: &[u8],
     depths: &[u8],
     r: Registers,
-    input: StepInput,
+    told: Told,
 )
     requires { Tree (handed parents pebbles targets depths) }
-    ensures { became pebbles ≡ pebbles_with (given parents pebbles targets depths) r input }
+    ensures { became pebbles ≡ pebbles_then (given parents pebbles targets depths) (push told.from told.to) told.failed r }
 {
     if r.command != 0 {
         return;
@@ -56,29 +57,28 @@ fn push_next(
     if r.status != 1 {
         return;
     }
-    if input.failed {
+    if told.failed {
         return;
     }
     step(
         parents,
         pebbles,
         depths,
-        input.from as usize,
-        input.to as usize,
+        told.from as usize,
+        told.to as usize,
         0,
     );
 }
 
-// What a step gives back: its answer, and the registers.
+// What a step leaves: its answer, and the registers.
 #[derive(Drop)]
-pub struct StepResult {
+pub struct Left {
     pub line: Signalled,
     pub next: Registers,
 }
 
-// A step of the cabinet on registers by value: obeys the command in the registers or, running
-// without a command, the plan's next move. Answers whether the line is raised. The refusals are
-// those of `test_step`. A refusal changes nothing. The work is linear in the lists.
+// A step of the cabinet, by value: obeys the command in the registers, or where it runs without one the plan's next move. Answers whether the line is raised.
+// Refusals 1 to 6, 26 and 27; 24, 25; a start as the checker, a running step with command 0 by 9 and 10 to 13. A refusal alters nothing. Linear work.
 fn stepped(
     parents: &[u8],
     pebbles: &mut [u8],
@@ -87,33 +87,32 @@ fn stepped(
     plan: &[u8],
     r: Registers,
     failed: bool,
-) -> StepResult
-    ensures { StepsTo (given parents pebbles targets depths) (was plan) r failed result.line result.next (became pebbles) }
+) -> Left
+    ensures { LeftBy (Call.stepped (given parents pebbles targets depths) (was plan) (block_of r) failed) result.line result.next (became pebbles) }
 {
     let tested = test_step(parents, pebbles, targets, depths, plan, r);
     if let Done::Refused(fault) = tested {
-        return StepResult {
+        return Left {
             line: Signalled::Refused(fault),
             next: r,
         };
     }
-    let input = step_input(plan, r, failed);
-    push_next(parents, pebbles, targets, depths, r, input);
-    let next = next_registers(r, input);
+    let told = tell(plan, r, failed);
+    push_next(parents, pebbles, targets, depths, r, told);
+    let next = next_registers(r, told);
     if raised(next) {
-        return StepResult {
+        return Left {
             line: Signalled::Raised,
             next,
         };
     }
-    StepResult {
+    Left {
         line: Signalled::Quiet,
         next,
     }
 }
 
-// The step on registers that are lent: a copy is stepped and stored back whole. The kit derives no
-// proof for a lent struct, so the proof walks the MIR by hand.
+// The step, of registers that are lent: a copy is stepped, and stored back whole. Proved by a walk.
 pub fn step_registers(
     parents: &[u8],
     pebbles: &mut [u8],
@@ -123,16 +122,14 @@ pub fn step_registers(
     registers: &mut Registers,
     failed: bool,
 ) -> Signalled
-    ensures step { StepsTo (given parents pebbles targets depths) (was plan) (was registers) failed
-        result (became registers) (became pebbles) }
+    ensures { LeftBy (Call.stepped (given parents pebbles targets depths) (was plan) (block_of (was registers)) failed) result (became registers) (became pebbles) }
 {
     let s = stepped(parents, pebbles, targets, depths, plan, *registers, failed);
     *registers = s.next;
     s.line
 }
 
-// The step on registers by value, through `step_registers`: a local copy is lent. Its proof is a
-// walk by hand too.
+// Lends the registers of a block, in a local. Proved by a walk.
 fn lend(
     parents: &[u8],
     pebbles: &mut [u8],
@@ -141,17 +138,17 @@ fn lend(
     plan: &[u8],
     r: Registers,
     failed: bool,
-) -> StepResult
-    ensures { StepsTo (given parents pebbles targets depths) (was plan) r failed result.line result.next (became pebbles) }
+) -> Left
+    ensures { LeftBy (Call.stepped (given parents pebbles targets depths) (was plan) (block_of r) failed) result.line result.next (became pebbles) }
 {
     let mut next = r;
     let line = step_registers(parents, pebbles, targets, depths, plan, &mut next, failed);
-    StepResult { line, next }
+    Left { line, next }
 }
 
-// The step on the registers in a block of bytes. After the yard's refusals, a block of another
-// length is refused by `ListLength` (2); then the refusals are those of `step_registers`.
-// `EachStep` says when a step is accepted, and that an accepted running step made a legal push.
+// The step of the registers in a block of bytes. The refusals are those of `step_registers`, with
+// refusal 2 for a block of another length after those of the yard. `EachStep` says when a step is
+// accepted, and that an accepted running step made a legal push.
 pub fn step_block(
     parents: &[u8],
     pebbles: &mut [u8],
@@ -161,11 +158,10 @@ pub fn step_block(
     block: &mut [u8],
     failed: bool,
 ) -> Signalled
-    ensures line { answer_of_signalled result ≡ (Call.stepped (given parents pebbles targets depths) (was plan) (was block) failed).line }
-    ensures block { became block ≡ (Call.stepped (given parents pebbles targets depths) (was plan) (was block) failed).block }
-    ensures pebbles { became pebbles ≡ (Call.stepped (given parents pebbles targets depths) (was plan) (was block) failed).pebbles }
-    ensures step { EachStep (given parents pebbles targets depths) (was plan) (was block) failed
-        (stepped_to (answer_of_signalled result) (became block) (became pebbles)) }
+    ensures result_value { paper_signalled result ≡ (Call.stepped (given parents pebbles targets depths) (was plan) (was block) failed).line }
+    ensures block_value { became block ≡ (Call.stepped (given parents pebbles targets depths) (was plan) (was block) failed).block }
+    ensures pebbles_value { became pebbles ≡ (Call.stepped (given parents pebbles targets depths) (was plan) (was block) failed).pebbles }
+    ensures each_step { EachStep (given parents pebbles targets depths) (was plan) (was block) failed (stepped_to (paper_signalled result) (became block) (became pebbles)) }
 {
     if block.len() != 9 {
         let tested = test_yard(parents, pebbles, targets, depths);

@@ -1,4 +1,4 @@
-// The pusher cabinet: its registers, read from a block of bytes and written back, and its step.
+// The pusher cabinet: its registers, read from a block of bytes and written back, and the step that is lent them.
 #![tactic(auto)]
 
 mod block;

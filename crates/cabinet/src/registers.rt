@@ -3,21 +3,20 @@ ghost use Rattle.std.specs.Prelude.{◌≡◌, ◌&&◌, ◌-◌};
 ghost use Rattle.model.specs.Calls.Registers as Call;
 ghost use Rattle.model.specs.Calls.Registers.{bit, set_bit, finished_bit, stalled_bit};
 ghost use Rattle.model.specs.Push.{push};
-ghost use Rattle.cabinet.specs.Step.{registers_with};
+ghost use Rattle.cabinet.specs.Step.{next_of};
 
 use model::Registers;
 
-// What a step takes from outside the registers: the number of the plan's whole moves, the next
-// move, and whether that move's pebble failed to arrive.
+// What a step is told besides: the plan's whole moves, the next of them, and whether its pebble failed to arrive.
 #[derive(Drop)]
-pub struct StepInput {
+pub struct Told {
     pub moves: usize,
     pub from: u8,
     pub to: u8,
     pub failed: bool,
 }
 
-// Whether both numbers are odd.
+// Whether two numbers are odd.
 fn both_odd(a: u8, b: u8) -> bool
     ensures { result ≡ ((bit 0 a) && (bit 0 b)) }
 {
@@ -27,9 +26,9 @@ fn both_odd(a: u8, b: u8) -> bool
     false
 }
 
-// Whether the interrupt line is raised: flags and mask share bit 0 or bit 1.
+// Whether flags and mask share bit 0 or bit 1.
 pub fn raised(r: Registers) -> bool
-    ensures answer { result ≡ Call.raised r }
+    ensures { result ≡ Call.raised r }
 {
     if both_odd(r.flags, r.mask) {
         return true;
@@ -37,21 +36,19 @@ pub fn raised(r: Registers) -> bool
     both_odd(r.flags / 2, r.mask / 2)
 }
 
-// The flags with bit 0 (finished) set.
 fn with_finished(flags: u8) -> u8
     ensures { result ≡ set_bit finished_bit flags }
 {
     1 + 2 * (flags / 2)
 }
 
-// The flags with bit 1 (stalled) set.
 fn with_stalled(flags: u8) -> u8
     ensures { result ≡ set_bit stalled_bit flags }
 {
     flags % 2 + 2 * with_finished(flags / 2)
 }
 
-// n - 1, or 0 if n is 0.
+// One less, or 0.
 fn one_less(n: usize) -> usize
     ensures { result ≡ n - 1 }
 {
@@ -61,7 +58,7 @@ fn one_less(n: usize) -> usize
     n - 1
 }
 
-// The registers with this number of moves left: running, or with 0 left idle and finished.
+// With so many moves left: running, or at 0 idle with the flag.
 fn counted(r: Registers, left: usize) -> Registers
     ensures { result ≡ Call.counted left r }
 {
@@ -76,7 +73,6 @@ fn counted(r: Registers, left: usize) -> Registers
     next
 }
 
-// The registers after a stop.
 fn stopped(r: Registers) -> Registers
     ensures { result ≡ Call.stopped r }
 {
@@ -87,7 +83,6 @@ fn stopped(r: Registers) -> Registers
     next
 }
 
-// The registers after an acknowledgement: no flags, and a stall is over.
 fn acknowledged(r: Registers) -> Registers
     ensures { result ≡ Call.acknowledged r }
 {
@@ -100,7 +95,6 @@ fn acknowledged(r: Registers) -> Registers
     next
 }
 
-// The registers after a pebble failed to arrive: stalled, with the flag.
 fn jammed(r: Registers) -> Registers
     ensures { result ≡ Call.jammed r }
 {
@@ -110,7 +104,7 @@ fn jammed(r: Registers) -> Registers
     next
 }
 
-// The registers after a move: they show it, and one move less is left.
+// The move is shown, and one less is left.
 fn advanced(r: Registers, from: u8, to: u8) -> Registers
     ensures { result ≡ Call.advanced (push from to) r }
 {
@@ -120,12 +114,11 @@ fn advanced(r: Registers, from: u8, to: u8) -> Registers
     counted(next, one_less(r.left))
 }
 
-// The registers after an accepted step.
-pub fn next_registers(r: Registers, input: StepInput) -> Registers
-    ensures registers { result ≡ registers_with r input }
+pub fn next_registers(r: Registers, told: Told) -> Registers
+    ensures { result ≡ next_of r told }
 {
     if r.command == 1 {
-        return counted(r, input.moves);
+        return counted(r, told.moves);
     }
     if r.command == 2 {
         return stopped(r);
@@ -139,8 +132,8 @@ pub fn next_registers(r: Registers, input: StepInput) -> Registers
     if r.status != 1 {
         return r;
     }
-    if input.failed {
+    if told.failed {
         return jammed(r);
     }
-    advanced(r, input.from, input.to)
+    advanced(r, told.from, told.to)
 }

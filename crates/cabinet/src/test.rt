@@ -1,11 +1,10 @@
 // The refusals of a step.
-ghost use Rattle.std.specs.Prelude.{◌≡◌, not, ◌≤◌, ◌<◌};
+ghost use Rattle.std.specs.Prelude.{◌≡◌, not, ◌&&◌, ◌||◌, ◌≤◌, ◌<◌, leb, ltb, eqb};
 ghost use Rattle.std.proofs.Math.Option.{none};
 ghost use Rattle.model.specs.Given.{given, handed, was};
 ghost use Rattle.model.specs.Judge.{first_of, Tree};
-ghost use Rattle.model.specs.Calls.Registers.{block_of, whole_moves, wrong_register_fault, next_tests, task_fault, step_fault};
-ghost use Rattle.model.specs.Meaning.{fault_of_done};
-ghost use Rattle.cabinet.specs.Step.{left_in_range};
+ghost use Rattle.model.specs.Calls.Registers.{idle, block_of, whole_moves, register_fault, next_tests, task_fault, step_fault};
+ghost use Rattle.model.specs.Paper.{paper_done};
 
 use checker::check::test_plan;
 use checker::obey::whole_plan;
@@ -13,9 +12,9 @@ use judge::test::test_yard;
 use model::{Done, Refusal, Registers};
 use yard::step::test_move;
 
-// Whether more moves are left than the plan has, or none although the cabinet is not idle.
+// Whether the moves left are more than the plan's, or none while not idle.
 fn left_wrong(r: Registers, moves: usize) -> bool
-    ensures { result ≡ not (left_in_range moves r) }
+    ensures { result ≡ not ((leb r.left moves) && ((eqb r.status idle) || (ltb 0 r.left))) }
 {
     if r.left > moves {
         return true;
@@ -26,28 +25,26 @@ fn left_wrong(r: Registers, moves: usize) -> bool
     r.left == 0
 }
 
-// Tests the registers: `WrongRegister` (24) with the lowest wrong register as its place.
+// 24, with the lowest register that is wrong.
 fn test_registers(r: Registers, moves: usize) -> Done
-    ensures { fault_of_done result ≡ wrong_register_fault moves r }
+    ensures { paper_done result ≡ register_fault moves r }
 {
     if r.command > 3 {
-        return Done::Refused(Refusal::WrongRegister(0));
+        return Done::Refused(Refusal::Register(0));
     }
     if r.status > 2 {
-        return Done::Refused(Refusal::WrongRegister(1));
+        return Done::Refused(Refusal::Register(1));
     }
     if left_wrong(r, moves) {
-        return Done::Refused(Refusal::WrongRegister(4));
+        return Done::Refused(Refusal::Register(4));
     }
     if r.flags > 3 {
-        return Done::Refused(Refusal::WrongRegister(8));
+        return Done::Refused(Refusal::Register(8));
     }
     Done::Accepted
 }
 
-// Tests the next move, for a running step without a command: `PlanLength` (9), then
-// `MoveOutside` (10), `NotAdjacent` (11), `FromEmpty` (12) and `ToFull` (13) with the number of the
-// move as their place.
+// 9, then 10 to 13 of the next move with its number, for a running step with command 0.
 fn test_next(
     parents: &[u8],
     pebbles: &[u8],
@@ -57,7 +54,7 @@ fn test_next(
     r: Registers,
 ) -> Done
     requires { Tree (handed parents pebbles targets depths) × (0 < r.left) × (r.left ≤ whole_moves plan.now) }
-    ensures { fault_of_done result ≡ first_of (next_tests (given parents pebbles targets depths) (was plan) r) }
+    ensures { paper_done result ≡ first_of (next_tests (given parents pebbles targets depths) (was plan) r) }
 {
     if !whole_plan(plan) {
         return Done::Refused(Refusal::PlanLength);
@@ -73,8 +70,7 @@ fn test_next(
     )
 }
 
-// Tests what the command asks for: a start by `NotIdle` (25) and the checker's refusals, a running
-// step without a command by `test_next`. Other steps are not refused here.
+// 25 and the checker's refusals for a start; those of the next move where one is obeyed.
 fn test_task(
     parents: &[u8],
     pebbles: &[u8],
@@ -83,8 +79,8 @@ fn test_task(
     plan: &[u8],
     r: Registers,
 ) -> Done
-    requires { Tree (handed parents pebbles targets depths) × (wrong_register_fault (whole_moves plan.now) r ≡ none) }
-    ensures { fault_of_done result ≡ task_fault (given parents pebbles targets depths) (was plan) r }
+    requires { Tree (handed parents pebbles targets depths) × (register_fault (whole_moves plan.now) r ≡ none) }
+    ensures { paper_done result ≡ task_fault (given parents pebbles targets depths) (was plan) r }
 {
     if r.command == 1 {
         if r.status != 0 {
@@ -101,7 +97,7 @@ fn test_task(
     test_next(parents, pebbles, targets, depths, plan, r)
 }
 
-// Tests a step: the yard, the registers, then what the command asks for.
+// All refusals of a step, in their order.
 pub fn test_step(
     parents: &[u8],
     pebbles: &[u8],
@@ -110,7 +106,7 @@ pub fn test_step(
     plan: &[u8],
     r: Registers,
 ) -> Done
-    ensures answer { fault_of_done result ≡ step_fault (given parents pebbles targets depths) (was plan) (block_of r) }
+    ensures { paper_done result ≡ step_fault (given parents pebbles targets depths) (was plan) (block_of r) }
 {
     let tested = test_yard(parents, pebbles, targets, depths);
     if let Done::Refused(fault) = tested {

@@ -1,5 +1,4 @@
-// Parts of a program that runs test cases: cases as lines of text, the lists in them, and answers
-// in print.
+// What a vector program is made of: cases as lines of text, the lists in them, and answers in print.
 #![tactic(auto)]
 
 pub mod kinds;

@@ -1,15 +1,14 @@
-// Cases as text, one to a line: a kind, a label, then lists and numbers, with bars between them. A
-// line that begins with # is a comment.
+// Cases as text, one to a line: a kind, a label, then lists and numbers, between bars. A line that begins with # is a comment.
 ghost use Rattle.std.specs.Prelude.{◌≤◌, ◌<◌, length};
 ghost use Rattle.model.specs.Given.{was};
 ghost use Rattle.io.specs.Counts.{IsPrefixLen};
 
 use crate::print::text;
 
-// The first place of this byte from an index on, or the end.
+// The first place from an index on where a byte stands, or the end.
 pub fn find(bytes: &[u8], from: usize, byte: u8) -> usize
     requires { from ≤ length bytes.now }
-    ensures place { (from ≤ result) × IsPrefixLen result (was bytes) }
+    ensures { (from ≤ result) × IsPrefixLen result (was bytes) }
 {
     let mut i = from;
     while i < bytes.len() {
@@ -21,7 +20,7 @@ pub fn find(bytes: &[u8], from: usize, byte: u8) -> usize
     i
 }
 
-// Prints what cannot be read, so that the output differs from the stored output.
+// Tells in the output what cannot be read, so that it is not the stored one.
 pub fn bad(what: &[u8]) {
     text(b"BAD: ");
     text(what);
@@ -36,7 +35,7 @@ pub fn is_case(line: &[u8]) -> bool {
     line[0] != b'#'
 }
 
-// The place after the next such byte, or the end.
+// The place past the next such byte, or the end.
 fn past(bytes: &[u8], from: usize, byte: u8) -> usize
     requires { from ≤ length bytes.now }
     ensures { result ≤ length (was bytes) }
@@ -56,10 +55,10 @@ pub fn line_at(input: &[u8], at: usize) -> &[u8]
     &input[at..to]
 }
 
-// The place where the next line begins, or the end.
+// Where the line behind it begins, or the end.
 pub fn next_line(input: &[u8], at: usize) -> usize
     requires { at < length input.now }
-    ensures place { at < result }
+    ensures { at < result }
 {
     let to = find(input, at, b'\n');
     if to < input.len() {
@@ -68,7 +67,7 @@ pub fn next_line(input: &[u8], at: usize) -> usize
     to
 }
 
-// The place where a field begins. The first field has the number 0.
+// Where a field begins; the first field is 0.
 fn start(line: &[u8], number: usize) -> usize
     ensures { result ≤ length (was line) }
 {
@@ -81,7 +80,6 @@ fn start(line: &[u8], number: usize) -> usize
     at
 }
 
-// The part without a space at its front.
 fn without_first_space(part: &[u8]) -> &[u8] {
     if part.len() > 0 {
         if part[0] == b' ' {
@@ -91,7 +89,6 @@ fn without_first_space(part: &[u8]) -> &[u8] {
     part
 }
 
-// The part without a space at its end.
 fn without_last_space(part: &[u8]) -> &[u8] {
     if part.len() > 0 {
         let last = part.len() - 1;
@@ -102,7 +99,7 @@ fn without_last_space(part: &[u8]) -> &[u8] {
     part
 }
 
-// A field, without the space on either side.
+// A field, without the space on either side of it.
 pub fn field(line: &[u8], number: usize) -> &[u8] {
     let from = start(line, number);
     let to = find(line, from, b'|');

@@ -1,14 +1,13 @@
-// Numbers and lists as text. A list's items have a space between them: `7` is an entry, `7*3` is 7
-// 7 7, `3-6` is 3 4 5 6, and `^9` repeats the entries before it until the list has 9 entries.
+// Numbers and lists as text. A list's items are parted by a space: `7` is an entry, `7*3` is 7 7 7, `3-6` is 3 4 5 6, and `^9` is what stands before
+// it in the list, over and over, up to 9 entries.
 ghost use Rattle.std.specs.Prelude.{◌≤◌, length};
 ghost use Rattle.model.specs.Given.{was};
 
 use crate::lines::{bad, find};
 
-// No number: above every number that a text can be.
+// No number: above each that a text can say.
 pub const NONE: usize = 1_000_000;
 
-// The digit that a byte is, or `NONE`.
 fn digit(byte: u8) -> usize {
     if byte < b'0' {
         return NONE;
@@ -19,7 +18,7 @@ fn digit(byte: u8) -> usize {
     (byte - b'0') as usize
 }
 
-// A number with one digit more, or `NONE`.
+// A number with a digit more.
 fn joined(number: usize, digit: usize) -> usize {
     if number >= 100_000 {
         return NONE;
@@ -30,7 +29,7 @@ fn joined(number: usize, digit: usize) -> usize {
     number * 10 + digit
 }
 
-// The number of up to six digits that a text is, or `NONE`.
+// The number of up to six digits that a text is, or none.
 pub fn decimal(digits: &[u8]) -> usize {
     if digits.len() == 0 {
         return NONE;
@@ -44,7 +43,7 @@ pub fn decimal(digits: &[u8]) -> usize {
     n
 }
 
-// The same for a field that must be a number: any other text is reported as bad.
+// The number that a field has to be.
 pub fn value(digits: &[u8]) -> usize {
     let n = decimal(digits);
     if n == NONE {
@@ -53,7 +52,7 @@ pub fn value(digits: &[u8]) -> usize {
     n
 }
 
-// The same for a number up to 65,535.
+// The same, up to 65,535.
 pub fn short(digits: &[u8]) -> u16 {
     let n = value(digits);
     if n <= 65535 {
@@ -63,14 +62,13 @@ pub fn short(digits: &[u8]) -> u16 {
     0
 }
 
-// The text before a sign, or the whole text without the sign.
 pub fn before(item: &[u8], sign: u8) -> &[u8] {
     let at = find(item, 0, sign);
     &item[..at]
 }
 
-// The text after a sign, or nothing without the sign.
-pub fn after(item: &[u8], sign: u8) -> &[u8] {
+// What stands behind a sign; nothing without it.
+pub fn behind(item: &[u8], sign: u8) -> &[u8] {
     let at = find(item, 0, sign);
     if at < item.len() {
         let next = at + 1;
@@ -79,7 +77,6 @@ pub fn after(item: &[u8], sign: u8) -> &[u8] {
     &item[at..]
 }
 
-// The sum, or 255 if it is above.
 fn sum(entry: u8, step: u8) -> u8 {
     if step > 255 - entry {
         return 255;
@@ -87,8 +84,7 @@ fn sum(entry: u8, step: u8) -> u8 {
     entry + step
 }
 
-// Fills the entries from one index up to another: each is a step above the entry `back` places
-// before it.
+// The entries from an index up to another: each a step above the one that stands `back` before it.
 fn repeat(list: &mut [u8], from: usize, to: usize, back: usize, step: u8)
     requires { (to ≤ length list.old) × (back ≤ from) }
 {
@@ -99,15 +95,13 @@ fn repeat(list: &mut [u8], from: usize, to: usize, back: usize, step: u8)
     }
 }
 
-// Writes an entry, if the list has the index.
 fn put(list: &mut [u8], at: usize, entry: u8) {
     if at < list.len() {
         list[at] = entry;
     }
 }
 
-// Writes `count` entries after the first n, each a step above the one before it; answers the new
-// number of entries.
+// So many entries behind the first n, each a step above the one before; the new number of entries.
 fn extend(item: &[u8], list: &mut [u8], n: usize, count: usize, first: usize, step: u8) -> usize
     requires { n ≤ length list.old }
     ensures { result ≤ length (was list) }
@@ -125,7 +119,7 @@ fn extend(item: &[u8], list: &mut [u8], n: usize, count: usize, first: usize, st
     0
 }
 
-// Repeats the first n entries up to an index; answers the new number of entries.
+// The first n entries over and over, up to an index.
 fn again(item: &[u8], list: &mut [u8], n: usize, to: usize) -> usize
     ensures { result ≤ length (was list) }
 {
@@ -141,7 +135,7 @@ fn again(item: &[u8], list: &mut [u8], n: usize, to: usize) -> usize
     0
 }
 
-// The number of numbers from one up to another, or `NONE`.
+// How many numbers there are from one up to another.
 fn reach(first: usize, last: usize) -> usize {
     if first > last {
         return NONE;
@@ -152,19 +146,19 @@ fn reach(first: usize, last: usize) -> usize {
     last - first + 1
 }
 
-// Writes an item's entries after the first n; answers the new number of entries.
+// An item's entries behind the first n; the new number of entries.
 fn read_item(item: &[u8], list: &mut [u8], n: usize) -> usize
     requires { n ≤ length list.old }
     ensures { result ≤ length (was list) }
 {
     if before(item, b'^').len() == 0 {
-        return again(item, list, n, decimal(after(item, b'^')));
+        return again(item, list, n, decimal(behind(item, b'^')));
     }
-    let count = decimal(after(item, b'*'));
+    let count = decimal(behind(item, b'*'));
     if count < NONE {
         return extend(item, list, n, count, decimal(before(item, b'*')), 0);
     }
-    let last = decimal(after(item, b'-'));
+    let last = decimal(behind(item, b'-'));
     if last < NONE {
         let first = decimal(before(item, b'-'));
         return extend(item, list, n, reach(first, last), first, 1);
@@ -172,7 +166,7 @@ fn read_item(item: &[u8], list: &mut [u8], n: usize) -> usize
     extend(item, list, n, 1, decimal(item), 0)
 }
 
-// Writes the entries of a list of items at the front of a list; answers their number.
+// The entries of a list into the front of another; how many.
 fn read_items(items: &[u8], list: &mut [u8]) -> usize {
     let mut n = 0;
     let mut at = 0;
@@ -187,7 +181,7 @@ fn read_items(items: &[u8], list: &mut [u8]) -> usize {
     n
 }
 
-// The first `count` entries of a list, or all of it if it has no more.
+// The first entries of a list; all of it where it has no more.
 pub fn front(list: &mut [u8], count: usize) -> &mut [u8] {
     if count < list.len() {
         return &mut list[..count];
@@ -195,13 +189,13 @@ pub fn front(list: &mut [u8], count: usize) -> &mut [u8] {
     list
 }
 
-// Writes the entries that a field says at the front of a list; answers that front.
+// The entries that a field says, in the front of a list.
 pub fn entries<'a>(items: &[u8], list: &'a mut [u8]) -> &'a mut [u8] {
     let n = read_items(items, list);
     front(list, n)
 }
 
-// The first n entries of a list, where a field says n.
+// As many of a list's first entries as a field says.
 pub fn part<'a>(digits: &[u8], list: &'a mut [u8]) -> &'a mut [u8] {
     let n = decimal(digits);
     if n > list.len() {

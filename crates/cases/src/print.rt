@@ -1,35 +1,30 @@
-// Prints answers and lists on standard output. A case is one line: its label, then the answer, then
-// the lists that matter.
+// Answers and lists on standard output. A case is one line: its label, then the answer, then the lists that matter.
 use model::{Checked, Counted, Done, Located, Measured, Refusal, Signalled, Tried, Worn};
 
-// Prints a text.
 pub fn text(bytes: &[u8]) {
     io::write_all(1, bytes);
 }
 
-// Prints a text, then a number.
+// A number with text before it.
 pub fn figure(before: &[u8], n: usize) {
     text(before);
     io::print_decimal(1, n as u64);
 }
 
-// Prints the label of a case.
 pub fn label(name: &[u8]) {
     text(name);
     text(b": ");
 }
 
-// Prints the end of a case.
 pub fn end() {
     text(b"\n");
 }
 
-// Prints an entry of a list.
 fn entry(x: u8) {
     figure(b" ", x as usize);
 }
 
-// Prints the name of a list, then its entries.
+// A list with its name before it.
 pub fn list(name: &[u8], bytes: &[u8]) {
     text(name);
     let mut i = 0;
@@ -39,13 +34,13 @@ pub fn list(name: &[u8], bytes: &[u8]) {
     }
 }
 
-// Prints the first entries of a list.
+// The first entries of a list.
 pub fn first(name: &[u8], bytes: &[u8], count: isize) {
     let n = io::count(count, bytes);
     list(name, &bytes[..n]);
 }
 
-// Prints the last entries of a list.
+// The last entries of a list.
 pub fn last(name: &[u8], bytes: &[u8], count: usize) {
     if count <= bytes.len() {
         let from = bytes.len() - count;
@@ -53,13 +48,11 @@ pub fn last(name: &[u8], bytes: &[u8], count: usize) {
     }
 }
 
-// The digest of a list with one entry more.
 fn mixed(h: usize, b: u8) -> usize {
     (h % 1000003 * 31 + b as usize) % 1000003
 }
 
-// Prints a long list as one number: from 0, each entry makes it itself times 31 plus the entry,
-// modulo 1,000,003.
+// A long list in one number: from 0, for each entry the number times 31 plus the entry, modulo 1,000,003.
 pub fn digest(name: &[u8], bytes: &[u8]) {
     let mut h = 0;
     let mut i = 0;
@@ -70,13 +63,11 @@ pub fn digest(name: &[u8], bytes: &[u8]) {
     figure(name, h);
 }
 
-// Prints a refusal.
 fn refused(r: Refusal) {
     figure(b"refusal ", refusal::number(r) as usize);
     figure(b" place ", refusal::place(r));
 }
 
-// Each function below prints an answer of one kind.
 pub fn done(answer: Done) {
     match answer {
         Done::Accepted => text(b"accepted"),

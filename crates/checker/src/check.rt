@@ -5,7 +5,7 @@ ghost use Rattle.model.specs.Given.{given, handed, was};
 ghost use Rattle.model.specs.Judge.{first_of, Tree};
 ghost use Rattle.model.specs.Calls.Plans.{moves_of};
 ghost use Rattle.model.specs.Calls.Checks.{obey_tests, check_fault, check_answer};
-ghost use Rattle.model.specs.Meaning.{fault_of_done, answer_of_checked};
+ghost use Rattle.model.specs.Paper.{paper_done, paper_checked};
 ghost use Rattle.laws.specs.Demand2.{CheckerExact, Accepts};
 
 use crate::obey::{obey_copy, whole_plan};
@@ -17,7 +17,7 @@ use model::{Checked, Done, Refusal};
 // Obeys a whole plan on a copy of the pebbles of a tree: refusals 10 to 13 move by move, then 14.
 fn obey_to_end(parents: &[u8], pebbles: &[u8], targets: &[u8], depths: &[u8], plan: &[u8]) -> Done
     requires { Tree (handed parents pebbles targets depths) }
-    ensures { fault_of_done result ≡ first_of (obey_tests (given parents pebbles targets depths) (moves_of (was plan))) }
+    ensures { paper_done result ≡ first_of (obey_tests (given parents pebbles targets depths) (moves_of (was plan))) }
 {
     let n = parents.len();
     let mut counts = [0u8; 256];
@@ -35,7 +35,7 @@ fn obey_to_end(parents: &[u8], pebbles: &[u8], targets: &[u8], depths: &[u8], pl
     }
     let empty = first_below(&counts[..n], targets);
     if empty < n {
-        return Done::Refused(Refusal::TargetUnmet(empty));
+        return Done::Refused(Refusal::TargetEmpty(empty));
     }
     Done::Accepted
 }
@@ -49,7 +49,7 @@ fn test_matched_plan(
     plan: &[u8],
 ) -> Done
     requires { Tree (handed parents pebbles targets depths) × Matched (handed parents pebbles targets depths) }
-    ensures { fault_of_done result ≡ check_fault (given parents pebbles targets depths) (was plan) }
+    ensures { paper_done result ≡ check_fault (given parents pebbles targets depths) (was plan) }
 {
     if !whole_plan(plan) {
         return Done::Refused(Refusal::PlanLength);
@@ -57,10 +57,10 @@ fn test_matched_plan(
     obey_to_end(parents, pebbles, targets, depths, plan)
 }
 
-// The checker without its figures: refusals 1 to 6, 7, 9, 10 to 13 for each move in turn with its
-// number as place, then 14 with the lowest node that lacks a pebble. A plan need not be shortest.
+// The checker without its figures: refusals 1 to 6, 7, 9, 10 to 13 for each move in turn with its number as place, then 14 with the lowest node
+// that lacks a pebble. A plan need not be shortest.
 pub fn test_plan(parents: &[u8], pebbles: &[u8], targets: &[u8], depths: &[u8], plan: &[u8]) -> Done
-    ensures answer { fault_of_done result ≡ check_fault (given parents pebbles targets depths) (was plan) }
+    ensures { paper_done result ≡ check_fault (given parents pebbles targets depths) (was plan) }
 {
     let tested = test_matched(parents, pebbles, targets, depths);
     if let Done::Refused(fault) = tested {
@@ -69,12 +69,11 @@ pub fn test_plan(parents: &[u8], pebbles: &[u8], targets: &[u8], depths: &[u8], 
     test_matched_plan(parents, pebbles, targets, depths, plan)
 }
 
-// The checker: refused as above, else the number of moves and the excess (spare), moves minus
-// shortest length. On a tree with as many pebbles as targets it accepts whole moves exactly if each
-// carries a pebble and they end on exactly the targets (`CheckerExact`, demand 2).
+// The checker: refused as above, else the number of moves and the excess (spare), moves minus shortest length. On a tree with as many pebbles as targets it accepts
+// whole moves exactly if each carries a pebble and they end on exactly the targets (`CheckerExact`, demand 2).
 pub fn check(parents: &[u8], pebbles: &[u8], targets: &[u8], depths: &[u8], plan: &[u8]) -> Checked
-    ensures answer { answer_of_checked result ≡ check_answer (given parents pebbles targets depths) (was plan) }
-    ensures exact { CheckerExact (given parents pebbles targets depths) (was plan) (Accepts (answer_of_checked result)) }
+    ensures result_value { paper_checked result ≡ check_answer (given parents pebbles targets depths) (was plan) }
+    ensures checker_exact { CheckerExact (given parents pebbles targets depths) (was plan) (Accepts (paper_checked result)) }
 {
     let tested = test_plan(parents, pebbles, targets, depths, plan);
     if let Done::Refused(r) = tested {

@@ -1,11 +1,10 @@
-// What the checker and the trial share: the test of a plan's length, and the moves of a plan's
-// front obeyed one by one.
+// What the checker and the trial share: the test of a plan's length, and the moves of a plan's front obeyed one by one.
 ghost use Rattle.std.specs.Prelude.{◌≡◌, ◌*◌, ◌≤◌, length};
 ghost use Rattle.model.specs.Given.{given, handed, was, became};
 ghost use Rattle.model.specs.Judge.{fault, unless, Tree};
 ghost use Rattle.model.specs.Push.{after};
-ghost use Rattle.model.specs.Calls.Checks.{plan_length_fault, moves_fault, within};
-ghost use Rattle.model.specs.Meaning.{fault_of_done};
+ghost use Rattle.model.specs.Calls.Checks.{bytes_fault, moves_fault, within};
+ghost use Rattle.model.specs.Paper.{paper_done};
 ghost use Rattle.checker.specs.Obeyed.{obeyed};
 
 use lists::copy::copy;
@@ -14,7 +13,7 @@ use yard::step::step;
 
 // Whether a plan's length is even and at most 262,144 bytes: else refusal 9 meets it.
 pub fn whole_plan(plan: &[u8]) -> bool
-    ensures answer { plan_length_fault (was plan) ≡ unless result (fault 9 0) }
+    ensures { bytes_fault (was plan) ≡ unless result (fault 9 0) }
 {
     if plan.len() % 2 != 0 {
         return false;
@@ -22,9 +21,8 @@ pub fn whole_plan(plan: &[u8]) -> bool
     plan.len() <= 262144
 }
 
-// Obeys the first `count` moves of a plan on the pebbles of a tree. A refusal is that of the first
-// move that is refused, with its number as place; the moves before it are obeyed, so callers lend a
-// copy.
+// Obeys the first `count` moves of a plan on the pebbles of a tree. A refusal is that of the first move that is refused, with its number as
+// place; the moves before it are obeyed, so callers lend a copy.
 fn obey(
     parents: &[u8],
     pebbles: &mut [u8],
@@ -34,8 +32,8 @@ fn obey(
     count: usize,
 ) -> Done
     requires { Tree (handed parents pebbles targets depths) × (2 * count ≤ length plan.now) }
-    ensures result_value { fault_of_done result ≡ moves_fault 0 (given parents pebbles targets depths) (within (was plan) count) }
-    ensures pebbles_value { became pebbles ≡ after (given parents pebbles targets depths) (obeyed (fault_of_done result) (was plan) count) }
+    ensures result_value { paper_done result ≡ moves_fault 0 (given parents pebbles targets depths) (within (was plan) count) }
+    ensures pebbles_value { became pebbles ≡ after (given parents pebbles targets depths) (obeyed (paper_done result) (was plan) count) }
 {
     let mut i = 0;
     while i < count {
@@ -62,8 +60,8 @@ pub fn obey_copy(
 ) -> Done
     requires tree { Tree (handed parents pebbles targets depths) × (2 * count ≤ length plan.now) }
     requires counts_len { length counts.old ≡ length pebbles.now }
-    ensures answer { fault_of_done result ≡ moves_fault 0 (given parents pebbles targets depths) (within (was plan) count) }
-    ensures list { became counts ≡ after (given parents pebbles targets depths) (obeyed (fault_of_done result) (was plan) count) }
+    ensures result_value { paper_done result ≡ moves_fault 0 (given parents pebbles targets depths) (within (was plan) count) }
+    ensures counts_value { became counts ≡ after (given parents pebbles targets depths) (obeyed (paper_done result) (was plan) count) }
 {
     copy(pebbles, counts);
     obey(parents, counts, targets, depths, plan, count)

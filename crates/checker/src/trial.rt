@@ -3,7 +3,7 @@ ghost use Rattle.std.specs.Prelude.{◌≡◌, ◌*◌, ◌≤◌, length};
 ghost use Rattle.model.specs.Given.{given, handed, was, became};
 ghost use Rattle.model.specs.Judge.{Tree};
 ghost use Rattle.model.specs.Calls.Checks.{moves_fault, within, trial_answer, trial_pebbles};
-ghost use Rattle.model.specs.Meaning.{fault_of_done, answer_of_tried};
+ghost use Rattle.model.specs.Paper.{paper_done, paper_tried};
 ghost use Rattle.checker.specs.Obeyed.{obeyed_or_left};
 
 use crate::obey::{obey_copy, whole_plan};
@@ -12,8 +12,7 @@ use lists::copy::copy;
 use lists::numbers::smaller;
 use model::{Done, Refusal, Tried};
 
-// Obeys the first `count` moves of a plan on a copy of the pebbles of a tree, and writes the new
-// counts if none is refused.
+// Obeys the first `count` moves of a plan on a copy of the pebbles of a tree, and writes the new counts if none is refused.
 fn obey_or_leave(
     parents: &[u8],
     pebbles: &mut [u8],
@@ -23,8 +22,8 @@ fn obey_or_leave(
     count: usize,
 ) -> Done
     requires { Tree (handed parents pebbles targets depths) × (2 * count ≤ length plan.now) }
-    ensures result_value { fault_of_done result ≡ moves_fault 0 (given parents pebbles targets depths) (within (was plan) count) }
-    ensures pebbles_value { became pebbles ≡ obeyed_or_left (fault_of_done result) (given parents pebbles targets depths) (within (was plan) count) }
+    ensures result_value { paper_done result ≡ moves_fault 0 (given parents pebbles targets depths) (within (was plan) count) }
+    ensures pebbles_value { became pebbles ≡ obeyed_or_left (paper_done result) (given parents pebbles targets depths) (within (was plan) count) }
 {
     let n = parents.len();
     let mut counts = [0u8; 256];
@@ -44,9 +43,8 @@ fn obey_or_leave(
     Done::Accepted
 }
 
-// Refusals 1 to 6, 9, then 10 to 13 on the moves obeyed; it writes the new counts, and answers the
-// moves taken and which of the two ended it (together: the plan). Moves past the budget are not
-// examined, totals may differ, and a refusal leaves the counts as they were.
+// Refusals 1 to 6, 9, then 10 to 13 on the moves obeyed; it writes the new counts, and answers the moves taken and which of the two ended it
+// (together: the plan). Moves past the budget are not examined, totals may differ, and a refusal leaves the counts as they were.
 pub fn trial(
     parents: &[u8],
     pebbles: &mut [u8],
@@ -55,8 +53,8 @@ pub fn trial(
     plan: &[u8],
     budget: u16,
 ) -> Tried
-    ensures answer { answer_of_tried result ≡ trial_answer (given parents pebbles targets depths) (was plan) budget }
-    ensures list { became pebbles ≡ trial_pebbles (given parents pebbles targets depths) (was plan) budget }
+    ensures result_value { paper_tried result ≡ trial_answer (given parents pebbles targets depths) (was plan) budget }
+    ensures pebbles_value { became pebbles ≡ trial_pebbles (given parents pebbles targets depths) (was plan) budget }
 {
     let tested = test_yard(parents, pebbles, targets, depths);
     if let Done::Refused(r) = tested {

@@ -1,24 +1,22 @@
--- Counting crossings move by move: a move adds one to the counts of the edges that it crosses, and
--- k moves cross an edge at most k times.
+-- Counting crossings move by move: a move raises the counts of the edges that it crosses, and so many moves cross an edge at most so often.
 use mathlib.Core.Path.{◌≡◌, refl, sym, ap, ◌∙◌}
-use mathlib.Core.Bool.{Bool, true, false, ◌&&◌, and_comm}
+use mathlib.Core.Bool.{Bool, true, false, ◌&&◌}
 use mathlib.Core.List.{List, [], ◌∷◌}
-use Prim.Native.Nat.{ℕ, ◌+◌, ◌≤◌, ◌<◌}
+use Prim.Native.Nat.{ℕ, zero, suc, ◌+◌, ◌≤◌, ◌<◌}
 use native.Mathlib.Numerals.{add-one}
 use native.Mathlib.Omega.{arith}
 use native.Mathlib.Decide.{ℕ_discrete}
-use lib.ListN.{length, get_or, set, take, length-set}
+use lib.ListN.{length, get_or, set, take, replicate, length-set}
 use lib.Seq.{take-suc, length-take-le, get_or-set_same, get_or-set_other}
 use lib.Dec.{eqb}
 use borrow.Author.Tests.{eq-eqb, ne_eqb}
-use Rattle.model.specs.Yard.{up}
-use Rattle.model.specs.Numbers.{one}
+use Rattle.model.specs.Yard.{up, one}
 use Rattle.model.specs.Push.{Move, push, is_up, is_down, count}
-use Rattle.laws.proofs.Base.Lists.{eqb_sym}
-use Rattle.laws.proofs.Calls.Wear.{count_append, count_le}
+use Rattle.laws.proofs.Basics.{eqb_sym}
+use Rattle.laws.proofs.Wear.{count_append, count_le}
 use Rattle.checks.specs.Crossings.{raised, bare, CrossingsOf}
 
--- the counts with one more at v
+-- one more at v
 pub length_raised : (v : ℕ) (b : Bool) (xs : List ℕ) → length (raised v b xs) ≡ length xs
 length_raised v true xs = length-set xs v _
 length_raised v false xs = refl
@@ -31,18 +29,23 @@ entry_raised v w true xs l = go (ℕ_discrete w v)
     go (yes e) = rw (e, eq-eqb v v refl) (get_or-set_same xs v _ 0 l)
     go (no n) = rw (ne_eqb w v n) (get_or-set_other xs v w _ 0 n ∙ omega arith)
 
+swap : (a b : Bool) → (a && b) ≡ (b && a)
+swap true true = refl
+swap true false = refl
+swap false true = refl
+swap false false = refl
+
 module _ (ps : List ℕ) where
-  -- if v is a, a test of the edge of a is a test of the edge of v
+  -- at v, a test of the edge of a is one of the edge of v
   same_edge : (a v : ℕ) (p : ℕ → Bool) → ((p a) && (eqb v a)) ≡ ((p v) && (eqb v a))
   same_edge a v p = go (ℕ_discrete v a)
     where
       go : Dec (v ≡ a) → ((p a) && (eqb v a)) ≡ ((p v) && (eqb v a))
       go (yes e) = rw e
-      go (no n) = rw (ne_eqb v a n) (and_comm (p a) false ∙ sym (and_comm (p v) false))
+      go (no n) = rw (ne_eqb v a n) (swap (p a) false ∙ sym (swap (p v) false))
 
   up_is : (a b v : ℕ) → ((eqb (up ps a) b) && (eqb v a)) ≡ is_up (bare ps) v (push a b)
-  up_is a b v =
-      same_edge a v (λ u. eqb (up ps u) b) ∙ and_comm (eqb (up ps v) b) (eqb v a) ∙ rw (eqb_sym v a, eqb_sym (up ps v) b)
+  up_is a b v = same_edge a v (λ u. eqb (up ps u) b) ∙ swap (eqb (up ps v) b) (eqb v a) ∙ rw (eqb_sym v a, eqb_sym (up ps v) b)
 
   down_is : (a b v : ℕ) → ((eqb (up ps b) a) && (eqb v b)) ≡ is_down (bare ps) v (push a b)
   down_is a b v = same_edge b v (λ u. eqb (up ps u) a) ∙ rw (eqb_sym v b, eqb_sym (up ps v) a)
@@ -54,18 +57,20 @@ module _ (ps : List ℕ) where
         let m = get_or ms k (push 0 0) in
         rw (add-one k, take-suc ms k (push 0 0) l) (omega (arith, count_append p (take k ms) (m ∷ [])))
 
-    pub crossed_next : (a b : ℕ) (us ds : List ℕ) → get_or ms k (push 0 0) ≡ push a b → a < length us → b < length ds
-        → CrossingsOf ps (take k ms) us ds
+    pub crossed_next : (a b : ℕ) (us ds : List ℕ) → get_or ms k (push 0 0) ≡ push a b → a < length us → b < length ds → CrossingsOf ps (take k ms) us ds
         → CrossingsOf ps (take (k + 1) ms) (raised a (eqb (up ps a) b) us) (raised b (eqb (up ps b) a) ds)
     crossed_next a b us ds e la lb c v = (
       entry_raised a v (eqb (up ps a) b) us la ∙ rw (next (is_up (bare ps) v), e, up_is a b v, (c v).0),
       entry_raised b v (eqb (up ps b) a) ds lb ∙ rw (next (is_down (bare ps) v), e, down_is a b v, (c v).1),
     )
 
-  pub crossed_few : (ms : List Move) (k : ℕ) (us ds : List ℕ) → k ≤ length ms → CrossingsOf ps (take k ms) us ds
-      → (v : ℕ) → (get_or us v 0 ≤ k) × (get_or ds v 0 ≤ k)
+  pub crossed_few : (ms : List Move) (k : ℕ) (us ds : List ℕ) → k ≤ length ms → CrossingsOf ps (take k ms) us ds → (v : ℕ) → (get_or us v 0 ≤ k) × (get_or ds v 0 ≤ k)
   crossed_few ms k us ds l c v =
       let n = length-take-le k ms l in
-      let ups = count_le (is_up (bare ps) v) (take k ms) in
-      let downs = count_le (is_down (bare ps) v) (take k ms) in
-      (omega (arith, (c v).0, ups, n), omega (arith, (c v).1, downs, n))
+      (omega (arith, (c v).0, count_le (is_up (bare ps) v) (take k ms), n), omega (arith, (c v).1, count_le (is_down (bare ps) v) (take k ms), n))
+
+-- an array of zeros
+pub zero_entry : (n v : ℕ) → get_or (replicate {A = ℕ} n 0) v 0 ≡ 0
+zero_entry zero v = refl
+zero_entry (suc n) zero = refl
+zero_entry (suc n) (suc v) = zero_entry n v

@@ -1,4 +1,4 @@
--- Laws that the proofs of the functions share.
+-- Laws that several proofs of this crate cite.
 mod YardEnd
 mod MovesRead
 mod Counting

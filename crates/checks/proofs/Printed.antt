@@ -1,5 +1,4 @@
--- What is printed, by the case of each answer: first the yard sheet is read, then the move sheet,
--- then the checker answers. Each answer is a value or a refusal.
+-- What is printed, by the case of each answer on the way.
 use mathlib.Core.Path.{◌≡◌, sym, ap, ◌∙◌}
 use mathlib.Core.List.{List}
 use Prim.Native.Nat.{ℕ, ◌+◌}
@@ -11,9 +10,9 @@ use Rattle.model.specs.Calls.Plans.{moves_of}
 use Rattle.model.specs.Calls.Checks.{Verdict, check_answer}
 use Rattle.model.specs.Sheets.{read_yard, refusal_sheet}
 use Rattle.model.specs.CheckSheets.{yard_part, readPlan, and_then, BothSheets, with_plan, read_sheets, verdict_sheet, printed_of_sheets, checks}
-use Rattle.laws.proofs.Calls.OneNumber.{checked_encodable, read_row}
-use Rattle.laws.proofs.Sheets.YardPart.{yard_part_front}
-use Rattle.laws.proofs.Sheets.CheckProgram.{checks_cut}
+use Rattle.laws.proofs.Places.{checked_small, read_row}
+use Rattle.laws.proofs.YardPart.{yard_part_front}
+use Rattle.laws.proofs.CheckSheets.{checks_cut}
 use Rattle.checks.specs.Verdicts.{accepted_sheet, checked_plan, checked_from}
 
 -- the checker's answer: accepted, or refused with a number and a place that can be printed
@@ -22,9 +21,9 @@ agreed y plan e = ap (verdict_sheet y (moves_of plan)) e
 
 pub refusal : (y : Yard) (plan : List ℕ) {f : Fault} → refused f ≡ check_answer y plan → Row f × (refusal_sheet f ≡ checked_plan y plan)
 unfolding verdict_sheet
-refusal y plan e = (checked_encodable y plan e, ap (verdict_sheet y (moves_of plan)) e)
+refusal y plan e = (checked_small y plan e, ap (verdict_sheet y (moves_of plan)) e)
 
--- the plan that was read, or the refusal of its sheet
+-- the plan that was read, or what refuses its sheet
 module _ (y : Yard) (rest : List ℕ) where
   pub planned : {plan : List ℕ} → answered plan ≡ readPlan (size y + 2) rest → checked_plan y plan ≡ checked_from y rest
   planned p = ap (λ (a : Answer (List ℕ)). printed_of_sheets (mapAnswer (with_plan y) a)) p
@@ -32,7 +31,7 @@ module _ (y : Yard) (rest : List ℕ) where
   pub unplanned : {f : Fault} → refused f ≡ readPlan (size y + 2) rest → refusal_sheet f ≡ checked_from y rest
   unplanned e = ap (λ (a : Answer (List ℕ)). printed_of_sheets (mapAnswer (with_plan y) a)) e
 
--- the yard that was read from the front of an input, or the refusal of its sheet
+-- the yard that was read from the front of an input, or what refuses its sheet
 module _ (input : List ℕ) (end : ℕ) (n : end ≡ length (yard_part input)) where
   abbrev after : Answer Yard → Answer BothSheets
   after r = and_then r (λ y. mapAnswer (with_plan y) (readPlan (size y + 2) (drop end input)))

@@ -1,5 +1,4 @@
--- The report of accepted moves: their nodes are nodes of the yard, their crossings are counted, and
--- the report fits.
+-- The report of accepted moves: their nodes are of the yard, their crossings are counted, and there is room for it.
 use mathlib.Core.Path.{◌≡◌, refl, sym, ap, ◌∙◌}
 use mathlib.Core.List.{List, [], ◌∷◌, ◌++◌, append_assoc}
 use Prim.Native.Nat.{ℕ, zero, suc, ◌+◌, ◌*◌, ◌/◌, ◌%◌, ◌≤◌, ◌<◌}
@@ -14,25 +13,24 @@ use Rattle.model.specs.Calls.Plans.{moves_of}
 use Rattle.model.specs.Calls.Checks.{Verdict, check_tests, check_fault, check_answer}
 use Rattle.model.specs.Sheets.{text, line, report}
 use Rattle.model.specs.CheckSheets.{verdict_sheet}
-use Rattle.laws.proofs.Base.Lists.{none_all}
-use Rattle.laws.proofs.Tree.Judge.{facts}
-use Rattle.laws.proofs.Push.Step.{ends}
-use Rattle.laws.proofs.Push.Runs.{Obeys}
-use Rattle.laws.proofs.Push.MoveTests.{accepted_obeys}
-use Rattle.laws.proofs.Calls.Answers.{answer-answered, movesOf-half, move_at}
-use Rattle.laws.proofs.Cabinet.Step.{bytes_fault_whole}
-use Rattle.laws.proofs.Calls.OneNumber.{checked_encodable, excess_encodable}
-use Rattle.laws.proofs.Plan.Demand2.{check_excess}
-use Rattle.laws.proofs.Calls.Spare.{check_solves}
-use Rattle.laws.proofs.Calls.Wear.{count_le}
+use Rattle.laws.proofs.Basics.{none_all}
+use Rattle.laws.proofs.Judged.{facts}
+use Rattle.laws.proofs.Step.{ends}
+use Rattle.laws.proofs.Runs.{Obeys}
+use Rattle.laws.proofs.Moves.{accepted_obeys}
+use Rattle.laws.proofs.Calls.{answer_answered, moves_of_half, move_at}
+use Rattle.laws.proofs.Cabinet.{bytes_fault_whole}
+use Rattle.laws.proofs.Places.{checked_small, excess_small}
+use Rattle.laws.proofs.Demand2.{check_excess}
+use Rattle.laws.proofs.Spare.{check_solves}
+use Rattle.laws.proofs.Wear.{count_le}
 use Rattle.sheet.specs.Report.{Columns, report_of}
 use Rattle.sheet.proofs.Edges.{report_is}
 use Rattle.checks.specs.Crossings.{InYard, bare, Counted}
 use Rattle.checks.specs.Verdicts.{Accepted, accepted_sheet}
 
--- obeyed moves are between nodes of the yard
-obeys_nodes : {y z : Yard} {ms : List Move} → Obeys y ms z → (k : ℕ) → k < length ms
-    → let m = get_or ms k (push 0 0) in (m.from < size y) × (m.to < size y)
+-- the nodes of moves that are obeyed
+obeys_nodes : {y z : Yard} {ms : List Move} → Obeys y ms z → (k : ℕ) → k < length ms → let m = get_or ms k (push 0 0) in (m.from < size y) × (m.to < size y)
 obeys_nodes Obeys.done k l = absurd (omega arith)
 obeys_nodes (Obeys.next {y} {m = m} s o) zero l = let e = ends y m s in (omega (arith, e), omega (arith, e))
 obeys_nodes (Obeys.next {y} {m = m} s o) (suc k) l = obeys_nodes o k (omega arith)
@@ -41,7 +39,7 @@ module _ (y : Yard) {ps plan : List ℕ} {v : Verdict} (h : Accepted y ps plan v
   whole : (length plan ≡ 2 * length (moves_of plan)) × (length (moves_of plan) ≤ 131_072)
   unfolding check_fault
   whole =
-      let a = (answer-answered (check_fault y plan) _ v h.answer).0 in
+      let a = (answer_answered (check_fault y plan) _ v h.answer).0 in
       (bytes_fault_whole plan).0 (none_all (check_tests y plan) a).1.1.0
 
   nodes : (k : ℕ) → k < length (moves_of plan) → (get_or plan (2 * k) 0 < length ps) × (get_or plan (2 * k + 1) 0 < length ps)
@@ -53,27 +51,24 @@ module _ (y : Yard) {ps plan : List ℕ} {v : Verdict} (h : Accepted y ps plan v
   pub in_yard : InYard ps plan
   in_yard =
       let s = check_solves y plan v h.answer in
-      let few = rw h.is at (facts y s.0).few.1 in
-      record { few = few; short = omega (arith, whole); node = λ i l. at_byte i l (ℕ_discrete (i % 2) 0) }
+      record { few = rw h.is at (facts y s.0).few.1; short = omega (arith, whole); node = λ i l. at_byte i l (ℕ_discrete (i % 2) 0) }
     where
       at_byte : (i : ℕ) → i < length plan → Dec (i % 2 ≡ 0) → get_or plan i 0 < length ps
       at_byte i l (yes e) = let q : 2 * (i / 2) ≡ i = omega arith in rw q at (nodes (i / 2) (omega (arith, whole.0))).0
       at_byte i l (no e) = let q : 2 * (i / 2) + 1 ≡ i = omega arith in rw q at (nodes (i / 2) (omega (arith, whole.0))).1
 
   pub values_small : (v.moves < rowUnit) × (v.excess < rowUnit)
-  values_small = (checked_encodable y plan (sym h.answer), excess_encodable y plan (sym h.answer))
+  values_small = (checked_small y plan (sym h.answer), excess_small y plan (sym h.answer))
 
   -- the counts are small
   module _ {us ds : List ℕ} (c : Counted ps plan us ds) where
-    first : (xs : List ℕ) → length xs ≡ 256 → ((w : ℕ) → get_or xs w 0 ≤ 131_072)
-        → (w : ℕ) → get_or (take (length ps) xs) w 0 < rowUnit
+    first : (xs : List ℕ) → length xs ≡ 256 → ((w : ℕ) → get_or xs w 0 ≤ 131_072) → (w : ℕ) → get_or (take (length ps) xs) w 0 < rowUnit
     first xs e f w = go (dec_lt w (length ps))
       where
         go : Dec (w < length ps) → get_or (take (length ps) xs) w 0 < rowUnit
         go (yes l) = rw (get_or-take (length ps) xs w 0 l) (omega (arith, f w))
         go (no l) =
-            let n = length-take-le (length ps) xs (omega (arith, e, in_yard.few)) in
-            let k : length (take (length ps) xs) ≤ w = omega (arith, n) in
+            let k : length (take (length ps) xs) ≤ w = omega (arith, length-take-le (length ps) xs (omega (arith, e, in_yard.few))) in
             rw (get_or-eq_default (take (length ps) xs) 0 k) (omega arith)
 
     pub accepted_columns : Columns (take (length ps) us) (take (length ps) ds)
@@ -84,28 +79,22 @@ module _ (y : Yard) {ps plan : List ℕ} {v : Verdict} (h : Accepted y ps plan v
         record {
           few = omega (arith, a, n);
           same = b ∙ sym a;
-          up_small = first us c.up_length
-              (λ w. omega (arith, (c.are w).0, count_le (is_up (bare ps) w) (moves_of plan), whole.1));
-          down_small = first ds c.down_length
-              (λ w. omega (arith, (c.are w).1, count_le (is_down (bare ps) w) (moves_of plan), whole.1));
+          up_small = first us c.up_length (λ w. omega (arith, (c.are w).0, count_le (is_up (bare ps) w) (moves_of plan), whole.1));
+          down_small = first ds c.down_length (λ w. omega (arith, (c.are w).1, count_le (is_down (bare ps) w) (moves_of plan), whole.1));
         }
 
--- the counts are the crossings of the moves, so the report is that of the moves
-pub accepted_report : (y : Yard) {plan : List ℕ} {v : Verdict} (h : Accepted y y.parents plan v) {us ds : List ℕ}
-    → Counted y.parents plan us ds → (n r : ℕ) → n ≡ size y → r ≡ root y
+-- and they are the crossings of the moves, so the report is theirs
+pub accepted_report : (y : Yard) {plan : List ℕ} {v : Verdict} (h : Accepted y y.parents plan v) {us ds : List ℕ} → Counted y.parents plan us ds → (n r : ℕ) → n ≡ size y → r ≡ root y
     → report_of (take n us) (take n ds) r v.moves ≡ report y (moves_of plan)
 accepted_report y {plan} {v} h {us} {ds} c n r e q =
     let few = (in_yard y h).few in
     let s = check_solves y plan v h.answer in
-    let long = length-take-le (size y) us (omega (arith, few, c.up_length)) in
-    let moves = (check_excess y s.0 s.1 plan v h.answer).0 in
-    rw e (report_is y (moves_of plan) (take (size y) us) (take (size y) ds) r v.moves long
-    (λ w l. (
-      get_or-take (size y) us w 0 l ∙ (c.are w).0 ∙ sym (ap (count (is_up y w)) s.2),
-      get_or-take (size y) ds w 0 l ∙ (c.are w).1 ∙ sym (ap (count (is_down y w)) s.2),
-    )) q moves)
+    rw e
+    (report_is y (moves_of plan) (take (size y) us) (take (size y) ds) r v.moves (length-take-le (size y) us (omega (arith, few, c.up_length)))
+    (λ w l.
+    (get_or-take (size y) us w 0 l ∙ (c.are w).0 ∙ sym (ap (count (is_up y w)) s.2), get_or-take (size y) ds w 0 l ∙ (c.are w).1 ∙ sym (ap (count (is_down y w)) s.2)))
+    q (check_excess y s.0 s.1 plan v h.answer).0)
 
-pub accepted_sheet_law : (y : Yard) (plan : List ℕ) (v : Verdict)
-    → (text "moves spare\n" ++ line (v.moves ∷ v.excess ∷ [])) ++ report y (moves_of plan) ≡ accepted_sheet y plan v
+pub accepted_sheet_law : (y : Yard) (plan : List ℕ) (v : Verdict) → (text "moves spare\n" ++ line (v.moves ∷ v.excess ∷ [])) ++ report y (moves_of plan) ≡ accepted_sheet y plan v
 unfolding verdict_sheet
 accepted_sheet_law y plan v = append_assoc (text "moves spare\n") (line (v.moves ∷ v.excess ∷ [])) (report y (moves_of plan))

@@ -1,5 +1,4 @@
--- The end of the yard sheet, byte by byte: after a byte that does not end it, it goes on with the
--- next byte.
+-- Where the yard sheet ends, byte by byte: from a byte that does not end it, it goes on with the next.
 use mathlib.Core.Path.{◌≡◌}
 use mathlib.Core.Bool.{Bool, true, false, not, ◌&&◌}
 use mathlib.Core.List.{List}
@@ -12,9 +11,9 @@ use Rattle.model.specs.CheckSheets.{digit_first, yard_part}
 use Rattle.sheet.proofs.Writing.{drop_next}
 
 module _ (l : List ℕ) (i : ℕ) where
-  pub digit_past : length l ≤ i → false ≡ digit_first (drop i l)
+  pub digit_behind : length l ≤ i → false ≡ digit_first (drop i l)
   unfolding digit_first
-  digit_past h = rw (drop_of_length-le l h)
+  digit_behind h = rw (drop_of_length-le l h)
 
   module _ (h : i < length l) where
     pub digit_low : get_or l i 0 < 48 → false ≡ digit_first (drop i l)

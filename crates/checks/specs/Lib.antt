@@ -1,4 +1,4 @@
--- Definitions that the contracts of the functions of this crate cite.
+-- Definitions that the contracts of this crate's helpers cite.
 pub mod Reading
 pub mod Crossings
 pub mod Verdicts

@@ -1,18 +1,18 @@
--- The plan that is read from a move sheet.
+-- What the program's helpers answer, in the model's words.
 use Rattle.std.specs.Prelude.{List, ℕ, ◌*◌, take}
 use Rattle.model.specs.Calls.Answers.{Answer, answered, refused}
 use Rattle.model.specs.CheckSheets.{moves_read}
-use Rattle.model.specs.Meaning.{fault_of}
+use Rattle.model.specs.Paper.{paper}
 use Rattle.model.specs.declared.Counted.{Counted}
 
--- room for all moves that are read
+-- room for all the moves that are read
 abbrev pub plan_room : ℕ
 plan_room = 2 * moves_read
 
--- the plan in the first bytes of an array: two bytes for each move, by the number that is answered
+-- the plan in the first bytes of an array, two for each of the moves that are answered
 abbrev pub plan_in : Counted → List ℕ → Answer (List ℕ)
 plan_in (Counted.Number m) plan = answered (take (2 * m) plan)
-plan_in (Counted.Refused r) plan = refused (fault_of r)
+plan_in (Counted.Refused r) plan = refused (paper r)
 
 abbrev pub moves_in : Counted → ℕ
 moves_in (Counted.Number m) = m

@@ -1,7 +1,7 @@
--- What is printed for accepted moves, for a plan, and for a move sheet.
-use Rattle.std.specs.Prelude.{◌≡◌, List, ℕ, ◌+◌, length}
+-- What is printed for accepted moves.
+use Rattle.std.specs.Prelude.{◌≡◌, List, ℕ, ◌+◌}
 use Rattle.model.specs.Yard.{Yard, size, max_size}
-use Rattle.model.specs.Calls.Answers.{answered, mapAnswer, overwrite}
+use Rattle.model.specs.Calls.Answers.{answered, mapAnswer}
 use Rattle.model.specs.Calls.Plans.{moves_of}
 use Rattle.model.specs.Calls.Checks.{Verdict, check_answer}
 use Rattle.model.specs.CheckSheets.{with_plan, readPlan, verdict_sheet, printed_of_sheets}
@@ -11,12 +11,11 @@ use Rattle.sheet.specs.Report.{report_room}
 abbrev pub verdict : ℕ → ℕ → Verdict
 verdict moves excess = record { moves = moves; excess = excess }
 
--- the checker accepts the plan for a yard with these parents
+-- the checker accepts the plan for a yard of these parents
 pub record Accepted (y : Yard) (parents plan : List ℕ) (v : Verdict) : Type 0 where
   pub is : y.parents ≡ parents
   pub answer : check_answer y plan ≡ answered v
 
--- what is printed for accepted moves
 abbrev pub accepted_sheet : Yard → List ℕ → Verdict → List ℕ
 accepted_sheet y plan v = verdict_sheet y (moves_of plan) (answered v)
 
@@ -26,15 +25,6 @@ checked_plan y plan = verdict_sheet y (moves_of plan) (check_answer y plan)
 
 abbrev pub checked_from : Yard → List ℕ → List ℕ
 checked_from y rest = printed_of_sheets (mapAnswer (with_plan y) (readPlan (size y + 2) rest))
-
--- every yard with these parents for which the checker accepts the plan has this sheet: n is its
--- length
-abbrev pub SheetLength : List ℕ → List ℕ → Verdict → ℕ → Type 0
-SheetLength parents plan v n = (y : Yard) → Accepted y parents plan v → n ≡ length (accepted_sheet y plan v)
-
--- and `after` is `before` with the sheet at its front
-abbrev pub SheetInFront : List ℕ → List ℕ → Verdict → List ℕ → List ℕ → Type 0
-SheetInFront parents plan v before after = (y : Yard) → Accepted y parents plan v → after ≡ overwrite (accepted_sheet y plan v) before
 
 -- room for every output: a verdict, whose head has 12 bytes, and the report of the largest yard
 abbrev pub verdict_room : ℕ

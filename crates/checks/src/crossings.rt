@@ -1,20 +1,18 @@
-// Counts how often the moves of a plan cross each edge, towards the root and away from it.
+// How often each edge is crossed by the moves of a plan, towards the root and away from it.
 ghost use Rattle.std.specs.Prelude.{◌≡◌, ◌<◌, get_or};
-ghost use Rattle.model.specs.Yard.{max_size};
 ghost use Rattle.model.specs.Given.{was, became};
-ghost use Rattle.model.specs.Calls.Answers.{rowUnit};
 ghost use Rattle.checks.specs.Crossings.{raised, InYard, Counted};
 
-// The counts of each edge, at the number of its lower node: towards the root, and away from it.
+// One count for each edge and way, the edge named by its child node.
 #[derive(Drop)]
 pub struct Crossings {
     pub ups: [u32; 256],
     pub downs: [u32; 256],
 }
 
-// Adds one to the count at v, if the move crosses the edge of v.
+// One more at v, if the move crosses its edge.
 fn cross(counts: &mut [u32; 256], v: usize, crosses: bool)
-    requires { (v < max_size) × (get_or counts.old v 0 < rowUnit) }
+    requires { (v < 256) × (get_or counts.old v 0 < 1_000_000) }
     ensures { became counts ≡ raised v crosses (was counts) }
 {
     if crosses {
@@ -23,11 +21,11 @@ fn cross(counts: &mut [u32; 256], v: usize, crosses: bool)
     }
 }
 
-// The crossings of a plan. A move from a node to its parent crosses that node's edge towards the
-// root, and a move from a parent to its child crosses the child's edge away from it.
+// Counts the crossings. A move from a node to its parent crosses that node's edge towards the root,
+// and one from a parent to its child crosses the child's edge away from it.
 pub fn count_crossings(parents: &[u8], plan: &[u8]) -> Crossings
     requires { InYard parents.now plan.now }
-    ensures counts { Counted (was parents) (was plan) result.ups result.downs }
+    ensures { Counted (was parents) (was plan) result.ups result.downs }
 {
     let mut ups = [0u32; 256];
     let mut downs = [0u32; 256];

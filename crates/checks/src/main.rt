@@ -1,6 +1,5 @@
-// The check program: reads a yard sheet, then a move sheet, from standard input, and prints the
-// number of moves, how many of them are in excess, and the crossing report; or a refusal. It prints
-// `checks` of what it read.
+// The check program: a yard sheet and behind it a move sheet on standard input, the number of moves and of spare ones or the refusal on standard output.
+// What it prints is `checks` of what it read.
 #![tactic(auto)]
 
 mod crossings;

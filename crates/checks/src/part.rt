@@ -1,10 +1,10 @@
-// Finds the end of the yard sheet at the front of an input.
+// Where the yard sheet in front of an input ends.
 ghost use Rattle.std.specs.Prelude.{◌≡◌, not, ◌&&◌, ◌+◌, ◌<◌, length, drop, get_or, eqb};
 ghost use Rattle.model.specs.Given.{was};
 ghost use Rattle.model.specs.Sheets.{line_feed};
 ghost use Rattle.model.specs.CheckSheets.{digit_first, yard_part};
 
-// Whether the byte at `at` is a digit.
+// Whether a digit stands at `at`.
 fn digit_at(input: &[u8], at: usize) -> bool
     ensures { result ≡ digit_first (drop at (was input)) }
 {
@@ -18,7 +18,7 @@ fn digit_at(input: &[u8], at: usize) -> bool
     b <= b'9'
 }
 
-// Whether the yard sheet ends with the byte at `i`: a line feed that no digit follows.
+// Whether the yard sheet ends with the byte at `i`: a line feed behind which no digit stands.
 fn ends_yard(input: &[u8], i: usize) -> bool
     requires { i < length input.now }
     ensures { result ≡ (eqb (get_or (was input) i 0) line_feed) && (not (digit_first (drop (i + 1) (was input)))) }
@@ -29,9 +29,9 @@ fn ends_yard(input: &[u8], i: usize) -> bool
     !digit_at(input, i + 1)
 }
 
-// The number of bytes of the yard sheet at the front of an input.
+// How many bytes the yard sheet in front has.
 pub fn yard_bytes(input: &[u8]) -> usize
-    ensures length { result ≡ length (yard_part (was input)) }
+    ensures { result ≡ length (yard_part (was input)) }
 {
     let mut i = 0;
     while i < input.len() {

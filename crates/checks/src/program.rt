@@ -1,16 +1,16 @@
-// From the bytes of a yard sheet and a move sheet to the bytes that the program prints.
+// From the bytes of a yard sheet and a move sheet to the bytes that are printed.
 ghost use Rattle.std.specs.Prelude.{◌≡◌, ◌≤◌, length, drop};
 ghost use Rattle.model.specs.Yard.{Yard, size, max_size};
 ghost use Rattle.model.specs.Given.{given, handed, was, became};
 ghost use Rattle.model.specs.Calls.Answers.{overwrite};
 ghost use Rattle.model.specs.CheckSheets as CheckSheets;
-ghost use Rattle.checks.specs.Verdicts.{verdict, Accepted, SheetLength, SheetInFront, checked_plan, checked_from, verdict_room};
+ghost use Rattle.checks.specs.Verdicts.{verdict, Accepted, accepted_sheet, checked_plan, checked_from, verdict_room};
 
 use crate::crossings::count_crossings;
 use crate::part::yard_bytes;
 use crate::plan::{PLAN_BYTES, read_plan};
 use checker::check::check;
-use lists::find::first_root;
+use lists::find::first_own;
 use model::{Checked, Counted};
 use reader::read::read_sheet;
 use sheet::decimal::put_text;
@@ -18,21 +18,21 @@ use sheet::line::put_line;
 use sheet::output::put_refused;
 use sheet::report::put_report;
 
-// The number of input bytes that the program reads.
+// The program judges only so many bytes of its input.
 pub const CHECKED_BYTES: usize = 1_060_000;
 
 // Room for every output (`verdict_room`): the verdict, and the report of the largest yard.
 pub const OUTPUT_BYTES: usize = 12 + 14 + 27 + 18 * 256;
 
-// Writes what is printed for accepted moves, and answers its length: the number of moves, the
-// excess, and the crossing report. The contract holds for every yard with these parents.
+// Accepted moves of a yard with these parents: the number of moves and how many are spare, and below
+// them the crossing report.
 fn put_accepted(parents: &[u8], plan: &[u8], moves: usize, excess: usize, out: &mut [u8]) -> usize
     requires { ((y : Yard) × Accepted y parents.now plan.now (verdict moves excess)) × (verdict_room ≤ length out.old) }
-    ensures sheet_length { SheetLength (was parents) (was plan) (verdict moves excess) result }
-    ensures sheet_in_front { SheetInFront (was parents) (was plan) (verdict moves excess) (was out) (became out) }
+    ensures value { (y : Yard) → Accepted y (was parents) (was plan) (verdict moves excess) → result ≡ length (accepted_sheet y (was plan) (verdict moves excess)) }
+    ensures out_value { (y : Yard) → Accepted y (was parents) (was plan) (verdict moves excess) → became out ≡ overwrite (accepted_sheet y (was plan) (verdict moves excess)) (was out) }
 {
     let n = parents.len();
-    let root = first_root(parents, 0);
+    let root = first_own(parents, 0);
     let c = count_crossings(parents, plan);
     let ups = c.ups;
     let downs = c.downs;
@@ -41,7 +41,7 @@ fn put_accepted(parents: &[u8], plan: &[u8], moves: usize, excess: usize, out: &
     put_report(&ups[..n], &downs[..n], root, moves, out, at)
 }
 
-// Writes what the checker answers for four lists and a plan, and answers its length.
+// What the checker answers for four lists and a plan.
 fn put_verdict(
     parents: &[u8],
     pebbles: &[u8],
@@ -60,7 +60,7 @@ fn put_verdict(
     }
 }
 
-// The same for four lists and the move sheet that begins at `at`, or the refusal of that sheet.
+// The same for four lists and the move sheet that stands at `at`, or what refuses that sheet.
 fn put_checked(
     parents: &[u8],
     pebbles: &[u8],
@@ -70,8 +70,7 @@ fn put_checked(
     at: usize,
     out: &mut [u8],
 ) -> usize
-    requires { (size (handed parents pebbles targets depths) ≤ max_size) × (at ≤ length input.now)
-        × (verdict_room ≤ length out.old) }
+    requires { (size (handed parents pebbles targets depths) ≤ max_size) × (at ≤ length input.now) × (verdict_room ≤ length out.old) }
     ensures value { result ≡ length (checked_from (given parents pebbles targets depths) (drop at (was input))) }
     ensures out_value { became out ≡ overwrite (checked_from (given parents pebbles targets depths) (drop at (was input))) (was out) }
 {
@@ -89,10 +88,10 @@ fn put_checked(
     }
 }
 
-// Writes what is printed for an input at the front of a list, and answers its length.
+// What is printed for an input, at the front of a list; answers how many bytes.
 pub fn program(input: &[u8], out: &mut [u8; OUTPUT_BYTES]) -> usize
-    ensures answer { result ≡ length (CheckSheets.checks (was input)) }
-    ensures list { became out ≡ overwrite (CheckSheets.checks (was input)) (was out) }
+    ensures value { result ≡ length (CheckSheets.checks (was input)) }
+    ensures out_value { became out ≡ overwrite (CheckSheets.checks (was input)) (was out) }
 {
     let end = yard_bytes(input);
     let mut parents = [0u8; 256];

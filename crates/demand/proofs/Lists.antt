@@ -1,6 +1,5 @@
--- Lists by their entries. A store changes the entry at its place and no other. What holds of f
--- everywhere holds of each entry of a list of f at rising numbers.
-use mathlib.Core.Path.{◌≡◌, refl, ◌∙◌}
+-- Lists by their entries. A store changes the entry at its place and no other; what holds of f everywhere holds of a list of f at rising numbers.
+use mathlib.Core.Path.{◌≡◌, refl}
 use mathlib.Core.List.{List, map}
 use Prim.Native.Nat.{ℕ, zero, suc, ◌+◌, ◌*◌, ◌<◌}
 use native.Mathlib.Omega.{arith}
@@ -9,26 +8,19 @@ use lib.ListN.{length, get_or, set}
 use lib.Seq.{get_or-set_same, get_or-set_other}
 use lib.Dec.{eqb}
 use lib.IntN.{ℤ, pos}
-use borrow.Author.Count.{below_more}
 use borrow.Author.Tests.{eq-eqb, ne_eqb}
-use Rattle.model.specs.Numbers.{one, range}
+use Rattle.model.specs.Yard.{one}
+use Rattle.model.specs.Calls.Answers.{range}
 
--- an entry stored, d higher or e lower
-pub stored : (xs : List ℕ) (i v a d e : ℕ) → i < length xs → get_or xs i 0 + d ≡ a + e
-    → get_or xs v 0 + one (eqb v i) * d ≡ get_or (set xs i a) v 0 + one (eqb v i) * e
+-- by d up or e down
+pub stored : (xs : List ℕ) (i v a d e : ℕ) → i < length xs → get_or xs i 0 + d ≡ a + e → get_or xs v 0 + one (eqb v i) * d ≡ get_or (set xs i a) v 0 + one (eqb v i) * e
 stored xs i v a d e l h = go (ℕ_discrete v i)
   where
     go : Dec (v ≡ i) → get_or xs v 0 + one (eqb v i) * d ≡ get_or (set xs i a) v 0 + one (eqb v i) * e
     go (yes q) = rw (q, eq-eqb i i refl, get_or-set_same xs i a 0 l) (omega arith)
     go (no n) = rw (ne_eqb v i n, get_or-set_other xs i v a 0 n) (omega arith)
 
--- entries below i are those of f, and entry i is stored: so are the entries below i + 1
-pub stored_next : {A : Type 0} (z : A) (f : ℕ → A) (xs : List A) (i : ℕ) (a : A) → i < length xs
-    → ((u : ℕ) → u < i → get_or xs u z ≡ f u) → a ≡ f i → (u : ℕ) → u < i + 1 → get_or (set xs i a) u z ≡ f u
-stored_next z f xs i a l h e =
-    below_more _ i (λ u k. get_or-set_other xs i u a z (omega arith) ∙ h u k) (get_or-set_same xs i a z l ∙ e)
-
--- what holds of 0 and of every f v holds of each entry, beyond the end too
+-- what holds of 0 and of every f v holds of each entry, past the end too
 pub all_listed : (P : ℤ → Type 0) (f : ℕ → ℤ) → P (pos 0) → ((v : ℕ) → P (f v)) → (a k v : ℕ) → P (get_or (map f (range a k)) v (pos 0))
 unfolding range
 all_listed P f z h a zero v = z

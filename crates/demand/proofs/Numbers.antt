@@ -1,5 +1,5 @@
--- Demands as i16. Numbers of size 2,048 at most fit, also subtracted from 0, and so do differences
--- of two bytes. 0 minus a number below 0 is its size, and any other number is its own size.
+-- Demands as i16: numbers of size 2,048 at most fit, also taken from 0, and so do differences of two bytes; a number below 0 taken from 0,
+-- and any other as it is, is its size. By cases on the sign.
 use mathlib.Core.Path.{◌≡◌, refl, ap}
 use mathlib.Core.Bool.{Bool, true, false}
 use Prim.Native.Nat.{ℕ, zero, suc, ◌≤◌, ◌<◌}
@@ -24,13 +24,13 @@ sub_small a b h k = go (ltb a b) refl
     go true e = rw e (omega (arith, ltb-true a b e))
     go false e = rw e (omega arith)
 
--- 0 minus a number
+-- a number taken from 0
 pub neg_fits : (z : ℤ) → nat_abs z ≤ max_demand → SFits w16 (pos 0 -ℤ z)
 neg_fits (pos zero) h = record { sfits = omega arith }
 neg_fits (pos (suc n)) h = small_fits (sub_ℕ 0 (suc n)) (sub_small 0 (suc n) (omega arith) h)
 neg_fits (negsuc n) h = record { sfits = omega arith }
 
--- the difference of two numbers that fit; of two bytes
+-- the difference of two numbers that fit, and of two bytes
 pub held_minus : {x y : ℕ} (a b : ℕ) → SFits w16 (pos x) → SFits w16 (pos y) → x ≡ a → y ≡ b → to_z w16 x -ℤ to_z w16 y ≡ sub_ℕ a b
 held_minus {x} {y} a b h k e f = rw (to_z_pos w16 x h.sfits, to_z_pos w16 y k.sfits, e, f) (minus b)
   where
@@ -39,11 +39,9 @@ held_minus {x} {y} a b h k e f = rw (to_z_pos w16 x h.sfits, to_z_pos w16 y k.sf
     minus (suc b) = refl
 
 pub bytes_fit : (a b : ℕ) → a < 256 → b < 256 → SFits w16 (to_z w16 a -ℤ to_z w16 b)
-bytes_fit a b h k =
-    let byte : (x : ℕ) → x < 256 → SFits w16 (pos x) = λ x l. small_fits (pos x) (omega arith) in
-    rw (held_minus a b (byte a h) (byte b k) refl refl) (small_fits (sub_ℕ a b) (sub_small a b (omega arith) (omega arith)))
+bytes_fit a b h k = rw (held_minus a b (small_fits (pos a) (omega arith)) (small_fits (pos b) (omega arith)) refl refl) (small_fits (sub_ℕ a b) (sub_small a b (omega arith) (omega arith)))
 
--- 0 minus a number below 0 is its size; any other number is its size
+-- what is below 0 is, taken from 0, its size, and any other number is its size
 pub turned : (z : ℤ) → lt_z z (pos 0) ≡ true → pos 0 -ℤ z ≡ pos (nat_abs z)
 turned (pos n) h = absurd (omega (arith, ltb-true n 0 h))
 turned (negsuc n) h = +ℤ_idl (pos (suc n))

@@ -1,19 +1,18 @@
-// The account call, and the shortest length of a tree.
+// The account call, and the shortest length.
 ghost use Rattle.std.specs.Prelude.{◌≡◌};
 ghost use Rattle.model.specs.Yard.{shortest};
 ghost use Rattle.model.specs.Given.{given, handed, was, became};
 ghost use Rattle.model.specs.Judge.{Tree};
 ghost use Rattle.model.specs.Calls.Demands.{demands_fault, demands_list};
-ghost use Rattle.model.specs.Meaning.{fault_of_done};
+ghost use Rattle.model.specs.Paper.{paper_done};
 
 use crate::fill::fill;
 use crate::signed::sizes;
 use judge::test::test_yard;
 use model::{Done, Refusal};
 
-// The account call: writes the demands of all nodes into a list of one entry a node. Refusals 1, 2,
-// 26, 27, 4, 5, 6, then `ListLength` (2) for a list of another length. Unequal totals are no fault.
-// Linear work.
+// The account call: the demands of all nodes into a list of exactly one entry a node. Refusals 1 to 6, then 2 for a list of another length;
+// unequal totals are no fault. Linear work.
 pub fn demands(
     parents: &[u8],
     pebbles: &[u8],
@@ -21,8 +20,8 @@ pub fn demands(
     depths: &[u8],
     list: &mut [i16],
 ) -> Done
-    ensures answer { fault_of_done result ≡ demands_fault (given parents pebbles targets depths) (was list) }
-    ensures list { became list ≡ demands_list (given parents pebbles targets depths) (was list) }
+    ensures result_value { paper_done result ≡ demands_fault (given parents pebbles targets depths) (was list) }
+    ensures list_value { became list ≡ demands_list (given parents pebbles targets depths) (was list) }
 {
     let tested = test_yard(parents, pebbles, targets, depths);
     if let Done::Refused(r) = tested {
@@ -35,10 +34,10 @@ pub fn demands(
     Done::Accepted
 }
 
-// The shortest length of a tree: the sum of its demands without their signs.
+// The shortest length of a tree: the sum of the sizes of its demands.
 pub fn shortest_length(parents: &[u8], pebbles: &[u8], targets: &[u8], depths: &[u8]) -> usize
     requires { Tree (handed parents pebbles targets depths) }
-    ensures answer { result ≡ shortest (given parents pebbles targets depths) }
+    ensures { result ≡ shortest (given parents pebbles targets depths) }
 {
     let n = parents.len();
     let mut list = [0i16; 256];

@@ -1,5 +1,4 @@
-// The demands of all nodes by equation 2 of the source, leaves first, in linear time. The same pass
-// tells whether the parents form a tree.
+// The demands of all nodes by equation 2 of the source, leaves first, in linear time; and on the way whether the parents are a tree's.
 ghost use Rattle.std.specs.Prelude.{◌≡◌, ℕ, ◌+◌, ◌*◌, ◌%◌, ◌≤◌, ◌<◌, length, get_or};
 ghost use Rattle.std.proofs.Math.Option.{none};
 ghost use Rattle.model.specs.Given.{given, handed, was, became};
@@ -9,24 +8,19 @@ ghost use Rattle.demand.specs.Filling.{Differences, Pending, Gathered};
 
 use crate::signed::{difference, plus};
 
-// Writes the demand of each node of a tree into a list of one entry a node. No other list meets
-// equation 2 at every node.
+// Writes the demand of each node of a tree into a list of one entry a node: the only list that meets equation 2 at every node.
 pub fn fill(parents: &[u8], pebbles: &[u8], targets: &[u8], depths: &[u8], list: &mut [i16])
     requires { Tree (handed parents pebbles targets depths) × (length list.old ≡ length parents.now) }
-    ensures list { became list ≡ demands_of (given parents pebbles targets depths) }
+    ensures { became list ≡ demands_of (given parents pebbles targets depths) }
 {
     gather(parents, pebbles, targets, depths, list);
 }
 
-// Answers how many nodes are left: 1, the root, exactly if the parents form a tree; then the list
-// holds the demands. The four lists must pass refusals 1, 2, 26, 27 and 4.
-// Each entry starts as its node's targets minus its pebbles. A node is added to its parent's entry
-// once all of its own children are added to it. Its pending number is 1 for itself, until it is
-// added, and 1 for each child that is not added yet: at 1 the node is ready. Adding it may make its
-// parent ready, so the climb goes on there. A node on a circle, or its own parent, is never ready.
-// Why this is not `judge`'s test of the shape: the demands need this pass anyway, and the number of
-// nodes left tells a tree at no further cost.
-// For any other number than 1 the contract leaves the number and the entries open: no caller asks.
+// Equation 2, of lists that refusals 1 to 4, 26 and 27 do not meet: each node's entry begins as its targets minus its pebbles, and the entries of its children are
+// added to it, each once all of its own children are added to it. A node's pending number is 1 for itself, until it is added to its parent, and 1 for
+// each node whose parent it is and that is not added yet: at 1 it is ready. Adding it may make its parent ready, and so on up, so that each node is added
+// once. A node that is its own parent, or on a circle, is never ready: so one node is left over, the root, exactly if the parents are a tree's. Answers how
+// many are. Left open are the number and the entries where it is not 1: the callers ask only whether it is.
 pub(crate) fn gather(
     parents: &[u8],
     pebbles: &[u8],
@@ -35,7 +29,7 @@ pub(crate) fn gather(
     list: &mut [i16],
 ) -> usize
     requires { (first_of (list_tests (handed parents pebbles targets depths)) ≡ none) × (length list.old ≡ length parents.now) }
-    ensures answer { Gathered (given parents pebbles targets depths) result (became list) }
+    ensures { Gathered (given parents pebbles targets depths) result (became list) }
 {
     let n = parents.len();
     own(pebbles, targets, list);
@@ -57,7 +51,7 @@ pub(crate) fn gather(
     left
 }
 
-// Writes each node's targets minus its pebbles into its entry.
+// Writes the difference of its counts into the entry of each node.
 fn own(pebbles: &[u8], targets: &[u8], list: &mut [i16])
     requires { (length pebbles.now ≡ length list.old) × (length targets.now ≡ length list.old) }
     ensures { Differences (was targets) (was pebbles) (length (was list)) (became list) }
@@ -69,8 +63,8 @@ fn own(pebbles: &[u8], targets: &[u8], list: &mut [i16])
     }
 }
 
-// For each node 1, plus 1 for each node whose parent it is. Even and odd nodes are counted in two
-// halves: where many nodes have one parent, each count would else wait for the previous store.
+// For each node 1, and 1 more for each node whose parent it is. Even and odd nodes are counted apart: of many nodes with one parent, each
+// count would else wait for the store of the one before.
 fn count_children(parents: &[u8]) -> [u16; 256]
     requires { length parents.now ≤ 256 }
     ensures { Pending (was parents) result }
@@ -85,14 +79,14 @@ fn count_children(parents: &[u8]) -> [u16; 256]
     add_halves(&counts)
 }
 
-// The place where node v is counted: its parent's, in the half of the even or of the odd nodes.
-pub fn place(parent: u8, v: usize) -> usize
+// Where node v is counted: at its parent, in the half of even or of odd nodes.
+fn place(parent: u8, v: usize) -> usize
     ensures { (result ≡ parent + 256 * (v % 2)) × (result < 512) }
 {
     parent as usize + 256 * (v % 2)
 }
 
-// For each node 1 plus its counts in both halves.
+// For each node 1 and its counts in both halves.
 fn add_halves(counts: &[u16; 512]) -> [u16; 256]
     requires { (u : ℕ) → u < 256 → get_or counts.now u 0 + get_or counts.now (256 + u) 0 ≤ 256 }
     ensures { (length result ≡ 256) × ((u : ℕ) → u < 256 → get_or result u 0 ≡ 1 + get_or (was counts) u 0 + get_or (was counts) (256 + u) 0) }

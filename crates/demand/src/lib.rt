@@ -1,4 +1,4 @@
-// The demands of a yard's nodes: worked out, tested, summed.
+// Demands (accounts) in code.
 #![tactic(auto)]
 
 pub mod call;

@@ -1,13 +1,13 @@
-// The demands of a tree, or a refusal; and the same for a yard whose totals agree.
+// The demands of a tree, and of a yard with a plan, or the refusal of one that is none.
 ghost use Rattle.std.specs.Prelude.{◌≡◌, ◌≤◌, length, replicate, pos};
 ghost use Rattle.model.specs.Given.{given, was, became};
 ghost use Rattle.model.specs.Judge.{judge, matched_fault};
-ghost use Rattle.model.specs.Meaning.{fault_of_done};
+ghost use Rattle.model.specs.Paper.{paper_done};
 ghost use Rattle.demand.specs.Filling.{demands_then};
 
 use crate::fill::gather;
 use judge::test::{test_lists, test_shape};
-use lists::find::first_root;
+use lists::find::first_own;
 use model::{Done, Refusal};
 
 // Writes 0 into every entry.
@@ -23,8 +23,8 @@ fn clear(list: &mut [i16])
 
 // Tests a yard: refusals 1, 2, 26, 27, 4, 5, 6. Writes the demands of a tree to the front of a list
 // of at least 256 entries; the other entries stay. Refusals 5 and 6 leave zeros at the front, the
-// others leave the list unchanged. Linear work: the pass that gathers the demands tells a tree, and
-// `judge`'s test of the shape runs only to name refusal 5 or 6.
+// others leave the list unchanged. Linear work: gathering the demands tells whether the parents
+// form a tree.
 pub fn tree_demands(
     parents: &[u8],
     pebbles: &[u8],
@@ -33,8 +33,8 @@ pub fn tree_demands(
     list: &mut [i16],
 ) -> Done
     requires { 256 ≤ length list.old }
-    ensures answer { fault_of_done result ≡ judge (given parents pebbles targets depths) }
-    ensures list { became list ≡ demands_then (given parents pebbles targets depths) (was list) }
+    ensures result_value { paper_done result ≡ judge (given parents pebbles targets depths) }
+    ensures list_value { became list ≡ demands_then (given parents pebbles targets depths) (was list) }
 {
     let lists = test_lists(parents, pebbles, targets, depths);
     if let Done::Refused(r) = lists {
@@ -49,8 +49,8 @@ pub fn tree_demands(
     Done::Accepted
 }
 
-// As `tree_demands`, then refusal 7: the totals differ exactly if the root's demand is not 0.
-// Refusal 7 leaves the demands in the list.
+// The same, then refusal 7: the totals differ exactly if the root's demand is not 0. Refusal 7 comes
+// after the demands are written.
 pub fn matched_demands(
     parents: &[u8],
     pebbles: &[u8],
@@ -59,14 +59,14 @@ pub fn matched_demands(
     list: &mut [i16],
 ) -> Done
     requires { 256 ≤ length list.old }
-    ensures answer { fault_of_done result ≡ matched_fault (given parents pebbles targets depths) }
-    ensures list { became list ≡ demands_then (given parents pebbles targets depths) (was list) }
+    ensures result_value { paper_done result ≡ matched_fault (given parents pebbles targets depths) }
+    ensures list_value { became list ≡ demands_then (given parents pebbles targets depths) (was list) }
 {
     let tested = tree_demands(parents, pebbles, targets, depths, list);
     if let Done::Refused(r) = tested {
         return Done::Refused(r);
     }
-    let root = first_root(parents, 0);
+    let root = first_own(parents, 0);
     if list[root] != 0 {
         return Done::Refused(Refusal::Totals);
     }

@@ -1,29 +1,28 @@
-// Demands as i16: a difference of two counts, a sum and a size, exact from −2,048 to 2,048.
+// i16 demands: the difference of two counts, a sum, a size, each exact from −2,048 to 2,048.
 ghost use Rattle.std.specs.Prelude.{◌≡◌, ℕ, ◌+◌, ◌<◌, ◌≤◌, length, get_or, ℤ, pos, nat_abs, ◌+ℤ◌};
 ghost use Rattle.std.proofs.Math.IntN.{sub_ℕ};
-ghost use Rattle.model.specs.Numbers.{sum};
-ghost use Rattle.model.specs.Yard.{max_size, max_demand};
+ghost use Rattle.model.specs.Yard.{sum, max_size, max_demand};
 ghost use Rattle.model.specs.Given.{was};
 
 // A node's targets minus its pebbles.
 pub fn difference(target: u8, pebble: u8) -> i16
-    ensures answer { result ≡ sub_ℕ target pebble }
+    ensures { result ≡ sub_ℕ target pebble }
 {
     target as i16 - pebble as i16
 }
 
-// The sum of two demands, if it is a demand too: at most 2,048 without its sign.
+// The sum of two demands, which is one too.
 pub fn plus(a: i16, b: i16) -> i16
     requires { nat_abs (a +ℤ b) ≤ max_demand }
-    ensures answer { result ≡ a +ℤ b }
+    ensures { result ≡ a +ℤ b }
 {
     a + b
 }
 
-// A demand without its sign.
+// A demand's size, its sign dropped.
 pub fn size(a: i16) -> usize
     requires { nat_abs a ≤ max_demand }
-    ensures answer { result ≡ nat_abs a }
+    ensures { result ≡ nat_abs a }
 {
     if a < 0 {
         return (0 - a) as usize;
@@ -31,10 +30,10 @@ pub fn size(a: i16) -> usize
     a as usize
 }
 
-// The sum of a list of demands without their signs: over all nodes of a tree, its shortest length.
+// The sum of the sizes of a list of demands: for all demands of a yard its shortest length.
 pub fn sizes(list: &[i16]) -> usize
     requires { (length list.now ≤ max_size) × ((v : ℕ) → nat_abs (get_or list.now v (pos 0)) ≤ max_demand) }
-    ensures answer { result ≡ sum (length (was list)) (λ v. nat_abs (get_or (was list) v (pos 0))) }
+    ensures { result ≡ sum (length (was list)) (λ v. nat_abs (get_or (was list) v (pos 0))) }
 {
     let mut total = 0;
     let mut i = 0;

@@ -1,5 +1,4 @@
--- Climbs along parents that may form no tree. A node is known only if a climb from it reaches the
--- root. If all nodes are known, the parents form a tree.
+-- Climbs from node to node, of parents that may be no tree's: nodes are known only where a climb from them comes to the root. Where all are, the parents are a tree's.
 use mathlib.Core.Path.{◌≡◌, refl, sym, ◌∙◌}
 use mathlib.Core.Logic.{◌≢◌, ◌⊎◌, inl, inr}
 use mathlib.Core.Bool.{true, or-true}
@@ -14,11 +13,11 @@ use lib.Dec.{eqb}
 use borrow.Author.Tests.{eq-eqb}
 use Rattle.model.specs.Yard.{up, inside}
 use Rattle.model.specs.Judge.{Parents}
-use Rattle.laws.proofs.Tree.Climb.{inside_step}
-use Rattle.laws.specs.Tree.{RootedTree}
-use Rattle.distance.specs.Far.{unknown, Unknown, Entries, Up, here, on, Rooted, Climbs, Written, WriteUpPre}
+use Rattle.laws.proofs.Climb.{inside_step}
+use Rattle.laws.proofs.Trees.{Wood}
+use Rattle.distance.specs.Far.{unknown, Unknown, Entries, Up, here, on, Rooted, Climbs, Written}
 
--- one step more at the upper end, and two climbs joined
+-- a step more at the upper end, and one climb behind another
 pub up_more : {ps : List ℕ} {v k u : ℕ} → Up ps v k u → Up ps v (suc k) (up ps u)
 up_more here = on here
 up_more (on p) = on (up_more p)
@@ -32,12 +31,12 @@ module _ {ps : List ℕ} (n : Parents ps) where
   up_inside {v} l here = inside_step ps n.node v v l ∙ rw (eq-eqb v v refl)
   up_inside {v} {r = r} l (on p) = inside_step ps n.node r v l ∙ rw (up_inside (n.node v l) p) (or-true (eqb v r))
 
--- a node that is its own parent reaches no other
+-- a node that is its own parent comes to no other
 up_own : {ps : List ℕ} {v k r : ℕ} → up ps v ≡ v → Up ps v k r → v ≡ r
 up_own e here = refl
 up_own e (on p) = sym e ∙ up_own (rw e e) p
 
--- entry w is written
+-- an entry is written
 module _ {parents list : List ℕ} (e : Entries parents list) {w far : ℕ} (l : w < length parents) (f : far < unknown) where
   written : get_or (set list w far) w 0 ≡ far
   written = get_or-set_same list w far 0 (omega (arith, e.long))
@@ -59,16 +58,15 @@ module _ {parents list : List ℕ} (e : Entries parents list) {w far : ℕ} (l :
       at (yes q) = rw q (omega (arith, written))
       at (no d) = rw (other x d) h
 
-  -- a node that is then known is w, or was known before
-  pub set_known : {P : ℕ → Type 0} → P w → ((x : ℕ) → x < length parents → get_or list x 0 ≢ unknown → P x)
-      → (x : ℕ) → x < length parents → get_or (set list w far) x 0 ≢ unknown → P x
+  -- what is known then was known before, or is that
+  pub set_known : {P : ℕ → Type 0} → P w → ((x : ℕ) → x < length parents → get_or list x 0 ≢ unknown → P x) → (x : ℕ) → x < length parents → get_or (set list w far) x 0 ≢ unknown → P x
   set_known {P} p h x k m = at (ℕ_discrete x w)
     where
       at : Dec (x ≡ w) → P x
       at (yes q) = rw q p
       at (no d) = h x k (rw (other x d) at m)
 
--- the way from a node has come to w: each known node leads there
+-- the way from a node has come to w: those that are known lead there
 pub record Leading (parents list : List ℕ) (w steps : ℕ) : Type 0 where
   pub entries : Entries parents list
   pub node : w < length parents
@@ -93,14 +91,9 @@ module _ {parents list : List ℕ} (n : Parents parents) where
     lead_root e = record { lt = h.node; own = e; leads = lead_set }
 
     pub lead_next : steps + 1 ≢ length parents → Leading parents (set list w steps) (up parents w) (steps + 1)
-    lead_next d = record {
-      entries = lead_entries;
-      node = n.node w h.node;
-      few = omega (arith, h.few);
-      leads = λ x k m. let q = lead_set x k m in (suc q.0, up_more q.1);
-    }
+    lead_next d = record { entries = lead_entries; node = n.node w h.node; few = omega (arith, h.few); leads = λ x k m. let q = lead_set x k m in (suc q.0, up_more q.1) }
 
--- the nodes from v up to below w are written; a climb from w reaches a node that was known before
+-- written up from v to below w, from where a climb comes to a node that was known before
 pub record Writes (parents : List ℕ) (v : ℕ) (before list : List ℕ) (w steps : ℕ) : Type 0 where
   pub entries : Entries parents list
   pub stays : (x : ℕ) → get_or before x 0 ≢ unknown → get_or list x 0 ≢ unknown
@@ -111,16 +104,8 @@ pub record Writes (parents : List ℕ) (v : ℕ) (before list : List ℕ) (w ste
   pub rooted : (root : ℕ) → Rooted parents before root → Rooted parents list root
 
 module _ {parents before : List ℕ} where
-  pub writes_first : {v far : ℕ} → WriteUpPre parents before v far → Writes parents v before before v far
-  writes_first q = record {
-    entries = q.entries;
-    stays = λ x m. m;
-    node = q.node;
-    few = q.short;
-    climbs = q.climbs;
-    met = inl refl;
-    rooted = λ r q. q;
-  }
+  pub writes_first : {v far : ℕ} → Entries parents before → v < length parents → far < unknown → Climbs parents before v far → Writes parents v before before v far
+  writes_first e l f c = record { entries = e; stays = λ x m. m; node = l; few = f; climbs = c; met = inl refl; rooted = λ r q. q }
 
   module _ {v : ℕ} {list : List ℕ} {w steps : ℕ} (h : Writes parents v before list w steps) where
     pub writes_last : get_or list w 0 ≢ unknown → Written parents v before list
@@ -131,9 +116,8 @@ module _ {parents before : List ℕ} where
         go (inr m) = m
 
   module _ {v : ℕ} {list : List ℕ} {w steps : ℕ} (h : Writes parents v before list w steps) (m : get_or list w 0 ≡ unknown) where
-    -- the known node is not w itself, so there is a step
-    further : {k u : ℕ} → Up parents w k u → u < length parents → get_or before u 0 ≢ unknown → k ≤ steps
-        → (0 < steps) × Climbs parents before (up parents w) (steps - 1)
+    -- that is not w itself, so there is a step
+    further : {k u : ℕ} → Up parents w k u → u < length parents → get_or before u 0 ≢ unknown → k ≤ steps → (0 < steps) × Climbs parents before (up parents w) (steps - 1)
     further here o b l = absurd (h.stays w b m)
     further (on {k = k} {u = u} p) o b l = (omega arith, record { to = u; steps = k; up = p; lt = o; known = b; few = omega arith })
 
@@ -151,11 +135,7 @@ module _ {parents before : List ℕ} where
       few = omega (arith, h.few);
       climbs = go_on.1;
       met = inr (then h.met);
-      rooted = λ r q. record {
-        lt = (h.rooted r q).lt;
-        own = (h.rooted r q).own;
-        leads = set_known h.entries h.node h.few (led r q) (h.rooted r q).leads;
-      };
+      rooted = λ r q. let s = h.rooted r q in record { lt = s.lt; own = s.own; leads = set_known h.entries h.node h.few (led r q) s.leads };
     }
       where
         then : (v ≡ w) ⊎ (get_or list v 0 ≢ unknown) → get_or (set list w steps) v 0 ≢ unknown
@@ -166,22 +146,15 @@ module _ {parents before : List ℕ} where
         led r q = let c = h.climbs in let p = q.leads c.to c.lt c.known in (_, up_trans c.up p.1)
 
 -- a node is written whose parent is known
-pub write_beside : {parents list : List ℕ} {v : ℕ} → Parents parents → Entries parents list → v < length parents
-    → get_or list v 0 ≡ unknown → get_or list (up parents v) 0 < 255
+pub write_beside : {parents list : List ℕ} {v : ℕ} → Parents parents → Entries parents list → v < length parents → get_or list v 0 ≡ unknown → get_or list (up parents v) 0 < 255
     → Written parents v list (set list v (get_or list (up parents v) 0 + 1))
 write_beside {parents} {list} {v} n e l m k =
     let b : get_or list (up parents v) 0 ≢ unknown = omega arith in
-    let far : ℕ = get_or list (up parents v) 0 + 1 in
-    let step : Climbs parents list v far =
-    record { to = up parents v; steps = 1; up = on here; lt = n.node v l; known = b; few = omega arith } in
-    let pre : WriteUpPre parents list v far =
-    record { parents_ok = n; entries = e; node = l; short = omega arith; climbs = step } in
-    let w = writes_next {steps = far} (writes_first pre) m n in
+    let w = writes_next {steps = get_or list (up parents v) 0 + 1} (writes_first e l (omega arith) (record { to = up parents v; steps = 1; up = on here; lt = n.node v l; known = b; few = omega arith })) m n in
     writes_last w (w.stays (up parents v) b)
 
--- if all nodes are known, the parents form a tree
-pub all_wood : {parents list : List ℕ} {r : ℕ} → Parents parents → Rooted parents list r
-    → ((v : ℕ) → v < length parents → get_or list v 0 ≢ unknown) → RootedTree parents r
+-- where all are known the parents are a tree's
+pub all_wood : {parents list : List ℕ} {r : ℕ} → Parents parents → Rooted parents list r → ((v : ℕ) → v < length parents → get_or list v 0 ≢ unknown) → Wood parents r
 all_wood {parents} {list} {r} n q h = record {
   parent_lt = n.node;
   root_lt = q.lt;
@@ -197,14 +170,8 @@ pub record Filled (parents list : List ℕ) (v : ℕ) : Type 0 where
   pub rooted : Rooted parents list root
   pub below : (w : ℕ) → w < v → get_or list w 0 ≢ unknown
 
-pub filled_next : {parents before list : List ℕ} {v : ℕ} → Filled parents before v
-    → Written parents v before list → Filled parents list (v + 1)
-filled_next {list = list} {v = v} h w = record {
-  entries = w.entries;
-  root = h.root;
-  rooted = w.rooted h.root h.rooted;
-  below = λ x l. go x l (ℕ_discrete x v);
-}
+pub filled_next : {parents before list : List ℕ} {v : ℕ} → Filled parents before v → Written parents v before list → Filled parents list (v + 1)
+filled_next {list = list} {v = v} h w = record { entries = w.entries; root = h.root; rooted = w.rooted h.root h.rooted; below = λ x l. go x l (ℕ_discrete x v) }
   where
     go : (x : ℕ) → x < v + 1 → Dec (x ≡ v) → get_or list x 0 ≢ unknown
     go x l (yes e) = rw e w.met

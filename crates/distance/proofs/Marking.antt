@@ -1,5 +1,4 @@
--- Distances from a node of a tree become known: first those on the way from it up to the root, then
--- from each further node up to the first known node, and back.
+-- Distances from a node, known of more and more nodes: up from it to the root, then from each node up to the first that is known, and back.
 use mathlib.Core.Path.{◌≡◌, refl, sym, ap, ◌∙◌}
 use mathlib.Core.Logic.{◌≢◌}
 use mathlib.Core.Bool.{Bool, true, false, cond}
@@ -10,19 +9,19 @@ use native.Mathlib.Decide.{ℕ_discrete}
 use lib.ListN.{length, get_or, set, length-set}
 use lib.Seq.{get_or-set_same, get_or-set_other}
 use Rattle.model.specs.Yard.{Yard, size, parent, root, inside}
-use Rattle.model.specs.Numbers.{range}
+use Rattle.model.specs.Calls.Answers.{range}
 use Rattle.model.specs.Distance.{distance}
-use Rattle.laws.proofs.Base.Lists.{not_so}
-use Rattle.laws.proofs.Base.Ranges.{length_range, get_d_listed}
-use Rattle.laws.specs.Tree.{RootedTree}
-use Rattle.laws.proofs.Tree.Judge.{facts, rooted_tree}
-use Rattle.laws.proofs.Tree.WayToRoot.{WrittenBelow, climb_start, climb_next, climb_end}
-use Rattle.laws.proofs.Tree.Distance.{distance_lt, distance_self, distance_climb, distance_off}
+use Rattle.laws.proofs.Basics.{not_so}
+use Rattle.laws.proofs.Ranges.{length_range, get_d_listed}
+use Rattle.laws.proofs.Trees.{Wood}
+use Rattle.laws.proofs.Judged.{facts, wood}
+use Rattle.laws.proofs.Way.{Climbed, climb_start, climb_next, climb_end}
+use Rattle.laws.proofs.Distance.{distance_lt, distance_self, distance_climb, distance_off}
 use Rattle.distance.specs.Far.{From, unknown, Unknown, Partly}
 
 module _ {y : Yard} {parents : List ℕ} {a : ℕ} (f : From y parents a) where
-  abbrev rails : RootedTree y.parents (root y)
-  rails = rooted_tree y f.tree
+  abbrev rails : Wood y.parents (root y)
+  rails = wood y f.tree
 
   pub few : size y ≤ 256
   few = (facts y f.tree).few.1
@@ -43,17 +42,14 @@ module _ {y : Yard} {parents : List ℕ} {a : ℕ} (f : From y parents a) where
   far_known : (v : ℕ) → v < size y → distance y a v ≢ unknown
   far_known v l e = absurd (omega (arith, distance_lt y f.tree a v f.node l, few))
 
-  -- on the way from a: w is reached after so many steps, and the nodes below have their distances
+  -- on the way from a: it has come to w after so many steps, and they are the distances below
   pub record Marking (before list : List ℕ) (w steps : ℕ) : Type 0 where
-    pub climbed : WrittenBelow y.parents (distance y a) 0 a before list w
+    pub climbed : Climbed y.parents (distance y a) 0 a before list w
     pub far : steps ≡ distance y a w
 
   module _ {before : List ℕ} where
     pub mark_first : length before ≡ size y → Marking before before a 0
-    mark_first e = record {
-      climbed = climb_start rails (distance y a) 0 a f.node before e;
-      far = sym (distance_self y f.tree a f.node);
-    }
+    mark_first e = record { climbed = climb_start rails (distance y a) 0 a f.node before e; far = sym (distance_self y f.tree a f.node) }
 
     module _ {list : List ℕ} {w steps : ℕ} (m : Marking before list w steps) where
       pub mark_few : steps < size y
@@ -78,8 +74,7 @@ module _ {y : Yard} {parents : List ℕ} {a : ℕ} (f : From y parents a) where
           entry : (v : ℕ) → v < size y → get_or (map marked (range 0 (size y))) v 0 ≡ marked v
           entry v k = get_d_listed marked 0 (size y) v k
 
-          go : (v : ℕ) → v < size y → (b : Bool) → cond b (distance y a v) (get_or before v 0) ≢ unknown
-              → cond b (distance y a v) (get_or before v 0) ≡ distance y a v
+          go : (v : ℕ) → v < size y → (b : Bool) → cond b (distance y a v) (get_or before v 0) ≢ unknown → cond b (distance y a v) (get_or before v 0) ≡ distance y a v
           go v k true n = refl
           go v k false n = absurd (n (u v (omega (arith, l))))
 
@@ -88,7 +83,7 @@ module _ {y : Yard} {parents : List ℕ} {a : ℕ} (f : From y parents a) where
     pub farther : distance y a u ≡ suc (distance y a (parent y u))
     farther = distance_off y f.tree a f.node u l (not_so (inside y.parents u a) (λ i. p.on_way u l i n))
 
-  -- u is so many steps up from v
+  -- up from v: so many steps up to u
   pub record Rising (v u steps : ℕ) : Type 0 where
     pub node : u < size y
     pub far : distance y a v ≡ distance y a u + steps
@@ -96,24 +91,18 @@ module _ {y : Yard} {parents : List ℕ} {a : ℕ} (f : From y parents a) where
   pub rise_few : {v u climbed : ℕ} → v < size y → Rising v u climbed → climbed < size y
   rise_few {v} l r = omega (arith, r.far, distance_lt y f.tree a v f.node l)
 
-  pub rise_next : {list : List ℕ} {v u steps : ℕ} → Partly y a list → Rising v u steps → get_or list u 0 ≡ unknown
-      → Rising v (parent y u) (steps + 1)
+  pub rise_next : {list : List ℕ} {v u steps : ℕ} → Partly y a list → Rising v u steps → get_or list u 0 ≡ unknown → Rising v (parent y u) (steps + 1)
   rise_next {u = u} p r n = record { node = rails.parent_lt u r.node; far = omega (arith, r.far, farther p r.node n) }
 
-  -- the nodes below w are written
+  -- and written: those below w
   pub record Writing (list : List ℕ) (w steps : ℕ) : Type 0 where
     pub partly : Partly y a list
     pub node : w < size y
     pub far : steps ≡ distance y a w
 
-  pub write_next : {list : List ℕ} {w steps : ℕ} → Writing list w steps → get_or list w 0 ≡ unknown
-      → Writing (set list w steps) (parent y w) (steps - 1)
+  pub write_next : {list : List ℕ} {w steps : ℕ} → Writing list w steps → get_or list w 0 ≡ unknown → Writing (set list w steps) (parent y w) (steps - 1)
   write_next {list} {w} {steps} r n = record {
-    partly = record {
-      long = length-set list w steps ∙ r.partly.long;
-      known = λ x k. at x k (ℕ_discrete x w);
-      on_way = λ x k i. kept x k i (ℕ_discrete x w);
-    };
+    partly = record { long = length-set list w steps ∙ r.partly.long; known = λ x k. at x k (ℕ_discrete x w); on_way = λ x k i. kept x k i (ℕ_discrete x w) };
     node = rails.parent_lt w r.node;
     far = omega (arith, r.far, farther r.partly r.node n);
   }
@@ -133,10 +122,9 @@ module _ {y : Yard} {parents : List ℕ} {a : ℕ} (f : From y parents a) where
       kept x k i (no d) = rw (other x d) (r.partly.on_way x k i)
 
   -- a node whose parent is known
-  pub partly_beside : {list : List ℕ} {v : ℕ} → Partly y a list → v < size y → get_or list v 0 ≡ unknown
-      → get_or list (get_or parents v 0) 0 < 255 → Partly y a (set list v (get_or list (get_or parents v 0) 0 + 1))
+  pub partly_beside : {list : List ℕ} {v : ℕ} → Partly y a list → v < size y → get_or list v 0 ≡ unknown → get_or list (get_or parents v 0) 0 < 255
+      → Partly y a (set list v (get_or list (get_or parents v 0) 0 + 1))
   partly_beside {list} {v} p l n k =
       let b : get_or list (parent y v) 0 < 255 = rw (sym (up_is v)) k in
       let h = p.known (parent y v) (rails.parent_lt v l) (omega arith) in
-      let w : Writing list v (get_or list (parent y v) 0 + 1) = record { partly = p; node = l; far = omega (arith, h, farther p l n) } in
-      rw (up_is v) (write_next w n).partly
+      rw (up_is v) (write_next {steps = get_or list (parent y v) 0 + 1} (record { partly = p; node = l; far = omega (arith, h, farther p l n) }) n).partly

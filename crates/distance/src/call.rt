@@ -1,17 +1,19 @@
 // The nearest call and the reach call.
 ghost use Rattle.std.specs.Prelude.{◌≡◌, ◌<◌, length};
+ghost use Rattle.std.proofs.Math.Option.{none};
+ghost use Rattle.model.specs.Yard.{size};
 ghost use Rattle.model.specs.Judge.{judge};
 ghost use Rattle.model.specs.Given.{given, was, became};
 ghost use Rattle.model.specs.Calls.Distances.{nearest_answer, reach_answer, reach_list};
-ghost use Rattle.model.specs.Meaning.{fault_of_done, answer_of_located, answer_of_counted};
-ghost use Rattle.distance.specs.Far.{Unknown, Measured};
+ghost use Rattle.model.specs.Paper.{paper_done, paper_located, paper_counted};
+ghost use Rattle.distance.specs.Far.{Unknown, Distances};
 
 use crate::far::measure;
 use crate::look::{nearest_of, reach_into};
 use judge::test::test_lists;
 use model::{Counted, Done, Located, Refusal};
 
-// The number itself if it is a node's, else 0.
+// The node itself, or node 0 for a number that is no node's.
 fn or_first(node: usize, n: usize) -> usize
     requires { 0 < n }
     ensures { (result < n) × (node < n → result ≡ node) }
@@ -22,8 +24,7 @@ fn or_first(node: usize, n: usize) -> usize
     0
 }
 
-// Tests a yard: refusals 1, 2, 26, 27, 4, 5, 6. Writes the distances of a tree's nodes from `node`.
-// Whether `node` is a node's number is asked later: its refusal comes after others.
+// Refusals 1 to 6, and of a tree the distances of all nodes from one of them. That the number handed in is a node's is asked later.
 fn test_from(
     parents: &[u8],
     pebbles: &[u8],
@@ -33,8 +34,8 @@ fn test_from(
     node: usize,
 ) -> Done
     requires { Unknown far.old × (length far.old ≡ 256) }
-    ensures answer { fault_of_done result ≡ judge (given parents pebbles targets depths) }
-    ensures distances { Measured (given parents pebbles targets depths) node (became far) }
+    ensures result_value { paper_done result ≡ judge (given parents pebbles targets depths) }
+    ensures distances { judge (given parents pebbles targets depths) ≡ none → node < size (given parents pebbles targets depths) → Distances (given parents pebbles targets depths) node (became far) }
 {
     let lists = test_lists(parents, pebbles, targets, depths);
     if let Done::Refused(r) = lists {
@@ -43,8 +44,7 @@ fn test_from(
     measure(parents, far, or_first(node, parents.len()))
 }
 
-// The pebble nearest to a node, the lowest-numbered among equals, and its distance. Refusals 1, 2,
-// 26, 27, 4, 5, 6; `NodeOutside` (19); `NoPebble` (22) if the yard holds none. Linear work.
+// The pebble nearest to a node, the lowest-numbered among equals, and its distance. Refusals 1 to 6; 19; 22 if the yard holds no pebble. Linear work.
 pub fn nearest(
     parents: &[u8],
     pebbles: &[u8],
@@ -52,7 +52,7 @@ pub fn nearest(
     depths: &[u8],
     node: usize,
 ) -> Located
-    ensures answer { answer_of_located result ≡ nearest_answer (given parents pebbles targets depths) node }
+    ensures { paper_located result ≡ nearest_answer (given parents pebbles targets depths) node }
 {
     let mut far = [256u16; 256];
     let tested = test_from(parents, pebbles, targets, depths, &mut far, node);
@@ -65,9 +65,8 @@ pub fn nearest(
     nearest_of(pebbles, &far)
 }
 
-// Answers how many nodes hold a pebble at most `reach` edges away; writes 1 for each of them and 0
-// for the others. Refusals 1, 2, 26, 27, 4, 5, 6; `ListLength` (2) for a list of another length
-// than n; `NodeOutside` (19). Linear work.
+// Writes 1 for each node that holds a pebble at most so many edges away and 0 elsewhere, and answers how many they are. Refusals 1 to 6; 2 for a list of
+// another length than n; 19. Linear work.
 pub fn reach(
     parents: &[u8],
     pebbles: &[u8],
@@ -77,8 +76,8 @@ pub fn reach(
     node: usize,
     reach: u16,
 ) -> Counted
-    ensures answer { answer_of_counted result ≡ reach_answer (given parents pebbles targets depths) (was list) node reach }
-    ensures list { became list ≡ reach_list (given parents pebbles targets depths) (was list) node reach }
+    ensures result_value { paper_counted result ≡ reach_answer (given parents pebbles targets depths) (was list) node reach }
+    ensures list_value { became list ≡ reach_list (given parents pebbles targets depths) (was list) node reach }
 {
     let mut far = [256u16; 256];
     let tested = test_from(parents, pebbles, targets, depths, &mut far, node);

@@ -1,15 +1,15 @@
-// Pebbles by their distances from a node.
-ghost use Rattle.std.specs.Prelude.{◌≡◌, ◌&&◌, ℕ, min, ◌≤◌, ◌<◌, length, leb, ltb};
-ghost use Rattle.model.specs.Yard.{Yard, size};
-ghost use Rattle.model.specs.Numbers.{one, lowest};
+// Pebbles by their distances.
+ghost use Rattle.std.specs.Prelude.{◌≡◌, ◌&&◌, map, ℕ, min, ◌≤◌, ◌<◌, length, leb, ltb};
+ghost use Rattle.model.specs.Yard.{Yard, size, one, lowest};
 ghost use Rattle.model.specs.Given.{was, became};
-ghost use Rattle.model.specs.Calls.Distances.{reach_count};
-ghost use Rattle.model.specs.Meaning.{answer_of_located};
-ghost use Rattle.distance.specs.Far.{unknown, LookPre, Looking, Least, is_within, nearest_or_none, reach_marks};
+ghost use Rattle.model.specs.Calls.Answers.{range};
+ghost use Rattle.model.specs.Calls.Distances.{inReach, reach_count};
+ghost use Rattle.model.specs.Paper.{paper_located};
+ghost use Rattle.distance.specs.Far.{unknown, Asked, Least, is_within, nearest_or_none};
 
 use model::{Located, Refusal};
 
-// `far` if the node holds a pebble, else 256, which is no distance.
+// The distance of a node with such a mark, so far away, if it holds a pebble; else 256, which is no distance.
 fn if_held(pebble: u8, far: u16) -> u16
     ensures { (0 < pebble → result ≡ far) × (pebble ≡ 0 → result ≡ unknown) }
 {
@@ -19,7 +19,6 @@ fn if_held(pebble: u8, far: u16) -> u16
     far
 }
 
-// The smaller of two numbers.
 fn smaller(a: u16, b: u16) -> u16
     ensures { result ≡ min a b }
 {
@@ -29,7 +28,7 @@ fn smaller(a: u16, b: u16) -> u16
     b
 }
 
-// The least distance of a pebble, or 256 if there is none.
+// The least distance of a pebble, 256 if there is none.
 fn least(pebbles: &[u8], far: &[u16; 256]) -> u16
     requires { length pebbles.now ≤ 256 }
     ensures { Least (was pebbles) (was far) (length (was pebbles)) result }
@@ -43,7 +42,7 @@ fn least(pebbles: &[u8], far: &[u16; 256]) -> u16
     nearest
 }
 
-// 1 if a node so far away holds a pebble within reach, else 0.
+// 1 for a node with such a mark, so far away, if it holds a pebble within reach.
 fn in_reach(pebble: u8, far: u16, reach: u16) -> u8
     ensures { result ≡ one ((ltb 0 pebble) && (leb far reach)) }
 {
@@ -56,7 +55,7 @@ fn in_reach(pebble: u8, far: u16, reach: u16) -> u8
     1
 }
 
-// The first node that holds a pebble within reach, or n.
+// The first node that holds one, or n.
 fn first_within(pebbles: &[u8], far: &[u16; 256], reach: u16) -> usize
     requires { length pebbles.now ≤ 256 }
     ensures { result ≡ lowest (length (was pebbles)) (is_within (was pebbles) (was far) reach) }
@@ -71,10 +70,10 @@ fn first_within(pebbles: &[u8], far: &[u16; 256], reach: u16) -> usize
     v
 }
 
-// The first pebble at the least distance, or `NoPebble` (22).
+// The nearest pebble: the first that is as near as the nearest.
 pub fn nearest_of(pebbles: &[u8], far: &[u16; 256]) -> Located
-    requires { (y : Yard) × ((a : ℕ) × LookPre y a pebbles.now far.now) }
-    ensures answer { Looking (was pebbles) (was far) (λ y a. answer_of_located result ≡ nearest_or_none y a) }
+    requires { (y : Yard) × ((a : ℕ) × Asked y a pebbles.now far.now) }
+    ensures { (y : Yard) (a : ℕ) → Asked y a (was pebbles) (was far) → paper_located result ≡ nearest_or_none y a }
 {
     let distance = least(pebbles, far);
     if distance == 256 {
@@ -83,12 +82,11 @@ pub fn nearest_of(pebbles: &[u8], far: &[u16; 256]) -> Located
     Located::Node(first_within(pebbles, far, distance), distance as usize)
 }
 
-// Answers how many nodes hold a pebble within reach; writes 1 for each of them and 0 for the
-// others.
+// Writes that for each node, and answers the count of 1s.
 pub fn reach_into(pebbles: &[u8], far: &[u16; 256], list: &mut [u8], reach: u16) -> usize
-    requires { (y : Yard) × ((a : ℕ) × LookPre y a pebbles.now far.now × (length list.old ≡ size y)) }
-    ensures answer { Looking (was pebbles) (was far) (λ y a. length (was list) ≡ size y → result ≡ reach_count y a reach) }
-    ensures list { Looking (was pebbles) (was far) (λ y a. length (was list) ≡ size y → became list ≡ reach_marks y a reach) }
+    requires { (y : Yard) × ((a : ℕ) × Asked y a pebbles.now far.now × (length list.old ≡ size y)) }
+    ensures value { (y : Yard) (a : ℕ) → Asked y a (was pebbles) (was far) → length (was list) ≡ size y → result ≡ reach_count y a reach }
+    ensures list_value { (y : Yard) (a : ℕ) → Asked y a (was pebbles) (was far) → length (was list) ≡ size y → became list ≡ map (λ v. one (inReach y a reach v)) (range 0 (size y)) }
 {
     let mut count = 0;
     let mut v = 0;

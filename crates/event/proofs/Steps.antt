@@ -1,5 +1,4 @@
--- Entries that differ, by their bits, and entries that step on the way to the root: the list is
--- then the one that the event leaves.
+-- Entries that differ, by their bits, and entries that step on the way to the root: the list is then the one that the event leaves.
 use mathlib.Core.Path.{◌≡◌, refl, sym, ap, ◌∙◌}
 use mathlib.Core.Logic.{◌≢◌}
 use mathlib.Core.Bool.{Bool, true, false, cond}
@@ -15,17 +14,16 @@ use mir.ValLaws.{to_z-of_z}
 use borrow.Author.Tests.{ltb-true, lt-ltb}
 use Rattle.model.specs.declared.Event.{Event}
 use Rattle.model.specs.declared.Event.TheVariants.{PebbleArrives, PebbleLeaves, TargetSet, TargetCleared}
-use Rattle.model.specs.Yard.{Yard, size, pebble, target, capacity, root, inside, entry}
-use Rattle.model.specs.Numbers.{one}
+use Rattle.model.specs.Yard.{Yard, size, one, pebble, target, capacity, root, inside, entry}
 use Rattle.model.specs.Calls.Events.{differ, changed, possible, entry_after, demands_after}
-use Rattle.laws.specs.Tree.{RootedTree}
-use Rattle.laws.proofs.Tree.Judge.{facts, rooted_tree}
-use Rattle.laws.proofs.Calls.EventRuns.{same, not_differ}
-use Rattle.laws.proofs.Base.Ranges.{length_range, get_d_listed, listed}
+use Rattle.laws.proofs.Trees.{Wood}
+use Rattle.laws.proofs.Judged.{facts, wood}
+use Rattle.laws.proofs.EventRuns.{same, not_differ}
+use Rattle.laws.proofs.Ranges.{length_range, get_d_listed, listed}
 use Rattle.event.specs.Change.{Rails, can, step_of, stepped_after}
 
-pub rails : {ps : List ℕ} → Rails ps → (r : ℕ) × RootedTree ps r
-rails h = (root h.0, rw (← h.2) (rooted_tree h.0 h.1))
+pub rails : {ps : List ℕ} → Rails ps → (r : ℕ) × Wood ps r
+rails h = (root h.0, rw (← h.2) (wood h.0 h.1))
 
 pub rails_few : {ps : List ℕ} → Rails ps → length ps ≤ 256
 rails_few h = omega (arith, (facts h.0 h.1).few, ap length h.2)
@@ -79,9 +77,7 @@ step_held e = to_z-of_z w16 (step_of e) (fits (step_of e) (omega (arith, step_sm
 pub stepped_demands : (y : Yard) (e : Event) (v : ℕ) (list : List ℤ) → stepped_after y.parents (step_of e) v list ≡ demands_after y e v list
 unfolding stepped_after demands_after
 stepped_demands y e v list =
-    listed (entry_after y e v list) (pos 0) (size y) _ (length_range _ 0 (size y))
-    (λ u l. get_d_listed _ (pos 0) (size y) u l
-    ∙ ap (λ (k : ℤ). cond (inside y.parents u v) k (entry list u)) (step_changed e (entry list u)))
+    listed (entry_after y e v list) (pos 0) (size y) _ (length_range _ 0 (size y)) (λ u l. get_d_listed _ (pos 0) (size y) u l ∙ ap (λ (k : ℤ). cond (inside y.parents u v) k (entry list u)) (step_changed e (entry list u)))
 
 -- an event can happen at a node by its counts and depth; and at one that is deeper
 pub possible_can : (y : Yard) (e : Event) (v : ℕ) → can e (pebble y v) (target y v) (capacity y v) ≡ possible y e v

@@ -4,7 +4,7 @@ use Rattle.model.specs.declared.Event.{Event}
 use Rattle.model.specs.declared.Event.TheVariants.{PebbleArrives, PebbleLeaves, TargetSet, TargetCleared}
 use Rattle.model.specs.Yard.{Yard, max_demand, inside, entry}
 use Rattle.model.specs.Judge.{Tree}
-use Rattle.model.specs.Numbers.{range}
+use Rattle.model.specs.Calls.Answers.{range}
 use Rattle.model.specs.Calls.Events.{differ}
 
 -- two lists have different entries at a place

@@ -2,15 +2,14 @@
 ghost use Rattle.std.specs.Prelude.{◌≡◌};
 ghost use Rattle.model.specs.Given.{given, was, became};
 ghost use Rattle.model.specs.Calls.Events.{event_fault, event_pebbles, event_targets, event_demands};
-ghost use Rattle.model.specs.Meaning.{fault_of_done};
+ghost use Rattle.model.specs.Paper.{paper_done};
 
 use crate::counts::{alter, can_happen};
 use crate::update::{climb, first_difference, step};
 use demand::matched::tree_demands;
 use model::{Done, Event, Refusal};
 
-// Refusals 1 to 6, 2 for a demand list of another length than n, 19, 20, and 23: the demands are
-// worked out afresh and compared with the list.
+// Refusals 1 to 6, 2 for a demand list of another length than n, 19, 20, and 23: the demands are worked out afresh and compared with the list.
 fn test_event(
     parents: &[u8],
     pebbles: &[u8],
@@ -20,7 +19,7 @@ fn test_event(
     event: Event,
     node: usize,
 ) -> Done
-    ensures { fault_of_done result ≡ event_fault (given parents pebbles targets depths) (was list) event node }
+    ensures { paper_done result ≡ event_fault (given parents pebbles targets depths) (was list) event node }
 {
     let mut fresh = [0i16; 256];
     let tested = tree_demands(parents, pebbles, targets, depths, &mut fresh);
@@ -35,7 +34,7 @@ fn test_event(
         return Done::Refused(Refusal::NodeOutside);
     }
     if !can_happen(event, pebbles[node], targets[node], depths[node]) {
-        return Done::Refused(Refusal::CannotHappen);
+        return Done::Refused(Refusal::EventImpossible);
     }
     let stale = first_difference(list, &fresh[..n]);
     if stale < n {
@@ -44,10 +43,8 @@ fn test_event(
     Done::Accepted
 }
 
-// An event at a node: alters its count, and each entry of the demand list on the way from the node
-// to the root by one. The list must be the yard's, and is then the altered yard's. Refusals 1 to 6;
-// 2 for a list of another length than n; 19, 20 and 23. Nothing is written before all is tested.
-// Linear work.
+// An event at a node: alters its count, and each entry of the demand list on the way from the node to the root by one. The list must be the yard's, and is then
+// the altered yard's. Refusals 1 to 6; 2 for a list of another length than n; 19, 20 and 23. Nothing is written before all is tested. Linear work.
 pub fn event_at(
     parents: &[u8],
     pebbles: &mut [u8],
@@ -57,10 +54,10 @@ pub fn event_at(
     event: Event,
     node: usize,
 ) -> Done
-    ensures answer { fault_of_done result ≡ event_fault (given parents pebbles targets depths) (was list) event node }
-    ensures pebble_list { became pebbles ≡ event_pebbles (given parents pebbles targets depths) (was list) event node }
-    ensures target_list { became targets ≡ event_targets (given parents pebbles targets depths) (was list) event node }
-    ensures demand_list { became list ≡ event_demands (given parents pebbles targets depths) (was list) event node }
+    ensures result_value { paper_done result ≡ event_fault (given parents pebbles targets depths) (was list) event node }
+    ensures pebbles_value { became pebbles ≡ event_pebbles (given parents pebbles targets depths) (was list) event node }
+    ensures targets_value { became targets ≡ event_targets (given parents pebbles targets depths) (was list) event node }
+    ensures list_value { became list ≡ event_demands (given parents pebbles targets depths) (was list) event node }
 {
     let tested = test_event(parents, pebbles, targets, depths, list, event, node);
     if let Done::Refused(r) = tested {

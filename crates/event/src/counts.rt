@@ -9,7 +9,7 @@ use model::Event;
 
 // Whether an event can happen at a node with these counts and this depth.
 pub fn can_happen(event: Event, pebble: u8, target: u8, depth: u8) -> bool
-    ensures answer { result ≡ can event pebble target depth }
+    ensures { result ≡ can event pebble target depth }
 {
     match event {
         Event::PebbleArrives => pebble < depth,
@@ -23,8 +23,8 @@ pub fn can_happen(event: Event, pebble: u8, target: u8, depth: u8) -> bool
 pub fn alter(pebbles: &mut [u8], targets: &mut [u8], event: Event, node: usize)
     requires node_in_bounds { (node < length pebbles.old) × (node < length targets.old) }
     requires node_value { can event (get_or pebbles.old node 0) (get_or targets.old node 0) 255 ≡ true }
-    ensures pebble_list { became pebbles ≡ pebbles_after (yard_of [] (was pebbles) (was targets) []) event node }
-    ensures target_list { became targets ≡ targets_after (yard_of [] (was pebbles) (was targets) []) event node }
+    ensures pebbles_value { became pebbles ≡ pebbles_after (yard_of [] (was pebbles) (was targets) []) event node }
+    ensures targets_value { became targets ≡ targets_after (yard_of [] (was pebbles) (was targets) []) event node }
 {
     match event {
         Event::PebbleArrives => pebbles[node] += 1,

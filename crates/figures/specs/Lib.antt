@@ -1,2 +1,2 @@
 -- Definitions that the contracts of this crate's helpers cite.
-pub mod Lacked
+pub mod Leaving

@@ -2,16 +2,15 @@
 ghost use Rattle.std.specs.Prelude.{◌≡◌};
 ghost use Rattle.model.specs.Given.{given};
 ghost use Rattle.model.specs.Calls.Demands.{bound_answer, longest_answer};
-ghost use Rattle.model.specs.Meaning.{answer_of_counted, answer_of_measured};
+ghost use Rattle.model.specs.Paper.{paper_counted, paper_measured};
 
 use demand::matched::matched_demands;
 use demand::signed::sizes;
 use model::{Counted, Done, Measured, Refusal};
 
-// Bound: the moves of the plan and the bytes that its list needs, without planning: the shortest
-// length is the plan's. Refusals 1 to 7. Linear work.
+// Bound: the moves of the plan and the bytes that its list needs, without planning: the shortest length is the plan's. Refusals 1 to 7. Linear work.
 pub fn length_bound(parents: &[u8], pebbles: &[u8], targets: &[u8], depths: &[u8]) -> Measured
-    ensures answer { answer_of_measured result ≡ bound_answer (given parents pebbles targets depths) }
+    ensures { paper_measured result ≡ bound_answer (given parents pebbles targets depths) }
 {
     let mut demands = [0i16; 256];
     let tested = matched_demands(parents, pebbles, targets, depths, &mut demands);
@@ -24,7 +23,7 @@ pub fn length_bound(parents: &[u8], pebbles: &[u8], targets: &[u8], depths: &[u8
 
 // The most moves that a yard of n nodes can need. Refusal 1 for an n outside 1 to 256.
 pub fn longest_plan(n: usize) -> Counted
-    ensures answer { answer_of_counted result ≡ longest_answer n }
+    ensures { paper_counted result ≡ longest_answer n }
 {
     if n == 0 {
         return Counted::Refused(Refusal::NodeCount(0));

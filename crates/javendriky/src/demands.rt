@@ -1,7 +1,7 @@
-// The demands, the length bound, the longest plan, and the displaced pebbles.
+// The demands (accounts) and the figures.
 ghost use Rattle.std.specs.Prelude.{◌≡◌};
 ghost use Rattle.model.specs.Given.{given, was, became};
-ghost use Rattle.model.specs.Calls.Answers.{mapAnswer, encode, encodeDone, valueUnlessRefused};
+ghost use Rattle.model.specs.Calls.Answers.{mapAnswer, in_c, zeroInC, noted};
 ghost use Rattle.model.specs.Calls.Demands.{demands_fault, demands_list, bound_answer, displaced_answer, longest_answer};
 
 use crate::answers::{counted, done, refused};
@@ -10,8 +10,7 @@ use figures::bound::{length_bound, longest_plan};
 use figures::displaced::displaced;
 use model::Measured;
 
-// Writes the demand of each node into a list with one entry a node, and answers 0. The yard's
-// refusals, then `ListLength` (2) for a list of another length.
+// The demands of all nodes into a list of exactly one entry a node. Refusals 1 to 6, then 2 for a list of another length, or 0.
 #[unsafe(no_mangle)]
 pub extern "C" fn javendriky_demands(
     parents: &[u8],
@@ -20,14 +19,13 @@ pub extern "C" fn javendriky_demands(
     depths: &[u8],
     list: &mut [i16],
 ) -> u32
-    ensures answer { result ≡ encodeDone (demands_fault (given parents pebbles targets depths) (was list)) }
-    ensures list { became list ≡ demands_list (given parents pebbles targets depths) (was list) }
+    ensures value { result ≡ zeroInC (demands_fault (given parents pebbles targets depths) (was list)) }
+    ensures list_value { became list ≡ demands_list (given parents pebbles targets depths) (was list) }
 {
     done(demands(parents, pebbles, targets, depths, list))
 }
 
-// The number of moves of the plan; writes the bytes that its list needs through the pointer. The
-// yard's refusals, then `Totals` (7).
+// Bound: the moves of the plan, and through the pointer the bytes that its list needs. Refusals 1 to 7.
 #[unsafe(no_mangle)]
 pub extern "C" fn javendriky_length_bound(
     parents: &[u8],
@@ -36,9 +34,8 @@ pub extern "C" fn javendriky_length_bound(
     depths: &[u8],
     bytes: &mut u32,
 ) -> u32
-    ensures answer { result ≡ encode (mapAnswer (λ l. l.moves) (bound_answer (given parents pebbles targets depths))) }
-    ensures bytes { became bytes
-        ≡ valueUnlessRefused (bound_answer (given parents pebbles targets depths)) (λ l. l.list_bytes) (was bytes) }
+    ensures value { result ≡ in_c (mapAnswer (λ l. l.moves) (bound_answer (given parents pebbles targets depths))) }
+    ensures bytes_value { became bytes ≡ noted (bound_answer (given parents pebbles targets depths)) (λ l. l.list_bytes) (was bytes) }
 {
     match length_bound(parents, pebbles, targets, depths) {
         Measured::Length(moves, list_bytes) => {
@@ -49,16 +46,15 @@ pub extern "C" fn javendriky_length_bound(
     }
 }
 
-// The most moves that the plan of a yard with n nodes can have. `NodeCount` (1).
+// The most moves that a yard of n nodes can need. Refusal 1.
 #[unsafe(no_mangle)]
 pub extern "C" fn javendriky_longest_plan(n: usize) -> u32
-    ensures answer { result ≡ encode (longest_answer n) }
+    ensures { result ≡ in_c (longest_answer n) }
 {
     counted(longest_plan(n))
 }
 
-// The number of pebbles that some move of the plan takes, where a move takes the pebble that
-// arrived last at its first node. The yard's refusals, then `Totals` (7).
+// Displaced: the pebbles that take part in a move of the plan, the last in first. Refusals 1 to 7.
 #[unsafe(no_mangle)]
 pub extern "C" fn javendriky_displaced(
     parents: &[u8],
@@ -66,7 +62,7 @@ pub extern "C" fn javendriky_displaced(
     targets: &[u8],
     depths: &[u8],
 ) -> u32
-    ensures answer { result ≡ encode (displaced_answer (given parents pebbles targets depths)) }
+    ensures { result ≡ in_c (displaced_answer (given parents pebbles targets depths)) }
 {
     counted(displaced(parents, pebbles, targets, depths))
 }

@@ -1,15 +1,14 @@
 // The nearest pebble, and the pebbles within reach.
 ghost use Rattle.std.specs.Prelude.{◌≡◌};
 ghost use Rattle.model.specs.Given.{given, was, became};
-ghost use Rattle.model.specs.Calls.Answers.{mapAnswer, encode, valueUnlessRefused};
+ghost use Rattle.model.specs.Calls.Answers.{mapAnswer, in_c, noted};
 ghost use Rattle.model.specs.Calls.Distances.{nearest_answer, reach_answer, reach_list};
 
 use crate::answers::{counted, refused};
 use distance::call::{nearest, reach};
 use model::Located;
 
-// The node of the pebble nearest to a node, the lowest among equals; writes its distance in edges
-// through the pointer. The yard's refusals, `NodeOutside` (19), then `NoPebble` (22).
+// The node of the pebble nearest to a node, the lowest-numbered among equals, and through the pointer its distance in edges. Refusals 1 to 6, 19, 22.
 #[unsafe(no_mangle)]
 pub extern "C" fn javendriky_nearest(
     parents: &[u8],
@@ -19,9 +18,8 @@ pub extern "C" fn javendriky_nearest(
     node: usize,
     distance: &mut u32,
 ) -> u32
-    ensures answer { result ≡ encode (mapAnswer (λ l. l.node) (nearest_answer (given parents pebbles targets depths) node)) }
-    ensures distance { became distance
-        ≡ valueUnlessRefused (nearest_answer (given parents pebbles targets depths) node) (λ l. l.distance) (was distance) }
+    ensures value { result ≡ in_c (mapAnswer (λ l. l.node) (nearest_answer (given parents pebbles targets depths) node)) }
+    ensures distance_value { became distance ≡ noted (nearest_answer (given parents pebbles targets depths) node) (λ l. l.distance) (was distance) }
 {
     match nearest(parents, pebbles, targets, depths, node) {
         Located::Node(at, far) => {
@@ -32,9 +30,8 @@ pub extern "C" fn javendriky_nearest(
     }
 }
 
-// Writes 1 for each node that holds a pebble within this number of edges of a node, and 0 for the
-// others; answers the number of such nodes. The yard's refusals, `ListLength` (2) for a list of
-// another length, then `NodeOutside` (19).
+// Writes 1 for each node that holds a pebble within so many edges of a node and 0 elsewhere, and answers how many they are. Refusals 1 to 6, 2 for a list of
+// another length than n, 19.
 #[unsafe(no_mangle)]
 pub extern "C" fn javendriky_reach(
     parents: &[u8],
@@ -45,8 +42,8 @@ pub extern "C" fn javendriky_reach(
     node: usize,
     edges: u16,
 ) -> u32
-    ensures answer { result ≡ encode (reach_answer (given parents pebbles targets depths) (was list) node edges) }
-    ensures list { became list ≡ reach_list (given parents pebbles targets depths) (was list) node edges }
+    ensures value { result ≡ in_c (reach_answer (given parents pebbles targets depths) (was list) node edges) }
+    ensures list_value { became list ≡ reach_list (given parents pebbles targets depths) (was list) node edges }
 {
     counted(reach(parents, pebbles, targets, depths, list, node, edges))
 }

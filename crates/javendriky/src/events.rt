@@ -1,17 +1,15 @@
-// Events at a node, with a call for each event: so no caller can pass a wrong number for an event.
-// The refusals of each are the yard's, `ListLength` (2) for a demand list of another length,
-// `NodeOutside` (19), `CannotHappen` (20), then `StaleDemands` (23).
+// Events at a node, a call for each, so that no number of an event can be wrong.
 ghost use Rattle.std.specs.Prelude.{◌≡◌};
 ghost use Rattle.model.specs.declared.Event.TheVariants.{PebbleArrives, PebbleLeaves, TargetSet, TargetCleared};
 ghost use Rattle.model.specs.Given.{given, was, became};
-ghost use Rattle.model.specs.Calls.Answers.{encodeDone};
+ghost use Rattle.model.specs.Calls.Answers.{zeroInC};
 ghost use Rattle.model.specs.Calls.Events.{event_fault, event_pebbles, event_targets, event_demands};
 
 use crate::answers::done;
 use event::call::event_at;
 use model::Event;
 
-// The answer of the event as one number.
+// What the event call answers, as one number.
 fn happened(
     parents: &[u8],
     pebbles: &mut [u8],
@@ -21,7 +19,7 @@ fn happened(
     event: Event,
     node: usize,
 ) -> u32
-    ensures value { result ≡ encodeDone (event_fault (given parents pebbles targets depths) (was demands) event node) }
+    ensures value { result ≡ zeroInC (event_fault (given parents pebbles targets depths) (was demands) event node) }
     ensures pebbles_value { became pebbles ≡ event_pebbles (given parents pebbles targets depths) (was demands) event node }
     ensures targets_value { became targets ≡ event_targets (given parents pebbles targets depths) (was demands) event node }
     ensures demands_value { became demands ≡ event_demands (given parents pebbles targets depths) (was demands) event node }
@@ -29,7 +27,7 @@ fn happened(
     done(event_at(parents, pebbles, targets, depths, demands, event, node))
 }
 
-// A pebble arrives at a node. Answers 0.
+// A pebble arrives at a node. Refusals 1 to 6, 2 for a demand list of another length, 19, 20 and 23, or 0.
 #[unsafe(no_mangle)]
 pub extern "C" fn javendriky_pebble_arrives(
     parents: &[u8],
@@ -39,10 +37,10 @@ pub extern "C" fn javendriky_pebble_arrives(
     demands: &mut [i16],
     node: usize,
 ) -> u32
-    ensures answer { result ≡ encodeDone (event_fault (given parents pebbles targets depths) (was demands) PebbleArrives node) }
-    ensures pebbles { became pebbles ≡ event_pebbles (given parents pebbles targets depths) (was demands) PebbleArrives node }
-    ensures targets { became targets ≡ event_targets (given parents pebbles targets depths) (was demands) PebbleArrives node }
-    ensures demands { became demands ≡ event_demands (given parents pebbles targets depths) (was demands) PebbleArrives node }
+    ensures value { result ≡ zeroInC (event_fault (given parents pebbles targets depths) (was demands) PebbleArrives node) }
+    ensures pebbles_value { became pebbles ≡ event_pebbles (given parents pebbles targets depths) (was demands) PebbleArrives node }
+    ensures targets_value { became targets ≡ event_targets (given parents pebbles targets depths) (was demands) PebbleArrives node }
+    ensures demands_value { became demands ≡ event_demands (given parents pebbles targets depths) (was demands) PebbleArrives node }
 {
     happened(
         parents,
@@ -55,7 +53,7 @@ pub extern "C" fn javendriky_pebble_arrives(
     )
 }
 
-// A pebble leaves a node. Answers 0.
+// A pebble leaves a node. Refusals 1 to 6, 2 for a demand list of another length, 19, 20 and 23, or 0.
 #[unsafe(no_mangle)]
 pub extern "C" fn javendriky_pebble_leaves(
     parents: &[u8],
@@ -65,10 +63,10 @@ pub extern "C" fn javendriky_pebble_leaves(
     demands: &mut [i16],
     node: usize,
 ) -> u32
-    ensures answer { result ≡ encodeDone (event_fault (given parents pebbles targets depths) (was demands) PebbleLeaves node) }
-    ensures pebbles { became pebbles ≡ event_pebbles (given parents pebbles targets depths) (was demands) PebbleLeaves node }
-    ensures targets { became targets ≡ event_targets (given parents pebbles targets depths) (was demands) PebbleLeaves node }
-    ensures demands { became demands ≡ event_demands (given parents pebbles targets depths) (was demands) PebbleLeaves node }
+    ensures value { result ≡ zeroInC (event_fault (given parents pebbles targets depths) (was demands) PebbleLeaves node) }
+    ensures pebbles_value { became pebbles ≡ event_pebbles (given parents pebbles targets depths) (was demands) PebbleLeaves node }
+    ensures targets_value { became targets ≡ event_targets (given parents pebbles targets depths) (was demands) PebbleLeaves node }
+    ensures demands_value { became demands ≡ event_demands (given parents pebbles targets depths) (was demands) PebbleLeaves node }
 {
     happened(
         parents,
@@ -81,7 +79,7 @@ pub extern "C" fn javendriky_pebble_leaves(
     )
 }
 
-// A target is set at a node. Answers 0.
+// A target is set at a node. Refusals 1 to 6, 2 for a demand list of another length, 19, 20 and 23, or 0.
 #[unsafe(no_mangle)]
 pub extern "C" fn javendriky_target_set(
     parents: &[u8],
@@ -91,10 +89,10 @@ pub extern "C" fn javendriky_target_set(
     demands: &mut [i16],
     node: usize,
 ) -> u32
-    ensures answer { result ≡ encodeDone (event_fault (given parents pebbles targets depths) (was demands) TargetSet node) }
-    ensures pebbles { became pebbles ≡ event_pebbles (given parents pebbles targets depths) (was demands) TargetSet node }
-    ensures targets { became targets ≡ event_targets (given parents pebbles targets depths) (was demands) TargetSet node }
-    ensures demands { became demands ≡ event_demands (given parents pebbles targets depths) (was demands) TargetSet node }
+    ensures value { result ≡ zeroInC (event_fault (given parents pebbles targets depths) (was demands) TargetSet node) }
+    ensures pebbles_value { became pebbles ≡ event_pebbles (given parents pebbles targets depths) (was demands) TargetSet node }
+    ensures targets_value { became targets ≡ event_targets (given parents pebbles targets depths) (was demands) TargetSet node }
+    ensures demands_value { became demands ≡ event_demands (given parents pebbles targets depths) (was demands) TargetSet node }
 {
     happened(
         parents,
@@ -107,7 +105,7 @@ pub extern "C" fn javendriky_target_set(
     )
 }
 
-// A target is cleared at a node. Answers 0.
+// The target of a node is cleared. Refusals 1 to 6, 2 for a demand list of another length, 19, 20 and 23, or 0.
 #[unsafe(no_mangle)]
 pub extern "C" fn javendriky_target_cleared(
     parents: &[u8],
@@ -117,10 +115,10 @@ pub extern "C" fn javendriky_target_cleared(
     demands: &mut [i16],
     node: usize,
 ) -> u32
-    ensures answer { result ≡ encodeDone (event_fault (given parents pebbles targets depths) (was demands) TargetCleared node) }
-    ensures pebbles { became pebbles ≡ event_pebbles (given parents pebbles targets depths) (was demands) TargetCleared node }
-    ensures targets { became targets ≡ event_targets (given parents pebbles targets depths) (was demands) TargetCleared node }
-    ensures demands { became demands ≡ event_demands (given parents pebbles targets depths) (was demands) TargetCleared node }
+    ensures value { result ≡ zeroInC (event_fault (given parents pebbles targets depths) (was demands) TargetCleared node) }
+    ensures pebbles_value { became pebbles ≡ event_pebbles (given parents pebbles targets depths) (was demands) TargetCleared node }
+    ensures targets_value { became targets ≡ event_targets (given parents pebbles targets depths) (was demands) TargetCleared node }
+    ensures demands_value { became demands ≡ event_demands (given parents pebbles targets depths) (was demands) TargetCleared node }
 {
     happened(
         parents,

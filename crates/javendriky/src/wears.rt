@@ -1,17 +1,15 @@
-// The most crossings of one edge within some moves in a row.
+// The wear within a stretch of moves.
 ghost use Rattle.std.specs.Prelude.{◌≡◌};
 ghost use Rattle.model.specs.Given.{given, was, became};
-ghost use Rattle.model.specs.Calls.Answers.{mapAnswer, encode, valueUnlessRefused};
+ghost use Rattle.model.specs.Calls.Answers.{mapAnswer, in_c, noted};
 ghost use Rattle.model.specs.Calls.Wear.{wear_answer};
 
 use crate::answers::refused;
 use model::Worn;
 use wear::call::wear;
 
-// The most crossings of one edge within `width` moves in a row of an accepted plan (request 2.12).
-// Writes through the pointers the number of the first move of the first such stretch, and the
-// lowest such edge in it. The checker's refusals, then `Width` (28) if `width` is 0 or more than
-// the number of moves.
+// The most crossings of one edge within so many moves in a row of a plan that the checker accepts (request 2.12), and through the pointers the first move of the first
+// stretch that has them and the lowest such edge in it. Refused as the checker refuses, then with 28.
 #[unsafe(no_mangle)]
 pub extern "C" fn javendriky_wear(
     parents: &[u8],
@@ -23,12 +21,9 @@ pub extern "C" fn javendriky_wear(
     first: &mut u32,
     edge: &mut u32,
 ) -> u32
-    ensures answer { result
-        ≡ encode (mapAnswer (λ w. w.crossings) (wear_answer (given parents pebbles targets depths) (was plan) width)) }
-    ensures first { became first
-        ≡ valueUnlessRefused (wear_answer (given parents pebbles targets depths) (was plan) width) (λ w. w.first) (was first) }
-    ensures edge { became edge
-        ≡ valueUnlessRefused (wear_answer (given parents pebbles targets depths) (was plan) width) (λ w. w.edge) (was edge) }
+    ensures value { result ≡ in_c (mapAnswer (λ w. w.crossings) (wear_answer (given parents pebbles targets depths) (was plan) width)) }
+    ensures first_value { became first ≡ noted (wear_answer (given parents pebbles targets depths) (was plan) width) (λ w. w.first) (was first) }
+    ensures edge_value { became edge ≡ noted (wear_answer (given parents pebbles targets depths) (was plan) width) (λ w. w.edge) (was edge) }
 {
     match wear(parents, pebbles, targets, depths, plan, width) {
         Worn::Most(crossings, begins, at) => {

@@ -1,4 +1,3 @@
--- Laws about marks and climbs that the proofs of the functions share.
+-- Laws of marks and climbs.
 pub mod Lists
 pub mod Climb
-pub mod TopDown

@@ -1,5 +1,5 @@
--- Entries of lists of numbers, read with 0 past the end: a store leaves an entry as it was or makes
--- it the stored value, and a list of zeros has no other entry. Both by induction over the list.
+-- Entries of lists of numbers, read with 0 past the end: one store leaves an entry as it was or makes it the value stored, and a list of
+-- zeros has no other entry. Both by going through the list.
 use mathlib.Core.Path.{◌≡◌, refl, ap}
 use mathlib.Core.List.{List, [], ◌∷◌}
 use mathlib.Core.Logic.{◌⊎◌, inl, inr, ⊎_elim}

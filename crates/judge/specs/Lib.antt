@@ -1,3 +1,2 @@
--- Definitions that the contracts of the functions of this crate cite.
+-- Definitions that speak of the climbs of this crate.
 pub mod Climb
-pub mod TopDown

@@ -1,18 +1,15 @@
-// The search for `Circle` (6): the lowest node whose climb never reaches the root.
+// Refusal 6: the lowest node from which climbing never reaches the root.
 ghost use Rattle.std.specs.Prelude.{◌≡◌, ◌<◌, length};
-ghost use Rattle.model.specs.Numbers.{lowest};
+ghost use Rattle.model.specs.Yard.{lowest};
 ghost use Rattle.model.specs.Judge.{Parents};
 ghost use Rattle.model.specs.Given.{was, became};
 ghost use Rattle.judge.specs.Climb.{lost, Marked};
 
-// The lowest node whose climb does not reach `root`, or the number of nodes if each climb does. It
-// names the refused node. `demand::gather` and `distance::fill` find out on their way only whether
-// the parents are a tree, and leave the naming to this test. A climb ends at a node that is known
-// to reach the root: all climbs together take at most two steps a node, and a climb into a circle
-// at most n steps more.
+// The lowest node that does not climb to `root`, or the number of nodes if each does. Nodes that are known to reach the root end a climb, so
+// that all climbs together take at most two steps a node, and one that meets a circle at most n more. Mostly the parent is known already.
 pub fn first_circle(parents: &[u8], root: usize) -> usize
     requires { Parents parents.now × (root < length parents.now) }
-    ensures lowest { result ≡ lowest (length (was parents)) (lost (was parents) root) }
+    ensures { result ≡ lowest (length (was parents)) (lost (was parents) root) }
 {
     let n = parents.len();
     let mut known = [0u8; 256];
@@ -41,8 +38,7 @@ pub fn first_circle(parents: &[u8], root: usize) -> usize
     found
 }
 
-// Marks the first `steps` nodes of the climb from `v`. The contract says only that no other node is
-// marked: a missing mark would cost steps and change no answer.
+// Marks the first `steps` nodes of the climb from `v`. Shown is that it marks no other: a mark only spares steps.
 fn mark(parents: &[u8], known: &mut [u8; 256], v: usize, steps: usize)
     requires { Parents parents.now × (v < length parents.now) }
     ensures { Marked (was parents) v steps (was known) (became known) }

@@ -1,7 +1,6 @@
-// The tests of a yard's four lists: refusals 1, 2, 26, 27, 4, 5, 6, then 7.
+// The test of four lists: refusals 1 to 7. Wherever 1 to 6 are named, 26 and 27 are two of them, in the place of 3 (request 2.10).
 #![tactic(auto)]
 
 pub mod circle;
 pub mod test;
-pub mod top_down;
 pub mod totals;

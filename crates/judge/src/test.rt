@@ -1,18 +1,17 @@
-// The tests of a yard: refusals 1, 2, 26, 27, 4, 5 and 6, in this order.
+// Testing a yard: refusals 1, 2, 26, 27, 4, 5 and 6, in their order.
 ghost use Rattle.std.specs.Prelude.{◌≡◌, [], length};
 ghost use Rattle.model.specs.Yard.{yard_of};
 ghost use Rattle.model.specs.Given.{given, was};
 ghost use Rattle.model.specs.Judge.{first_of, length_tests, entry_tests, list_tests, shape_tests, judge, Parents};
-ghost use Rattle.model.specs.Meaning.{fault_of_done};
+ghost use Rattle.model.specs.Paper.{paper_done};
 
 use crate::circle::first_circle;
-use crate::top_down::top_down;
-use lists::find::{first_at_least, first_below, first_outside, first_root};
+use lists::find::{first_at_least, first_below, first_outside, first_own};
 use model::{Done, Refusal};
 
-// Tests the lengths: `NodeCount` (1), then `ListLength` (2).
+// Refusals 1 and 2.
 pub fn test_lengths(parents: &[u8], pebbles: &[u8], targets: &[u8], depths: &[u8]) -> Done
-    ensures answer { fault_of_done result ≡ first_of (length_tests (given parents pebbles targets depths)) }
+    ensures { paper_done result ≡ first_of (length_tests (given parents pebbles targets depths)) }
 {
     let n = parents.len();
     if n == 0 {
@@ -33,17 +32,15 @@ pub fn test_lengths(parents: &[u8], pebbles: &[u8], targets: &[u8], depths: &[u8
     Done::Accepted
 }
 
-// Tests the entries of lists of one length: `DepthOutside` (26), `AboveDepth` (27), then
-// `ParentOutside` (4).
+// Refusals 26, 27 and 4, of lists of one length.
 fn test_entries(parents: &[u8], pebbles: &[u8], targets: &[u8], depths: &[u8]) -> Done
-    requires { (length pebbles.now ≡ length parents.now) × (length targets.now ≡ length parents.now)
-        × (length depths.now ≡ length parents.now) }
-    ensures { fault_of_done result ≡ first_of (entry_tests (given parents pebbles targets depths)) }
+    requires { (length pebbles.now ≡ length parents.now) × (length targets.now ≡ length parents.now) × (length depths.now ≡ length parents.now) }
+    ensures { paper_done result ≡ first_of (entry_tests (given parents pebbles targets depths)) }
 {
     let n = parents.len();
     let depth = first_outside(depths, 1, 8);
     if depth < n {
-        return Done::Refused(Refusal::DepthOutside(depth));
+        return Done::Refused(Refusal::Depth(depth));
     }
     let pebble = first_below(depths, pebbles);
     if pebble < n {
@@ -60,9 +57,9 @@ fn test_entries(parents: &[u8], pebbles: &[u8], targets: &[u8], depths: &[u8]) -
     Done::Accepted
 }
 
-// Tests lengths and entries: refusals 1, 2, 26, 27 and 4.
+// Refusals 1, 2, 26, 27 and 4.
 pub fn test_lists(parents: &[u8], pebbles: &[u8], targets: &[u8], depths: &[u8]) -> Done
-    ensures answer { fault_of_done result ≡ first_of (list_tests (given parents pebbles targets depths)) }
+    ensures { paper_done result ≡ first_of (list_tests (given parents pebbles targets depths)) }
 {
     let lengths = test_lengths(parents, pebbles, targets, depths);
     if let Done::Refused(r) = lengths {
@@ -71,14 +68,13 @@ pub fn test_lists(parents: &[u8], pebbles: &[u8], targets: &[u8], depths: &[u8])
     test_entries(parents, pebbles, targets, depths)
 }
 
-// Tests the shape of parents that are nodes by climbing: `Roots` (5), then `Circle` (6). A second
-// root never climbs to the first, so it is searched only if some node does not climb to the first.
-fn test_climbs(parents: &[u8]) -> Done
+// Refusals 5 and 6, of parents that are nodes. A second root never climbs to the first, so it is looked for only where some node does not.
+pub fn test_shape(parents: &[u8]) -> Done
     requires { Parents parents.now }
-    ensures { fault_of_done result ≡ first_of (shape_tests (yard_of (was parents) [] [] [])) }
+    ensures { paper_done result ≡ first_of (shape_tests (yard_of (was parents) [] [] [])) }
 {
     let n = parents.len();
-    let root = first_root(parents, 0);
+    let root = first_own(parents, 0);
     if root >= n {
         return Done::Refused(Refusal::Roots(0));
     }
@@ -86,28 +82,16 @@ fn test_climbs(parents: &[u8]) -> Done
     if circle >= n {
         return Done::Accepted;
     }
-    let second = first_root(parents, root + 1);
+    let second = first_own(parents, root + 1);
     if second < n {
         return Done::Refused(Refusal::Roots(second));
     }
     Done::Refused(Refusal::Circle(circle))
 }
 
-// Tests the shape of parents that are nodes: `Roots` (5), then `Circle` (6). Most yards are
-// numbered from the root down. That is seen many entries at once, and such a yard needs no climb.
-pub fn test_shape(parents: &[u8]) -> Done
-    requires { Parents parents.now }
-    ensures answer { fault_of_done result ≡ first_of (shape_tests (yard_of (was parents) [] [] [])) }
-{
-    if top_down(parents) {
-        return Done::Accepted;
-    }
-    test_climbs(parents)
-}
-
-// Tests whether four lists are a yard, and its parents a tree: refusals 1, 2, 26, 27, 4, 5 and 6.
+// Whether four lists are a yard's, and a tree: refusals 1 to 6, in the order above.
 pub fn test_yard(parents: &[u8], pebbles: &[u8], targets: &[u8], depths: &[u8]) -> Done
-    ensures answer { fault_of_done result ≡ judge (given parents pebbles targets depths) }
+    ensures { paper_done result ≡ judge (given parents pebbles targets depths) }
 {
     let lists = test_lists(parents, pebbles, targets, depths);
     if let Done::Refused(r) = lists {

@@ -8,30 +8,26 @@ use Rattle.model.specs.Follow.{starts, Follows, route, crossings}
 use Rattle.model.specs.Calls.Answers.{Answer, answered, refused}
 use Rattle.model.specs.Calls.Plans.{moves_of}
 
--- no move of ms, run from y, is spare
+-- no move of ms, obeyed from y, is spare
 pub record Optimal (y : Yard) (ms : List Move) : Type 0 where
-  -- each move is accepted, and at the end each node holds as many pebbles as it has targets
+  -- each is accepted, and at the end each node holds as many pebbles as its target count
   pub obeyed : accepted y ms ≡ ms
   pub solves : Solved (run y ms)
-  -- They cross the edge of v away from the root as often as its subtree lacks pebbles at the start,
-  -- and towards the root as often as it has too many.
+  -- they cross the edge of v away from the root as often as its subtree lacks pebbles at the start, towards it as often as it has too many
   pub crossed : (v : ℕ) → v < size y → (downs y ms v ≡ lacking y v) × (ups y ms v ≡ surplus y v)
-  -- every list of pushes that solves the yard has at least as many accepted pushes
+  -- no list of pushes that solves the yard has fewer accepted ones
   pub least : (ps : List Move) → Solved (run y ps) → length ms ≤ length (accepted y ps)
-  -- Every list of pushes can be followed pebble by pebble. If it solves the yard with equally many
-  -- accepted pushes, no pebble crosses an edge twice, whichever pebble of a node each push takes.
+  -- every list of pushes can be followed; and in one that solves the yard with just as many no pebble crosses an edge twice, whichever of a
+  -- node's pebbles is taken
   pub followed : (ps : List Move) → (is : List ℕ) × (qs : List ℕ) × Follows (starts y) (accepted y ps) is qs
   pub simple : (ps : List Move) → Solved (run y ps) → length (accepted y ps) ≡ length ms
-      → {is qs : List ℕ} → Follows (starts y) (accepted y ps) is qs → (i v : ℕ) → v < size y
-      → crossings y (route i (accepted y ps) is) v ≤ 1
+      → {is qs : List ℕ} → Follows (starts y) (accepted y ps) is qs → (i v : ℕ) → v < size y → crossings y (route i (accepted y ps) is) v ≤ 1
 
--- The planner's call for the yard y: the lent list held `before`, the call gives `answer`, and the
--- list holds `after`.
+-- of what the planner answers for the yard y and a lent list that held `before` and then holds `after`
 pub record Demand3 (y : Yard) (before : List ℕ) (answer : Answer ℕ) (after : List ℕ) : Type 0 where
-  -- it accepts exactly the trees with as many pebbles as targets, if the list has two bytes for
-  -- each move of the plan
+  -- it accepts exactly the trees with as many pebbles as targets, given a list with two bytes for each move of the plan
   pub accepts : ((m : ℕ) × (answer ≡ answered m)) ↔ (Tree y × Matched y × (2 * length (plan y) ≤ length before))
-  -- it answers the number of moves that it wrote, and none of them is spare
+  -- no move that it wrote is spare, and they are as many as it answers
   pub planned : (m : ℕ) → answer ≡ answered m → (length (moves_of (take (2 * m) after)) ≡ m) × Optimal y (moves_of (take (2 * m) after))
-  -- it refuses a tree with TOTALS (7) exactly if no list of pushes solves it
+  -- it refuses a tree as having no plan exactly if no list of pushes solves it
   pub no_plan : Tree y → (answer ≡ refused (row 7 0)) ↔ ((ps : List Move) → ¬ Solved (run y ps))

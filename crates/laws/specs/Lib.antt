@@ -1,7 +1,5 @@
--- What is promised of the definitions: a file for each demand, request or program, with its words.
-pub mod Tree
+-- What is promised of the definitions as a whole, and the words that it is said in: a file for each demand, request or program that has such a promise.
 pub mod Algorithms
-pub mod Due
 pub mod Demand2
 pub mod Demand3
 pub mod Equation2
@@ -18,4 +16,3 @@ pub mod Cabinet
 pub mod Choice
 pub mod Nearest
 pub mod Report
-pub mod LongSheets

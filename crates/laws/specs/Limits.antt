@@ -1,10 +1,9 @@
--- Exactly which plans meet PLAN_LENGTH (9), and exactly which lists lent to the reader meet
--- READER_LIST (18).
+-- When a plan meets refusal 9, and when lists lent to the reader meet 18: each 'exactly if'.
 use Rattle.std.specs.Prelude.{◌≡◌, ◌↔◌, List, ℕ, ◌*◌, ◌≤◌, length}
 use Rattle.std.proofs.Math.Option.{none}
 use Rattle.model.specs.Judge.{row}
 use Rattle.model.specs.Calls.Answers.{refused}
-use Rattle.model.specs.Calls.Checks.{plan_length_fault}
+use Rattle.model.specs.Calls.Checks.{bytes_fault}
 use Rattle.model.specs.Calls.Registers.{whole_moves}
 use Rattle.model.specs.Sheets.{reader}
 
@@ -17,7 +16,7 @@ abbrev pub FourLists : List ℕ → List ℕ → List ℕ → List ℕ → Type 
 FourLists ps cs ts ds = (256 ≤ length ps) × (256 ≤ length cs) × (256 ≤ length ts) × (256 ≤ length ds)
 
 pub record Limits : Type 0 where
-  -- a plan passes 9 exactly if it has whole moves and is not too long
-  pub nine : (bs : List ℕ) → (plan_length_fault bs ≡ none) ↔ WholePlan bs
-  -- whatever the sheet, the reader gives 18 exactly if one of its lists has fewer than 256 entries
+  -- a plan passes 9 exactly if it is whole and not too long
+  pub nine : (bs : List ℕ) → (bytes_fault bs ≡ none) ↔ WholePlan bs
+  -- whatever the sheet, the reader gives 18 exactly if one of its lists is shorter than 256
   pub eighteen : (sheet ps cs ts ds : List ℕ) → (reader sheet ps cs ts ds ≡ refused (row 18 0)) ↔ (¬ FourLists ps cs ts ds)

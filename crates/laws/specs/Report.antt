@@ -1,7 +1,7 @@
--- The sum that the total of the crossing report equals (request 2.1).
+-- Request 2.1: what the total of the crossing report is held against.
 use Rattle.std.specs.Prelude.{List, [], ◌∷◌, ℕ, ◌+◌}
 
--- the sum of a list of numbers, such as a column of the report
+-- the sum of a list, such as a column
 unfoldable pub total : List ℕ → ℕ
 total [] = 0
 total (k ∷ ks) = k + total ks

@@ -1,29 +1,23 @@
--- Where the spare moves of an accepted plan lie: on the edges that it crosses both ways.
+-- Where the spare of an accepted plan lies: on the edges that it crosses both ways.
 use Rattle.std.specs.Prelude.{◌≡◌, List, ◌↔◌, ◌⊎◌, ℕ, ◌+◌, ◌*◌, ◌<◌, min}
-use Rattle.model.specs.Yard.{Yard, size, root, lacking, surplus, imbalance, shortest}
-use Rattle.model.specs.Numbers.{sum}
+use Rattle.model.specs.Yard.{Yard, size, sum, root, lacking, surplus, imbalance, shortest}
 use Rattle.model.specs.Push.{Move, ups, downs}
 use Rattle.model.specs.Calls.Plans.{moves_of}
 use Rattle.model.specs.Calls.Checks.{Verdict}
 
--- how often the edge of v is crossed there and back: the smaller of its crossings towards the root
--- and away from it
+-- how often the edge of v is crossed there and back: once for each crossing one way that one the other way undoes
 abbrev pub returns : Yard → List Move → ℕ → ℕ
 returns y ms v = min (ups y ms v) (downs y ms v)
 
--- for a plan that the checker accepts with the verdict r
+-- of a plan that the checker accepts with the verdict r
 pub record SpareFound (y : Yard) (bs : List ℕ) (r : Verdict) : Type 0 where
-  -- The edge of v is crossed towards the root as often as its subtree has too many pebbles at the
-  -- start, plus once a return; and away from the root as often as it lacks some, plus once a
-  -- return.
+  -- towards the root as often as the subtree of v has too many pebbles at the start, away from it as often as it lacks some, and each way once more for each return
   pub towards : (v : ℕ) → v < size y → ups y (moves_of bs) v ≡ surplus y v + returns y (moves_of bs) v
   pub away : (v : ℕ) → v < size y → downs y (moves_of bs) v ≡ lacking y v + returns y (moves_of bs) v
   pub crossed : (v : ℕ) → v < size y → ups y (moves_of bs) v + downs y (moves_of bs) v ≡ imbalance y v + 2 * returns y (moves_of bs) v
   -- so an edge has spare crossings exactly if it is crossed both ways
-  pub both_ways : (v : ℕ) → v < size y
-      → (imbalance y v < ups y (moves_of bs) v + downs y (moves_of bs) v) ↔ ((0 < ups y (moves_of bs) v) × (0 < downs y (moves_of bs) v))
-  -- The moves are the shortest length plus two a return. The excess (spare) is two a return. The
-  -- root has no edge.
+  pub both_ways : (v : ℕ) → v < size y → (imbalance y v < ups y (moves_of bs) v + downs y (moves_of bs) v) ↔ ((0 < ups y (moves_of bs) v) × (0 < downs y (moves_of bs) v))
+  -- the moves are the shortest length and two for each return, and those two are the excess (spare); the root has no edge
   pub root_none : returns y (moves_of bs) (root y) ≡ 0
   pub moves : r.moves ≡ shortest y + 2 * sum (size y) (returns y (moves_of bs))
   pub excess : r.excess ≡ 2 * sum (size y) (returns y (moves_of bs))

@@ -1,12 +1,10 @@
--- What the wear is (request 2.12), defined without computing it.
+-- Request 2.12: what the wear is, said without computing it.
 use Rattle.std.specs.Prelude.{◌≡◌, List, ℕ, ◌≤◌, ◌<◌}
 use Rattle.model.specs.Yard.{Yard, size}
 use Rattle.model.specs.Push.{Move}
 use Rattle.model.specs.Wear.{wear_at, Wear}
 
--- r is the wear over the first s stretches. Its stretch and its edge have `crossings` crossings,
--- and no stretch has more of one edge. No earlier stretch has as many of any edge, and no lower
--- edge has as many in this stretch.
+-- of the first s stretches none has more crossings of one edge; this one has as many, of this edge; no stretch before it has as many of any; and in it no lower edge has
 pub record Worst (y : Yard) (w : ℕ) (ms : List Move) (s : ℕ) (r : Wear) : Type 0 where
   pub first_lt : r.first < s
   pub edge_lt : r.edge < size y

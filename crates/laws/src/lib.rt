@@ -1,5 +1,4 @@
-// Laws and theorems about the definitions of model. There is no code: the constant stands here
-// because a crate must have an item.
+// Laws and theorems about the definitions of model: no code. Any number: a crate has at least one item.
 #![tactic(auto)]
 
 pub const LAWS: usize = 0;

@@ -1,4 +1,3 @@
--- Laws for loops over lists, of what a search finds, and of moves in a list.
+-- Laws for loops over lists, and of what a search finds.
 pub mod Copied
-pub mod Recorded
 pub mod Root

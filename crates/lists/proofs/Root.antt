@@ -8,21 +8,19 @@ use lib.Dec.{leb, eqb, leb-zero}
 use borrow.Author.Tests.{eq-eqb, ne_eqb}
 use Rattle.model.specs.Yard.{Yard, size, root}
 use Rattle.model.specs.Judge.{Tree}
-use Rattle.laws.proofs.Base.Search.{found}
-use Rattle.laws.specs.Tree.{RootedTree}
-use Rattle.laws.proofs.Tree.Judge.{rooted_tree}
-use Rattle.lists.specs.Find.{firstRoot}
+use Rattle.laws.proofs.Found.{found}
+use Rattle.laws.proofs.Trees.{Wood}
+use Rattle.laws.proofs.Judged.{wood}
+use Rattle.lists.specs.Find.{firstOwn}
 
-pub root_found : (y : Yard) → Tree y → (r : ℕ) → r ≡ firstRoot y.parents 0 → r ≡ root y
+pub root_found : (y : Yard) → Tree y → (r : ℕ) → r ≡ firstOwn y.parents 0 → r ≡ root y
 root_found y t r e = e ∙ sym (found (size y) (size y) (root y) (λ v. (leb 0 v) && (eqb (get_or y.parents v 0) v)) w.root_lt early own)
   where
-    w : RootedTree y.parents (root y)
-    w = rooted_tree y t
+    w : Wood y.parents (root y)
+    w = wood y t
 
     early : (v : ℕ) → v < root y → ((leb 0 v) && (eqb (get_or y.parents v 0) v)) ≡ false
-    early v l =
-        rw (leb-zero v)
-        (ne_eqb (get_or y.parents v 0) v (λ q. let z : v ≡ root y = w.root_only v (omega (arith, w.root_lt)) q in omega arith))
+    early v l = rw (leb-zero v) (ne_eqb (get_or y.parents v 0) v (λ q. let z : v ≡ root y = w.root_only v (omega (arith, w.root_lt)) q in omega arith))
 
     own : ((leb 0 (root y)) && (eqb (get_or y.parents (root y) 0) (root y))) ≡ true
     own = rw (leb-zero (root y)) (eq-eqb (get_or y.parents (root y) 0) (root y) w.root_parent)

@@ -1,6 +1,6 @@
 -- What the searches answer: the lowest index whose entry passes a test, or the list's length.
 use Rattle.std.specs.Prelude.{not, ◌&&◌, List, ℕ, length, get_or, leb, ltb, eqb}
-use Rattle.model.specs.Numbers.{lowest}
+use Rattle.model.specs.Yard.{lowest}
 
 -- an entry of at least `limit`
 abbrev pub firstAtLeast : List ℕ → ℕ → ℕ
@@ -11,8 +11,8 @@ abbrev pub firstOutside : List ℕ → ℕ → ℕ → ℕ
 firstOutside list low high = lowest (length list) (λ v. not ((leb low (get_or list v 0)) && (leb (get_or list v 0) high)))
 
 -- from `start` on an entry that is its index
-abbrev pub firstRoot : List ℕ → ℕ → ℕ
-firstRoot list start = lowest (length list) (λ v. (leb start v) && (eqb (get_or list v 0) v))
+abbrev pub firstOwn : List ℕ → ℕ → ℕ
+firstOwn list start = lowest (length list) (λ v. (leb start v) && (eqb (get_or list v 0) v))
 
 -- an entry below the other list's
 abbrev pub firstBelow : List ℕ → List ℕ → ℕ

@@ -1,3 +1,2 @@
--- What the searches answer, and moves in a list.
+-- What the searches answer.
 pub mod Find
-pub mod Moves

@@ -1,8 +1,8 @@
 // Finding the lowest index whose entry passes a test.
 ghost use Rattle.std.specs.Prelude.{◌≡◌, ◌-◌, max, length, get_or};
-ghost use Rattle.model.specs.Numbers.{most};
+ghost use Rattle.model.specs.Yard.{most};
 ghost use Rattle.model.specs.Given.{was};
-ghost use Rattle.lists.specs.Find.{firstAtLeast, firstOutside, firstRoot, firstBelow};
+ghost use Rattle.lists.specs.Find.{firstAtLeast, firstOutside, firstOwn, firstBelow};
 
 use crate::numbers::{above, larger};
 
@@ -19,8 +19,8 @@ fn greatest(list: &[u8]) -> u8
     most
 }
 
-// The lowest index whose entry is at least `limit`, or the list's length. Mostly there is none,
-// which the greatest entry tells: to find that, many entries can be looked at at once.
+// The lowest index whose entry is at least `limit`, or the list's length. Mostly there is none, which the greatest entry tells: to find that, many
+// entries can be looked at at once.
 pub fn first_at_least(list: &[u8], limit: usize) -> usize
     ensures { result ≡ firstAtLeast (was list) limit }
 {
@@ -58,8 +58,7 @@ fn farthest_outside(list: &[u8], low: u8, high: u8) -> u8
     most
 }
 
-// The lowest index whose entry is below `low` or above `high`, or the list's length. Mostly there
-// is none: as above.
+// The lowest index whose entry is below `low` or above `high`, or the list's length. Mostly there is none: as above.
 pub fn first_outside(list: &[u8], low: u8, high: u8) -> usize
     ensures { result ≡ firstOutside (was list) low high }
 {
@@ -87,8 +86,8 @@ fn look_outside(list: &[u8], low: u8, high: u8) -> usize
 }
 
 // The lowest index from `start` on whose entry is the index itself, or the list's length.
-pub fn first_root(list: &[u8], start: usize) -> usize
-    ensures { result ≡ firstRoot (was list) start }
+pub fn first_own(list: &[u8], start: usize) -> usize
+    ensures { result ≡ firstOwn (was list) start }
 {
     let mut i = start;
     while i < list.len() {
@@ -115,8 +114,7 @@ fn farthest_below(list: &[u8], other: &[u8]) -> u8
     most
 }
 
-// The lowest index whose entry is below the other list's, or the list's length. Mostly there is
-// none: as above.
+// The lowest index whose entry is below the other list's, or the list's length. Mostly there is none: as above.
 pub fn first_below(list: &[u8], other: &[u8]) -> usize
     requires { length other.now ≡ length list.now }
     ensures { result ≡ firstBelow (was list) (was other) }

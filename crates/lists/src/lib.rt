@@ -3,6 +3,5 @@
 
 pub mod copy;
 pub mod find;
-pub mod moves;
 pub mod numbers;
 pub mod total;

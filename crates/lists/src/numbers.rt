@@ -1,5 +1,5 @@
-// Small functions on numbers: the larger and the smaller of two, the distance, an index.
-ghost use Rattle.std.specs.Prelude.{◌≡◌, ◌<◌, ◌-◌, min, max};
+// The larger and the smaller of two numbers, and how far one is above another.
+ghost use Rattle.std.specs.Prelude.{◌≡◌, ◌-◌, min, max};
 
 pub fn larger(a: u8, b: u8) -> u8
     ensures { result ≡ max a b }
@@ -27,11 +27,4 @@ pub fn above(a: u8, b: u8) -> u8
         return 0;
     }
     a - b
-}
-
-// A byte as an index.
-pub fn index(x: u8) -> usize
-    ensures { (result ≡ x) × (result < 256) }
-{
-    x as usize
 }

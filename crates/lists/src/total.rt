@@ -1,7 +1,6 @@
 // The sum of a list.
 ghost use Rattle.std.specs.Prelude.{◌≡◌, ◌≤◌, length, get_or};
-ghost use Rattle.model.specs.Numbers.{sum};
-ghost use Rattle.model.specs.Yard.{max_size};
+ghost use Rattle.model.specs.Yard.{sum, max_size};
 ghost use Rattle.model.specs.Given.{was};
 
 // The sum of the entries of a list of at most 256.

@@ -1,6 +1,5 @@
--- Cases worked by hand: each definition, computed, gives what is written here.
+-- Cases worked by hand, against which each definition stands.
 pub mod Yards
 pub mod Worked
 pub mod WorkedChecks
 pub mod WorkedNumbers
-pub mod WorkedLong

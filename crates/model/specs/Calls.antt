@@ -1,5 +1,4 @@
--- Each call of document 01 and of the requests: its answer as a function of its arguments, and what
--- each lent list holds afterwards. A file a family of calls.
+-- The answer of each call of document 01 and of the requests as a function of what it is handed, and what each lent list then holds, by family of calls.
 pub mod Answers
 pub mod Demands
 pub mod Events

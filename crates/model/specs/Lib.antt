@@ -1,6 +1,4 @@
--- What a reader must believe: the definitions of document 01 and of the requests, in the order of
--- document 01.
-pub mod Numbers
+-- What a reader must believe, in the order of document 01.
 pub mod Yard
 pub mod Judge
 pub mod Push
@@ -13,6 +11,6 @@ pub mod Openings
 pub mod Calls
 pub mod Sheets
 pub mod CheckSheets
-pub mod Meaning
+pub mod Paper
 pub mod Cabinet
 pub mod Given

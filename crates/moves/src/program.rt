@@ -1,20 +1,113 @@
-// The move program with its lists: what it prints is `program` of its input.
-ghost use Rattle.std.specs.Prelude.{◌≡◌, length};
-ghost use Rattle.model.specs.Given.{was, became};
-ghost use Rattle.model.specs.Calls.Answers.{overwrite};
+// From the bytes of a yard sheet to the bytes that are printed.
+ghost use Rattle.std.specs.Prelude.{◌≡◌, ◌+◌, ◌≤◌, length};
+ghost use Rattle.model.specs.Given.{given, handed, was, became};
+ghost use Rattle.model.specs.Calls.Answers.{overwrite, answered};
 ghost use Rattle.model.specs.Sheets as Sheets;
+ghost use Rattle.model.specs.Sheets.{program_plan_bytes, printed_of};
+ghost use Rattle.sheet.specs.Written.{Written};
+ghost use Rattle.sheet.specs.Report.{report_room};
+ghost use Rattle.moves.specs.Report.{output_room, Planned, plan_report, planSheet};
 
-// Room for 32,768 moves: longer plans meet `LIST_TOO_SHORT` (8).
+use crate::report::split;
+use demand::fill::fill;
+use lists::find::first_own;
+use model::Counted;
+use planner::plan::plan;
+use reader::read::read_sheet;
+use sheet::output::{put_moves, put_refused};
+use sheet::report::put_report;
+
+// The program judges only so many bytes of its input.
+pub const JUDGED_BYTES: usize = 5_200;
+
+// Room for 32,768 moves: longer plans meet 8.
 const PLAN_BYTES: usize = 65_536;
 
-// Room for every output.
-pub const OUTPUT_BYTES: usize = move_sheet::program::BARE_BYTES + 4 * PLAN_BYTES;
+// Room for the longest report (`report_room`), and for every output, of which a move sheet is the longest: its head has 8 bytes, and in a line each of
+// the two bytes of a move takes at most 4.
+const REPORT_BYTES: usize = 27 + 18 * 256;
+
+pub const OUTPUT_BYTES: usize = 8 + 4 * PLAN_BYTES + REPORT_BYTES;
+
+// The report of a plan, the one of these four lists, from `at` on; answers the place after it. By
+// the demands at the start.
+fn put_plan_report(
+    parents: &[u8],
+    pebbles: &[u8],
+    targets: &[u8],
+    depths: &[u8],
+    plan: &[u8],
+    out: &mut [u8],
+    at: usize,
+) -> usize
+    requires { Planned (handed parents pebbles targets depths) plan.now × (at + report_room (length parents.now) ≤ length out.old) }
+    ensures written { Written (plan_report (given parents pebbles targets depths)) at (was out) result (became out) }
+    ensures upper_bound { result ≤ at + report_room (length (was parents)) }
+{
+    let n = parents.len();
+    let mut demands = [0i16; 256];
+    fill(parents, pebbles, targets, depths, &mut demands[..n]);
+    let root = first_own(parents, 0);
+    let mut ups = [0u32; 256];
+    let mut downs = [0u32; 256];
+    split(&demands[..n], &mut ups[..n], &mut downs[..n]);
+    put_report(&ups[..n], &downs[..n], root, plan.len() / 2, out, at)
+}
+
+// The move sheet of a plan, the one of these four lists: its moves, and the report.
+fn put_planned(
+    parents: &[u8],
+    pebbles: &[u8],
+    targets: &[u8],
+    depths: &[u8],
+    plan: &[u8],
+    out: &mut [u8],
+) -> usize
+    requires { Planned (handed parents pebbles targets depths) plan.now × (output_room (length plan.now) ≤ length out.old) }
+    ensures value { result ≡ length (planSheet (given parents pebbles targets depths)) }
+    ensures out_value { became out ≡ overwrite (planSheet (given parents pebbles targets depths)) (was out) }
+{
+    let behind = put_moves(plan, out);
+    put_plan_report(parents, pebbles, targets, depths, plan, out, behind)
+}
+
+// The move sheet of four lists, or what refuses them.
+fn put_plan(parents: &[u8], pebbles: &[u8], targets: &[u8], depths: &[u8], out: &mut [u8]) -> usize
+    requires { output_room program_plan_bytes ≤ length out.old }
+    ensures value { result ≡ length (printed_of (answered (given parents pebbles targets depths))) }
+    ensures out_value { became out ≡ overwrite (printed_of (answered (given parents pebbles targets depths))) (was out) }
+{
+    let mut list = [0u8; PLAN_BYTES];
+    match plan(parents, pebbles, targets, depths, &mut list) {
+        Counted::Number(count) => put_planned(
+            parents,
+            pebbles,
+            targets,
+            depths,
+            &list[..2 * count],
+            out,
+        ),
+        Counted::Refused(r) => put_refused(r, out),
+    }
+}
 
 // What is printed for an input, at the front of a list; answers how many bytes.
 pub fn program(input: &[u8], out: &mut [u8; OUTPUT_BYTES]) -> usize
     ensures value { result ≡ length (Sheets.program (was input)) }
     ensures out_value { became out ≡ overwrite (Sheets.program (was input)) (was out) }
 {
-    let mut list = [0u8; PLAN_BYTES];
-    move_sheet::program::program(input, &mut list, out)
+    let mut parents = [0u8; 256];
+    let mut pebbles = [0u8; 256];
+    let mut targets = [0u8; 256];
+    let mut depths = [0u8; 256];
+    match read_sheet(input, &mut parents, &mut pebbles, &mut targets, &mut depths) {
+        Counted::Number(n) => put_plan(
+            &parents[..n],
+            &pebbles[..n],
+            &targets[..n],
+            &depths[..n],
+            out,
+        ),
+        Counted::Refused(r) => put_refused(r, out),
+    }
 }

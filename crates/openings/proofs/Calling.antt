@@ -10,12 +10,12 @@ use borrow.Author.Tests.{lt-leb, le-leb}
 use Rattle.model.specs.Yard.{Yard, Matched}
 use Rattle.model.specs.Judge.{fault, Tree}
 use Rattle.model.specs.Openings.{openings}
-use Rattle.model.specs.Calls.Answers.{answer, newUnlessRefused, overwrite}
+use Rattle.model.specs.Calls.Answers.{answer, lent, overwrite}
 use Rattle.model.specs.Calls.Openings.{openings_fault, openings_answer, openings_list}
-use Rattle.laws.proofs.Base.Lists.{single}
-use Rattle.laws.proofs.Tree.Judge.{facts}
-use Rattle.laws.proofs.Plan.Openings.{openings_few}
-use Rattle.laws.proofs.Calls.Answers.{totals-none}
+use Rattle.laws.proofs.Basics.{single}
+use Rattle.laws.proofs.Judged.{facts}
+use Rattle.laws.proofs.Openings.{openings_few}
+use Rattle.laws.proofs.Calls.{totals_none}
 use Rattle.openings.specs.Listing.{Holds, room_fault}
 
 -- a list that is too short, and one that is not
@@ -36,11 +36,10 @@ module _ (y : Yard) (t : Tree y) (m : Matched y) {moves : List ℕ} {k : ℕ} (h
 
   fault_is : (room : ℕ) → openings_fault y room ≡ room_fault k room
   unfolding openings_fault
-  fault_is room = rw (t, (totals-none y).1 m, h.counted) (single (room_fault (length (openings y)) room))
+  fault_is room = rw (t, (totals_none y).1 m, h.counted) (single (room_fault (length (openings y)) room))
 
   pub answer_is : (list : List ℕ) → answer (room_fault k (length list)) k ≡ openings_answer y list
   answer_is list = rw (fault_is (length list), ← h.counted)
 
-  pub list_is : (list : List ℕ)
-      → newUnlessRefused (room_fault k (length list)) (overwrite (take (2 * k) moves) list) list ≡ openings_list y list
+  pub list_is : (list : List ℕ) → lent (room_fault k (length list)) (overwrite (take (2 * k) moves) list) list ≡ openings_list y list
   list_is list = rw (fault_is (length list), h.front)

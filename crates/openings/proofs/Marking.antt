@@ -1,5 +1,4 @@
--- Which opening goes over an edge: down if its node lacks a pebble, has a place and its parent
--- holds one; up if it has too many, holds one and its parent has a place.
+-- Which opening goes over an edge: down if its node lacks a pebble, has a place and its parent holds one; up if it has too many, holds one and its parent has a place.
 use mathlib.Core.Path.{◌≡◌, refl, sym, ap, ◌∙◌}
 use mathlib.Core.Logic.{◌≢◌}
 use mathlib.Core.Bool.{Bool, true, false, not, cond, ◌&&◌, and-eq-true_iff, false≢true}
@@ -15,25 +14,23 @@ use lib.Signed.{lt_z}
 use mir.Syntax.{w16}
 use mir.Val.{to_z, of_z}
 use borrow.Author.Tests.{ltb-true, lt-ltb, le-ltb, le-leb, lt-leb, eqb-true, eq-eqb, ne_eqb, not-true}
-use Rattle.model.specs.Yard.{Yard, size, parent, pebble, capacity, root, is_child, lacking, surplus, demand, Matched}
-use Rattle.model.specs.Numbers.{head_or, above0, below0}
+use Rattle.model.specs.Yard.{Yard, size, parent, pebble, capacity, root, head_or, is_child, lacking, surplus, demand, Matched}
 use Rattle.model.specs.Judge.{Tree}
 use Rattle.model.specs.Push.{push}
 use Rattle.model.specs.Openings.{opening}
-use Rattle.laws.proofs.Base.Lists.{not_so}
-use Rattle.laws.specs.Tree.{Child}
-use Rattle.laws.proofs.Tree.Inside.{is_child_law, child_is}
-use Rattle.laws.proofs.Tree.Judge.{facts, rooted_tree}
-use Rattle.laws.proofs.Demand.Subtrees.{root_even}
+use Rattle.laws.proofs.Basics.{not_so}
+use Rattle.laws.proofs.Found.{found, missed, from_next}
+use Rattle.laws.specs.Choice.{Child}
+use Rattle.laws.proofs.Trees.{is_child_law, child_is}
+use Rattle.laws.proofs.Judged.{facts, wood}
+use Rattle.laws.proofs.Demands.{root_even}
 use Rattle.laws.specs.Algorithms.{need}
-use Rattle.laws.proofs.Push.Step.{Step, crosses, ends}
-use Rattle.laws.proofs.Demand.Signed.{demand_parts, demand_range}
-use Rattle.demand.proofs.Numbers.{small_fits}
-use mir.ValLaws.{to_z-of_z}
-use Rattle.laws.proofs.Plan.Openings.{opening_step, step_opening}
-use Rattle.openings.specs.Listing.{wayOver, way_of, down_to, EdgesMarked}
-use Rattle.tree.specs.Children.{lowest_at, next_at, Unlinked, Linked, linked_to}
-use Rattle.tree.proofs.Links.{linked_none, linked_own, linked_skip, linked_more}
+use Rattle.laws.proofs.Step.{Step, crosses, ends}
+use Rattle.laws.proofs.Signed.{above0, below0, demand_parts, demand_range}
+use Rattle.serve.specs.Serving.{linked_to}
+use Rattle.serve.proofs.Numbers.{small_back}
+use Rattle.laws.proofs.Openings.{opening_step, step_opening}
+use Rattle.openings.specs.Listing.{wayOver, way_of, down_to, down_from, Next, Marked}
 
 -- two tests that pass together
 same : (a b : Bool) → (a ≡ true → b ≡ true) → (b ≡ true → a ≡ true) → a ≡ b
@@ -71,15 +68,13 @@ module _ (y : Yard) (t : Tree y) where
       (not-true s.away b.0, eqb-true v s.node b.1)
 
   -- the openings over the edge of v, by numbers
-  pub opening_down : (v : ℕ) → opening y (push (parent y v) v) ≡ true
-      → (0 < lacking y v) × (0 < pebble y (parent y v)) × (pebble y v < capacity y v)
+  pub opening_down : (v : ℕ) → opening y (push (parent y v) v) ≡ true → (0 < lacking y v) × (0 < pebble y (parent y v)) × (pebble y v < capacity y v)
   opening_down v e =
       let o = opening_step y (push (parent y v) v) e in
       let d = down_over v o.0 in
       (rw (d.0, ← d.1) at o.1, o.0.holds, o.0.room)
 
-  pub opening_up : (v : ℕ) → opening y (push v (parent y v)) ≡ true
-      → (0 < surplus y v) × (0 < pebble y v) × (pebble y (parent y v) < capacity y (parent y v))
+  pub opening_up : (v : ℕ) → opening y (push v (parent y v)) ≡ true → (0 < surplus y v) × (0 < pebble y v) × (pebble y (parent y v) < capacity y (parent y v))
   opening_up v e =
       let o = opening_step y (push v (parent y v)) e in
       let d = up_over v o.0 in
@@ -90,58 +85,31 @@ module _ (y : Yard) (t : Tree y) where
     off_root : 0 < need y true v + need y false v → v ≢ root y
     off_root n q = omega (arith, ap (lacking y) q, ap (surplus y) q, root_even y t m)
 
-    down_is : opening y (push (parent y v) v)
-        ≡ ((ltb 0 (lacking y v)) && ((ltb 0 (pebble y (parent y v))) && (ltb (pebble y v) (capacity y v))))
+    down_is : opening y (push (parent y v) v) ≡ ((ltb 0 (lacking y v)) && ((ltb 0 (pebble y (parent y v))) && (ltb (pebble y v) (capacity y v))))
     down_is = same _ _
         (λ e. let o = opening_down v e in rw (lt-ltb _ _ o.0, lt-ltb _ _ o.1, lt-ltb _ _ o.2))
         (λ e.
         let b = (and-eq-true_iff (ltb 0 (lacking y v)) _).0 e in
         let c = (and-eq-true_iff (ltb 0 (pebble y (parent y v))) (ltb (pebble y v) (capacity y v))).0 b.1 in
         let n = ltb-true _ _ b.0 in
-        step_opening y (push (parent y v) v)
-        (record {
-          tree = t;
-          away = true;
-          node = v;
-          node_lt = l;
-          off_root = off_root (omega (arith, n));
-          is = refl;
-          holds = ltb-true _ _ c.0;
-          room = ltb-true _ _ c.1;
-        }) n)
+        step_opening y (push (parent y v) v) (record { tree = t; away = true; node = v; node_lt = l; off_root = off_root (omega (arith, n)); is = refl; holds = ltb-true _ _ c.0; room = ltb-true _ _ c.1 }) n)
 
-    up_is : opening y (push v (parent y v))
-        ≡ ((ltb 0 (surplus y v)) && ((ltb 0 (pebble y v)) && (ltb (pebble y (parent y v)) (capacity y (parent y v)))))
+    up_is : opening y (push v (parent y v)) ≡ ((ltb 0 (surplus y v)) && ((ltb 0 (pebble y v)) && (ltb (pebble y (parent y v)) (capacity y (parent y v)))))
     up_is = same _ _
         (λ e. let o = opening_up v e in rw (lt-ltb _ _ o.0, lt-ltb _ _ o.1, lt-ltb _ _ o.2))
         (λ e.
         let b = (and-eq-true_iff (ltb 0 (surplus y v)) _).0 e in
         let c = (and-eq-true_iff (ltb 0 (pebble y v)) (ltb (pebble y (parent y v)) (capacity y (parent y v)))).0 b.1 in
         let n = ltb-true _ _ b.0 in
-        step_opening y (push v (parent y v))
-        (record {
-          tree = t;
-          away = false;
-          node = v;
-          node_lt = l;
-          off_root = off_root (omega (arith, n));
-          is = refl;
-          holds = ltb-true _ _ c.0;
-          room = ltb-true _ _ c.1;
-        }) n)
+        step_opening y (push v (parent y v)) (record { tree = t; away = false; node = v; node_lt = l; off_root = off_root (omega (arith, n)); is = refl; holds = ltb-true _ _ c.0; room = ltb-true _ _ c.1 }) n)
 
     way_is : wayOver (demand y v) (pebble y v) (capacity y v) (pebble y (parent y v)) (capacity y (parent y v)) ≡ way_of y v
-    way_is =
-        rw (lacks y v, spares y v, down_is, up_is)
-        (go (ltb 0 (lacking y v)) (ltb 0 (pebble y (parent y v))) (ltb (pebble y v) (capacity y v)) (ltb 0 (surplus y v))
-        (ltb 0 (pebble y v)) (ltb (pebble y (parent y v)) (capacity y (parent y v))) one_side)
+    way_is = rw (lacks y v, spares y v, down_is, up_is) (go (ltb 0 (lacking y v)) (ltb 0 (pebble y (parent y v))) (ltb (pebble y v) (capacity y v)) (ltb 0 (surplus y v)) (ltb 0 (pebble y v)) (ltb (pebble y (parent y v)) (capacity y (parent y v))) one_side)
       where
         one_side : ltb 0 (lacking y v) ≡ true → ltb 0 (surplus y v) ≡ false
         one_side e = le-ltb 0 (surplus y v) (omega (arith, ltb-true 0 (lacking y v) e))
 
-        go : (a x z b w q : Bool) → (a ≡ true → b ≡ false)
-            → ◌≡◌ {A = ℕ} (cond a (cond x (cond z 1 0) 0) (cond b (cond w (cond q 2 0) 0) 0))
-            (cond (a && (x && z)) 1 (cond (b && (w && q)) 2 0))
+        go : (a x z b w q : Bool) → (a ≡ true → b ≡ false) → ◌≡◌ {A = ℕ} (cond a (cond x (cond z 1 0) 0) (cond b (cond w (cond q 2 0) 0) 0)) (cond (a && (x && z)) 1 (cond (b && (w && q)) 2 0))
         go true x z true w q h = absurd (false≢true (sym (h refl)))
         go true true true false w q h = refl
         go true true false false w q h = refl
@@ -152,9 +120,8 @@ module _ (y : Yard) (t : Tree y) where
         go false x z false w q h = refl
 
     -- by a demand that comes back from its 16 bits
-    pub way_marked : (d : ℤ) (p : ℕ) → d ≡ demand y v → p ≡ parent y v
-        → wayOver (to_z w16 (of_z w16 d)) (pebble y v) (capacity y v) (pebble y p) (capacity y p) ≡ way_of y v
-    way_marked d p e q = rw (e, q, to_z-of_z w16 (demand y v) (small_fits (demand y v) (demand_range y t v))) way_is
+    pub way_marked : (d : ℤ) (p : ℕ) → d ≡ demand y v → p ≡ parent y v → wayOver (to_z w16 (of_z w16 d)) (pebble y v) (capacity y v) (pebble y p) (capacity y p) ≡ way_of y v
+    way_marked d p e q = rw (e, q, small_back (demand y v) (demand_range y t v)) way_is
 
   -- an entry of the marks, read back
   abbrev way : Bool → Bool → ℕ
@@ -186,60 +153,97 @@ module _ (y : Yard) (t : Tree y) where
         not_down : opening y (push v (parent y v)) ≡ true → opening y (push (parent y v) v) ≡ false
         not_down k = not_so _ (λ d. omega (arith, (opening_up v k).0, (opening_down v d).0))
 
+-- from v on and from the next number on it is the same, where no opening goes from u to v
+pub next_same : {y : Yard} {c : ℕ} (v u : ℕ) → down_to y u v ≡ false → (Next y u (v + 1) c → Next y u v c) × (Next y u v c → Next y u (v + 1) c)
+next_same {y} v u e =
+    let s = ap (head_or u) (from_next (size y) v (down_to y u) e) in
+    ((λ h. record { is = h.is ∙ s }), λ h. record { is = h.is ∙ sym s })
+
 -- none is marked yet
-pub marked_none : {y : Yard} {tree : List ℕ} → Unlinked (size y) tree → EdgesMarked (size y) y tree
-marked_none {y} f = record { way = λ v l k. absurd (omega arith); linked = linked_none (down_to y) f }
+pub marked_none : {y : Yard} {t : List ℕ} → length t ≡ 768 → ((u : ℕ) → u < size y → get_or t (256 + u) 0 ≡ u) → Marked (size y) y t
+marked_none {y} n h = record {
+  long = n;
+  way = λ v l k. absurd (omega arith);
+  first = λ u l. record { is = h u l ∙ missed (size y) u (down_from y u (size y)) (λ v m. rw (lt-leb (size y) v m)) };
+  next = λ c l k o. absurd (omega arith);
+}
 
 -- the edge of v is marked, from the highest node down
-module _ {y : Yard} (t : Tree y) (m : Matched y) (v : ℕ) {tree : List ℕ} (f : EdgesMarked (v + 1) y tree) (l : v < size y) {k : ℕ}
-    (q : k ≡ way_of y v) where
-  few : size y ≤ 256
-  few = (facts y t).few.1
+module _ {y : Yard} (tree : Tree y) (m : Matched y) (v : ℕ) {t : List ℕ} (f : Marked (v + 1) y t) (l : v < size y) {k : ℕ} (q : k ≡ way_of y v) where
+  small : v < 256
+  small = omega (arith, l, (facts y tree).few)
 
-  way_on : (w : ℕ) → w < size y → v ≤ w → get_or (set tree v k) w 0 ≡ way_of y w
+  off : (w : ℕ) → w ≢ v → get_or (set t v k) w 0 ≡ get_or t w 0
+  off w d = get_or-set_other t v w k 0 d
+
+  way_on : (w : ℕ) → w < size y → v ≤ w → get_or (set t v k) w 0 ≡ way_of y w
   way_on w h g = go (ℕ_discrete w v)
     where
-      go : Dec (w ≡ v) → get_or (set tree v k) w 0 ≡ way_of y w
-      go (yes x) = rw (x, get_or-set_same tree v k 0 (omega (arith, f.linked.long, few, l))) q
-      go (no d) = get_or-set_other tree v w k 0 d ∙ f.way w h (omega arith)
-
-  own : Linked (size y) (down_to y) (v + 1) (set tree v k)
-  own = linked_own f.linked v k (omega (arith, few, l))
+      go : Dec (w ≡ v) → get_or (set t v k) w 0 ≡ way_of y w
+      go (yes x) = rw (x, get_or-set_same t v k 0 (omega (arith, f.long, small))) q
+      go (no d) = off w d ∙ f.way w h (omega arith)
 
   -- no opening comes down to v
-  pub marked_other : k ≢ 1 → EdgesMarked v y (set tree v k)
-  marked_other d = record { way = way_on; linked = linked_skip v own none }
+  pub marked_other : k ≢ 1 → Marked v y (set t v k)
+  marked_other d = record {
+    long = length-set t v k ∙ f.long;
+    way = way_on;
+    first = λ u h. rw (off (256 + u) (omega (arith, small))) ((next_same {y = y} v u (none u)).0 (f.first u h));
+    next = λ c h g o. rw (off (512 + c) (omega (arith, small))) (f.next c h (higher c g o (ℕ_discrete c v)) o);
+  }
     where
+      shut : opening y (push (parent y v) v) ≡ false
+      shut = unmarked_down y tree m v l q d
+
       none : (u : ℕ) → down_to y u v ≡ false
       none u = not_so _ (λ e.
           let b = (and-eq-true_iff (is_child y.parents u v) (opening y (push u v))).0 e in
-          false≢true (sym (unmarked_down y t m v l q d) ∙ rw (is_child_law y.parents u v l b.0).up b.1))
+          false≢true (sym shut ∙ rw (is_child_law y.parents u v l b.0).up b.1))
+
+      higher : (c : ℕ) → v ≤ c → opening y (push (parent y c) c) ≡ true → Dec (c ≡ v) → v + 1 ≤ c
+      higher c g o (yes x) = absurd (false≢true (sym shut ∙ rw x at o))
+      higher c g o (no x) = omega arith
 
   -- one does: v is put before those of its parent that are linked already
-  marked_down_to : k ≡ 1 → EdgesMarked v y (linked_to (set tree v k) v (parent y v))
+  marked_down_to : k ≡ 1 → Marked v y (linked_to (set t v k) v (parent y v))
   marked_down_to e = record {
-    way = λ w h g. rest w (omega (arith, h, few)) (omega (arith, h, few)) ∙ way_on w h g;
-    linked =
-        linked_more v own (parent y v) l few above (rw (child_is y.parents (parent y v) v child, opens))
-        (λ u x. rw (ne_eqb (parent y v) u x));
+    long = simp length-set f.long;
+    way = λ w h g. rest w (omega (arith, h, (facts y tree).few)) (omega (arith, h, (facts y tree).few)) ∙ way_on w h g;
+    first = λ u h. first u h (ℕ_discrete (parent y v) u);
+    next = λ c h g o. next c h g o (ℕ_discrete c v);
   }
     where
       opens : opening y (push (parent y v) v) ≡ true
-      opens = marked_down y t m v l q e
+      opens = marked_down y tree m v l q e
 
       child : Child y.parents (parent y v) v
-      child = record {
-        lt = l;
-        up = refl;
-        other = λ x. (ends y (push (parent y v) v) (opening_step y (push (parent y v) v) opens).0).2 (sym x);
-      }
+      child = record { lt = l; up = refl; other = λ x. (ends y (push (parent y v) v) (opening_step y (push (parent y v) v) opens).0).2 (sym x) }
 
       above : parent y v < size y
-      above = (rooted_tree y t).parent_lt v l
+      above = (wood y tree).parent_lt v l
 
-      rest : (w : ℕ) → w ≢ lowest_at (parent y v) → w ≢ next_at v
-          → get_or (linked_to (set tree v k) v (parent y v)) w 0 ≡ get_or (set tree v k) w 0
+      long : length (set t v k) ≡ 768
+      long = length-set t v k ∙ f.long
+
+      rest : (w : ℕ) → w ≢ 256 + parent y v → w ≢ 512 + v → get_or (linked_to (set t v k) v (parent y v)) w 0 ≡ get_or (set t v k) w 0
       rest w a b = rw (get_or-set_other, get_or-set_other)
 
-  pub marked_linked : k ≡ 1 → {p : ℕ} {new : List ℕ} → p ≡ parent y v → new ≡ linked_to (set tree v k) v p → EdgesMarked v y new
+      first : (u : ℕ) → u < size y → Dec (parent y v ≡ u) → Next y u v (get_or (linked_to (set t v k) v (parent y v)) (256 + u) 0)
+      first u h (yes x) = rw (← x) (record {
+        is = get_or-set_same (set (set t v k) (512 + v) (get_or (set t v k) (256 + parent y v) 0)) (256 + parent y v) v 0 (simp length-set (omega (arith, f.long, above, (facts y tree).few)))
+            ∙ found (size y) (parent y v) v (down_from y (parent y v) v) l (λ w b. rw (lt-leb v w b)) (rw (le-leb v v (omega arith), child_is y.parents (parent y v) v child, opens));
+      })
+      first u h (no x) = rw (rest (256 + u) (omega arith) (omega (arith, h, (facts y tree).few)), off (256 + u) (omega (arith, small))) ((next_same {y = y} v u (rw (ne_eqb (parent y v) u x))).0 (f.first u h))
+
+      next : (c : ℕ) → c < size y → v ≤ c → opening y (push (parent y c) c) ≡ true → Dec (c ≡ v) → Next y (parent y c) (c + 1) (get_or (linked_to (set t v k) v (parent y v)) (512 + c) 0)
+      next c h g o (yes x) =
+          rw (
+            x,
+            get_or-set_other (set (set t v k) (512 + v) (get_or (set t v k) (256 + parent y v) 0)) (256 + parent y v) (512 + v) v 0 (omega (arith, above, (facts y tree).few)),
+            get_or-set_same (set t v k) (512 + v) (get_or (set t v k) (256 + parent y v) 0) 0 (omega (arith, long, small)),
+            off (256 + parent y v) (omega (arith, small)),
+          ) (f.first (parent y v) above)
+      next c h g o (no x) = rw (rest (512 + c) (omega (arith, above, (facts y tree).few)) (omega arith), off (512 + c) (omega (arith, small))) (f.next c h (omega arith) o)
+
+  pub marked_linked : k ≡ 1 → {p : ℕ} {new : List ℕ} → p ≡ parent y v → new ≡ linked_to (set t v k) v p → Marked v y new
   marked_linked e i n = rw (n, i) (marked_down_to e)

@@ -1,15 +1,15 @@
-// Which opening goes over each edge: one at most, as its demand has one sign. Those that go down
-// are linked by the node that they start from.
-ghost use Rattle.std.specs.Prelude.{◌≡◌};
+// Which opening goes over each edge: one at most, as its demand has one sign. Those that go down are linked by the node that they start from.
+ghost use Rattle.std.specs.Prelude.{◌≡◌, ℕ, ◌+◌, ◌≤◌, ◌<◌, length, get_or};
+ghost use Rattle.model.specs.Yard.{Matched};
+ghost use Rattle.model.specs.Judge.{Tree};
 ghost use Rattle.model.specs.Given.{given, handed};
-ghost use Rattle.openings.specs.Listing.{wayOver, MarkPre, EdgesMarked};
+ghost use Rattle.openings.specs.Listing.{wayOver, Demands, Marked};
 
-use lists::numbers::index;
-use tree::children::{TREE, link, unlinked};
+use serve::choose::{LOWEST, wide};
+use serve::tree::link;
 
-// The opening over the edge of a node, by its demand, the pebbles that it holds and its depth, and
-// those of its parent: 1 if a pebble may come down, 2 if one may go up, else 0. A pebble goes from
-// where one is held to where there is a place.
+// Over the edge of a node, by its demand, the pebbles that it holds and its depth, and those of its parent: 1 if a pebble may come down, 2 if one may go up, else 0. A pebble
+// goes from where one is held to where there is a place.
 fn way_over(demand: i16, pebbles: u8, depth: u8, above: u8, limit: u8) -> u8
     ensures { result ≡ wayOver demand pebbles depth above limit }
 {
@@ -33,28 +33,41 @@ fn way_over(demand: i16, pebbles: u8, depth: u8, above: u8, limit: u8) -> u8
     0
 }
 
-// Tables with the opening over each node's edge in their first row, and with the children linked to
-// which one goes: from the highest node down, which leaves each node's in rising order.
+// With no edge marked yet: each node as its own lowest child.
+fn unmarked(n: usize) -> [u8; 768]
+    requires { n ≤ 256 }
+    ensures { (length result ≡ 768) × ((u : ℕ) → u < n → get_or result (256 + u) 0 ≡ u) }
+{
+    let mut t = [0u8; 768];
+    let mut v = 0;
+    while v < n {
+        t[LOWEST + v] = v as u8;
+        v += 1;
+    }
+    t
+}
+
+// That of every edge, by the node below it, and the children to which one goes linked: from the highest node down, so that each node's come in rising order.
 pub fn mark_edges(
     parents: &[u8],
     pebbles: &[u8],
     targets: &[u8],
     depths: &[u8],
     demands: &[i16],
-) -> [u8; TREE]
-    requires { MarkPre (handed parents pebbles targets depths) demands.now }
-    ensures marked { EdgesMarked 0 (given parents pebbles targets depths) result }
+) -> [u8; 768]
+    requires { Tree (handed parents pebbles targets depths) × Matched (handed parents pebbles targets depths) × Demands (handed parents pebbles targets depths) demands.now }
+    ensures { Marked 0 (given parents pebbles targets depths) result }
 {
-    let mut tree = unlinked(parents.len());
+    let mut t = unmarked(parents.len());
     let mut v = parents.len();
     while v > 0 {
         v -= 1;
-        let p = index(parents[v]);
+        let p = wide(parents[v]);
         let way = way_over(demands[v], pebbles[v], depths[v], pebbles[p], depths[p]);
-        tree[v] = way;
+        t[v] = way;
         if way == 1 {
-            link(&mut tree, v, p);
+            link(&mut t, v, p);
         }
     }
-    tree
+    t
 }

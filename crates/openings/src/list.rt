@@ -1,16 +1,13 @@
-// The openings in their order: node by node in rising number, and of each node its children in
-// rising number, with its parent among them at its place.
+// The openings in their order: node by node in rising number, and of each its children in rising number, with its parent among them at its place.
 ghost use Rattle.std.specs.Prelude.{ℕ, length};
 ghost use Rattle.model.specs.Yard.{Yard};
 ghost use Rattle.model.specs.Given.{was, became};
-ghost use Rattle.openings.specs.Listing.{ChildrenPre, NodePre, ListPre};
-ghost use Rattle.openings.specs.Listing.{ListsChildren, ListsNode, ListsAll};
+ghost use Rattle.openings.specs.Listing.{AskedChildren, ListedChildren, AskedFrom, ListedFrom, AskedAll, ListedAll};
 
-use lists::moves::record_move;
-use lists::numbers::index;
-use tree::children::{LOWEST, NEXT, TREE};
+use serve::choose::{LOWEST, NEXT, wide};
+use serve::pebble::record_move;
 
-// The next child to look at, or the node itself after the last, and the number of moves listed.
+// The next child to look at, or the node itself behind the last, and the number of moves listed.
 #[derive(Drop)]
 pub struct Walk {
     pub child: usize,
@@ -19,15 +16,15 @@ pub struct Walk {
 
 // Lists the openings from a to its children, from one on, with numbers below `end`.
 fn list_children(
-    tree: &[u8; TREE],
+    t: &[u8; 768],
     list: &mut [u8],
     a: usize,
     from: usize,
     end: usize,
     count: usize,
 ) -> Walk
-    requires { (y : Yard) × (i : ℕ) × ChildrenPre y tree.now list.old a i from end count }
-    ensures { ListsChildren (was tree) (was list) (became list) a from end count result.child result.count }
+    requires { (y : Yard) × (i : ℕ) × AskedChildren y t.now list.old a i from end count }
+    ensures { (y : Yard) (i : ℕ) → AskedChildren y (was t) (was list) a i from end count → ListedChildren y (became list) a result.child end result.count }
 {
     let mut c = from;
     let mut k = count;
@@ -35,49 +32,48 @@ fn list_children(
         if c >= end {
             return Walk { child: c, count: k };
         }
-        record_move(list, k, a, c);
+        record_move(list, k, a, c, true);
         k += 1;
-        c = index(tree[NEXT + c]);
+        c = wide(t[NEXT + c]);
     }
     Walk { child: a, count: k }
 }
 
-// Lists the openings from a: to the children with lower numbers than the parent's, to the parent,
-// and to the other children.
+// Lists the openings from a: those to the children with lower numbers than the parent's, that to the parent, and those to the other children.
 fn list_from(
-    tree: &[u8; TREE],
+    t: &[u8; 768],
     parents: &[u8],
     list: &mut [u8],
     a: usize,
     n: usize,
     count: usize,
 ) -> usize
-    requires { (y : Yard) × NodePre y tree.now parents.now list.old a n count }
-    ensures { ListsNode (was tree) (was parents) (was list) (became list) a n count result }
+    requires { (y : Yard) × AskedFrom y t.now parents.now list.old a n count }
+    ensures { (y : Yard) → AskedFrom y (was t) (was parents) (was list) a n count → ListedFrom y (became list) a result }
 {
-    let first = index(tree[LOWEST + a]);
-    if tree[a] != 2 {
-        let all = list_children(tree, list, a, first, n, count);
+    let first = wide(t[LOWEST + a]);
+    if t[a] != 2 {
+        let all = list_children(t, list, a, first, n, count);
         return all.count;
     }
-    let p = index(parents[a]);
-    let lower = list_children(tree, list, a, first, p, count);
+    let p = wide(parents[a]);
+    let lower = list_children(t, list, a, first, p, count);
     let k = lower.count;
-    record_move(list, k, a, p);
-    let higher = list_children(tree, list, a, lower.child, n, k + 1);
+    record_move(list, k, p, a, false);
+    let higher = list_children(t, list, a, lower.child, n, k + 1);
     higher.count
 }
 
 // Lists them all, and answers how many they are.
-pub fn list_openings(tree: &[u8; TREE], parents: &[u8], list: &mut [u8]) -> usize
-    requires { (y : Yard) × ListPre y tree.now parents.now list.old (length parents.now) }
-    ensures list { ListsAll (was tree) (was parents) (was list) (became list) result }
+pub fn list_openings(t: &[u8; 768], parents: &[u8], list: &mut [u8]) -> usize
+    requires { (y : Yard) × AskedAll y t.now parents.now list.old (length parents.now) }
+    ensures { (y : Yard) → AskedAll y (was t) (was parents) (was list) (length (was parents)) → ListedAll y (became list) result }
 {
     let n = parents.len();
     let mut k = 0;
     let mut a = 0;
     while a < n {
-        k = list_from(tree, parents, list, a, n, k);
+        k = list_from(t, parents, list, a, n, k);
         a += 1;
     }
     k

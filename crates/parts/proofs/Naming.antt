@@ -1,5 +1,4 @@
--- Laws about naming the parts. Each entry of the list leads up its part, so a climb ends; and to
--- write a node's topmost node as its entry keeps that so.
+-- Laws about naming the parts. Each entry of the list leads up its part, so a climb ends; and to write a node's topmost node as its entry keeps that so.
 use mathlib.Core.Path.{◌≡◌, refl, sym, ap, ◌∙◌}
 use mathlib.Core.Logic.{◌≢◌, ◌⊎◌, inl, inr, ⊎_elim}
 use mathlib.Core.Bool.{Bool, true, false, cond}
@@ -19,14 +18,13 @@ use borrow.Author.Tests.{ne_eqb}
 use Rattle.model.specs.Yard.{Yard, size, parent, Matched}
 use Rattle.model.specs.Judge.{Tree}
 use Rattle.model.specs.Parts.{is_cut, topmost}
-use Rattle.model.specs.Numbers.{range}
-use Rattle.laws.proofs.Base.Ranges.{listed}
-use Rattle.laws.specs.Tree.{weight}
-use Rattle.laws.proofs.Demand.Subtrees.{weight_le}
-use Rattle.laws.proofs.Tree.Judge.{facts, rooted_tree}
-use Rattle.laws.proofs.Demand.Signed.{demand_size}
-use Rattle.laws.proofs.Parts.Topmost.{topmost_cut, topmost_uncut, topmost_top, parent_heavier, topmost_heavier}
-use Rattle.parts.specs.Naming.{onward, Cut, Lead, Leads, NamePre, ShortenPre, Named, NamesPre}
+use Rattle.model.specs.Calls.Answers.{range}
+use Rattle.laws.proofs.Ranges.{listed}
+use Rattle.laws.proofs.Demands.{weight, weight_le}
+use Rattle.laws.proofs.Judged.{facts, wood}
+use Rattle.laws.proofs.Signed.{demand_size}
+use Rattle.laws.proofs.Parts.{topmost_cut, topmost_uncut, topmost_top, parent_heavier, topmost_heavier}
+use Rattle.parts.specs.Naming.{onward, Cut, Lead, Leads, AskedName, AskedShort, Named, AskedNames}
 
 -- a demand is 0 just where its bits are
 pub bits_size : (z : ℤ) → SFits w16 z → eqb (nat_abs z) 0 ≡ eqb (of_z w16 z) 0
@@ -55,30 +53,22 @@ module _ (y : Yard) (t : Tree y) (m : Matched y) where
       go true e = record { node = l; same = refl; end = λ _. topmost_cut y t m v l e; up = λ d. absurd (d refl) }
       go false e =
           let h = parent_heavier y t m v l e in
-          record {
-            node = (rooted_tree y t).parent_lt v l;
-            same = sym (topmost_uncut y t m v l e);
-            end = λ q. absurd (omega (arith, h, ap (weight y.parents) q));
-            up = λ _. h;
-          }
+          record { node = (wood y t).parent_lt v l; same = sym (topmost_uncut y t m v l e); end = λ q. absurd (omega (arith, h, ap (weight y.parents) q)); up = λ _. h }
 
   lead_top : (v : ℕ) → v < size y → Lead y v (topmost y v)
   lead_top v l = let top = topmost_top y t m v l in record { node = top.lt; same = top.own; end = λ e. e; up = topmost_heavier y t m v l }
 
 -- what naming all asks is enough to cut the edges, and then the list leads up each part
-pub asked_cut : {y : Yard} {parents : List ℕ} {demands : List ℤ} {parts : List ℕ} → NamesPre y parents demands parts
+pub asked_cut : {y : Yard} {parents : List ℕ} {demands : List ℤ} {parts : List ℕ} → AskedNames y parents demands parts
     → (length parents ≤ 256) × (length parents ≤ length demands) × (length parts ≡ length parents)
 asked_cut {y} a = omega (arith, ap length a.parents_are, a.demands_long, a.long, (facts y a.tree).few)
 
-pub cut_leads : {y : Yard} {parents : List ℕ} {demands : List ℤ} {before list : List ℕ} → NamesPre y parents demands before
-    → Cut parents demands list (length parents) → Leads y list
+pub cut_leads : {y : Yard} {parents : List ℕ} {demands : List ℤ} {before list : List ℕ} → AskedNames y parents demands before → Cut parents demands list (length parents) → Leads y list
 cut_leads {y} a c = record {
   tree = a.tree;
   matched = a.matched;
   long = c.long ∙ ap length a.parents_are;
-  lead =
-      λ v l. rw (c.entries v (omega (arith, ap length a.parents_are)), a.demands_are v l, demand_size y v, a.parents_are)
-      (lead_on y a.tree a.matched v l);
+  lead = λ v l. rw (c.entries v (omega (arith, ap length a.parents_are)), a.demands_are v l, demand_size y v, a.parents_are) (lead_on y a.tree a.matched v l);
 }
 
 -- a climb from v has come to u by k steps
@@ -88,7 +78,7 @@ pub record Climbing (y : Yard) (v u k : ℕ) : Type 0 where
   pub few : k ≤ weight y.parents u
   pub first : k ≡ 0 → u ≡ v
 
-module _ {y : Yard} {parts : List ℕ} {v : ℕ} (a : NamePre y parts v) where
+module _ {y : Yard} {parts : List ℕ} {v : ℕ} (a : AskedName y parts v) where
   pub climb_first : Climbing y v v 0
   climb_first = record { node = a.node; same = refl; few = omega arith; first = λ _. refl }
 
@@ -97,11 +87,9 @@ module _ {y : Yard} {parts : List ℕ} {v : ℕ} (a : NamePre y parts v) where
     climb_few = omega (arith, c.node, c.few, weight_le y.parents u, a.leads.long)
 
     pub climb_next : get_or parts u 0 ≢ u → Climbing y v (get_or parts u 0) (k + 1)
-    climb_next d =
-        let h = a.leads.lead u c.node in
-        record { node = h.node; same = h.same ∙ c.same; few = omega (arith, c.few, h.up d); first = λ e. absurd (omega arith) }
+    climb_next d = let h = a.leads.lead u c.node in record { node = h.node; same = h.same ∙ c.same; few = omega (arith, c.few, h.up d); first = λ e. absurd (omega arith) }
 
-    pub climb_last : get_or parts u 0 ≡ u → ShortenPre y parts v u k
+    pub climb_last : get_or parts u 0 ≡ u → AskedShort y parts v u k
     climb_last e =
         let own = (a.leads.lead u c.node).end e in
         record { asked = a; found = sym own ∙ c.same; already = λ z. rw (sym (c.first z)) (e ∙ sym own) }
@@ -123,11 +111,9 @@ pub record Shortening (y : Yard) (before : List ℕ) (v : ℕ) (list : List ℕ)
   pub stay : (w : ℕ) → get_or before w 0 ≡ topmost y w → get_or list w 0 ≡ topmost y w
   pub met : ((k ≡ 0) × (u ≡ v)) ⊎ (get_or list v 0 ≡ topmost y v)
 
-module _ {y : Yard} {before : List ℕ} {v top steps : ℕ} (a : ShortenPre y before v top steps) where
+module _ {y : Yard} {before : List ℕ} {v top steps : ℕ} (a : AskedShort y before v top steps) where
   pub top_small : top < 256
-  top_small =
-      let q = a.asked.leads in
-      omega (arith, a.found, (topmost_top y q.tree q.matched v a.asked.node).lt, (facts y q.tree).few)
+  top_small = let q = a.asked.leads in omega (arith, a.found, (topmost_top y q.tree q.matched v a.asked.node).lt, (facts y q.tree).few)
 
   pub short_first : Shortening y before v before v 0
   short_first = record { leads = a.asked.leads; node = a.asked.node; same = refl; stay = λ w e. e; met = inl (refl, refl) }
@@ -142,9 +128,7 @@ module _ {y : Yard} {before : List ℕ} {v top steps : ℕ} (a : ShortenPre y be
         tree = s.leads.tree;
         matched = s.leads.matched;
         long = length-set list u (topmost y u) ∙ s.leads.long;
-        lead =
-            λ w l. set_entry (Lead y) list u (topmost y u) short_in (lead_top y s.leads.tree s.leads.matched u s.node) w
-            (λ _. s.leads.lead w l);
+        lead = λ w l. set_entry (Lead y) list u (topmost y u) short_in (lead_top y s.leads.tree s.leads.matched u s.node) w (λ _. s.leads.lead w l);
       };
       node = h.node;
       same = h.same ∙ s.same;
@@ -156,29 +140,22 @@ module _ {y : Yard} {before : List ℕ} {v top steps : ℕ} (a : ShortenPre y be
         named = set_entry (λ w x. x ≡ topmost y w) list u (topmost y u) short_in refl
 
     pub short_last : steps ≤ k → Named y before list v
-    short_last q = record {
-      leads = s.leads;
-      here = ⊎_elim (λ b. s.stay v (a.already (omega (arith, b.0)))) (λ e. e) s.met;
-      stay = s.stay;
-    }
+    short_last q = record { leads = s.leads; here = ⊎_elim (λ b. s.stay v (a.already (omega (arith, b.0)))) (λ e. e) s.met; stay = s.stay }
 
 -- the node that v leads to
-module _ {y : Yard} {parts : List ℕ} {v : ℕ} (a : NamePre y parts v) where
+module _ {y : Yard} {parts : List ℕ} {v : ℕ} (a : AskedName y parts v) where
   pub asked_in : v < length parts
   asked_in = omega (arith, a.node, a.leads.long)
 
-  pub asked_on : {w : ℕ} → w ≡ get_or parts v 0 → NamePre y parts w
+  pub asked_on : {w : ℕ} → w ≡ get_or parts v 0 → AskedName y parts w
   asked_on e = record { leads = a.leads; node = rw e (a.leads.lead v a.node).node }
 
 -- if that one leads to a topmost node, it is v's
-pub short_once : {y : Yard} {parts : List ℕ} {v w t : ℕ} → NamePre y parts v → w ≡ get_or parts v 0 → t ≡ get_or parts w 0
-    → get_or parts t 0 ≡ t → Named y parts (set parts v t) v
+pub short_once : {y : Yard} {parts : List ℕ} {v w t : ℕ} → AskedName y parts v → w ≡ get_or parts v 0 → t ≡ get_or parts w 0 → get_or parts t 0 ≡ t → Named y parts (set parts v t) v
 short_once {y} {parts} {v} {w} {t} a p q e =
     let b = asked_on a p in
-    let same : topmost y t ≡ topmost y v = ap (topmost y) q ∙ (a.leads.lead w b.node).same ∙ ap (topmost y) p
-    ∙ (a.leads.lead v a.node).same in
-    let s : ShortenPre y parts v t 1 =
-    record { asked = a; found = sym ((a.leads.lead t (asked_on b q).node).end e) ∙ same; already = λ z. absurd (omega arith) } in
+    let same : topmost y t ≡ topmost y v = ap (topmost y) q ∙ (a.leads.lead w b.node).same ∙ ap (topmost y) p ∙ (a.leads.lead v a.node).same in
+    let s : AskedShort y parts v t 1 = record { asked = a; found = sym ((a.leads.lead t (asked_on b q).node).end e) ∙ same; already = λ z. absurd (omega arith) } in
     short_last s (short_next s (short_first s)) (omega arith)
 
 -- the nodes below v are named

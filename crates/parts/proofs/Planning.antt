@@ -1,5 +1,4 @@
--- The loop over the parts: the moves made so far are the plans of the parts before (`parts_before`),
--- and each part is balanced in the yard that these leave.
+-- The loop over the parts: the moves made so far are the plans of the parts before (`parts_before`), and each part is balanced in the yard that these leave.
 use mathlib.Core.Path.{◌≡◌, refl, sym, ap, ◌∙◌}
 use mathlib.Core.Logic.{◌≢◌}
 use mathlib.Core.Bool.{not}
@@ -14,26 +13,24 @@ use Rattle.model.specs.Yard.{Yard, size, shortest, Matched}
 use Rattle.model.specs.Judge.{Fault, fault, Tree}
 use Rattle.model.specs.Push.{after, run}
 use Rattle.model.specs.Parts.{topmost, parts_plan}
-use Rattle.model.specs.Calls.Answers.{refused}
-use Rattle.model.specs.Numbers.{range}
+use Rattle.model.specs.Calls.Answers.{refused, range}
 use Rattle.model.specs.Calls.Parts.{parts_fault, parts_answer, parts_plan_list, parts_list}
 use Rattle.laws.specs.Parts.{Top}
-use Rattle.laws.proofs.Base.Ranges.{length_range, get_d_listed}
-use Rattle.laws.proofs.Push.Shortest.{EachLowers, each_lowers_nil, demands_fall}
-use Rattle.laws.proofs.Parts.Loop.{top_even, parts_before, parts_before_none, parts_before_all, parts_pass, parts_turn}
-use Rattle.laws.proofs.Plan.Demand3.{plan_length}
-use Rattle.laws.proofs.Parts.Call.{parts_fault_law, parts_none}
+use Rattle.laws.proofs.Ranges.{length_range, get_d_listed}
+use Rattle.laws.proofs.Shortest.{Good, good_nil, keeps}
+use Rattle.laws.proofs.PartTurns.{top_even, parts_before, parts_before_none, parts_before_all, parts_pass, parts_turn}
+use Rattle.laws.proofs.Demand3.{plan_length}
+use Rattle.laws.proofs.PartsCall.{parts_fault_law, parts_none}
 use Rattle.serve.specs.Serving.{Made}
 use Rattle.serve.proofs.Moving.{made_nil}
 use Rattle.serve.proofs.Stretches.{rest, back, made_append, room_left, describes_after}
-use Rattle.planner.specs.Balancing.{entered, BalancePre, Balanced}
+use Rattle.planner.specs.Balancing.{entered, AskedEven, Balanced}
 use Rattle.planner.proofs.Planning.{plan_short, room}
-use Rattle.parts.specs.Planning.{PartsPre, PlannedParts}
+use Rattle.parts.specs.Planning.{AskedParts, PlannedParts}
 
 -- the call's refusals
 module _ (y : Yard) (list parts : List ℕ) where
-  pub parts_refused : (f : Fault) → parts_fault y list parts ≡ some f
-      → (refused f ≡ parts_answer y list parts) × ((list ≡ parts_plan_list y list parts) × (parts ≡ parts_list y list parts))
+  pub parts_refused : (f : Fault) → parts_fault y list parts ≡ some f → (refused f ≡ parts_answer y list parts) × ((list ≡ parts_plan_list y list parts) × (parts ≡ parts_list y list parts))
   parts_refused f e = rw e (refl, (refl, refl))
 
   module _ (t : Tree y) (m : Matched y) (n : length parts ≡ size y) (l : ℕ) (e : l ≡ shortest y) where
@@ -46,10 +43,10 @@ module _ (y : Yard) (list parts : List ℕ) where
 -- the parts before i are planned
 pub record Before (y : Yard) (s : List ℤ) (before plan : List ℕ) (k i : ℕ) : Type 0 where
   pub few : i ≤ size y
-  pub good : EachLowers y (parts_before y i)
+  pub good : Good y (parts_before y i)
   pub made : Made y (parts_before y i) s before plan k
 
-module _ {y : Yard} {t : List ℕ} {s₀ : List ℤ} {before parts : List ℕ} (a : PartsPre y t s₀ before parts) where
+module _ {y : Yard} {t : List ℕ} {s₀ : List ℤ} {before parts : List ℕ} (a : AskedParts y t s₀ before parts) where
   pub parts_long : length parts ≡ size y
   parts_long = rw a.named (length_range (topmost y) 0 (size y))
 
@@ -58,11 +55,7 @@ module _ {y : Yard} {t : List ℕ} {s₀ : List ℤ} {before parts : List ℕ} (
 
   pub before_none : Before y s₀ before before 0 0
   unfolding after
-  before_none = record {
-    few = omega arith;
-    good = rw (parts_before_none y) (each_lowers_nil y);
-    made = rw (parts_before_none y) (made_nil y s₀ before a.described.kept);
-  }
+  before_none = record { few = omega arith; good = rw (parts_before_none y) (good_nil y); made = rw (parts_before_none y) (made_nil y s₀ before a.described.kept) }
 
   pub before_all : {s : List ℤ} {plan : List ℕ} {k i : ℕ} → size y ≤ i → Before y s before plan k i → PlannedParts y before plan k
   before_all {i = i} l b =
@@ -85,28 +78,15 @@ module _ {y : Yard} {t : List ℕ} {s₀ : List ℤ} {before parts : List ℕ} (
       top : Top y i
       top = record { lt = l; own = sym (name_is i l) ∙ q }
 
-      pub part_asked : BalancePre (run y (parts_before y i)) t s (rest plan k) i
+      pub part_asked : AskedEven (run y (parts_before y i)) t s (rest plan k) i
       part_asked = record {
         described = describes_after a.described b.good b.made;
         node = l;
-        even =
-            omega (
-              arith,
-              top_even y a.described.is_tree a.matched i top,
-              demands_fall y a.described.is_tree (parts_before y i) b.good i l,
-            );
+        even = omega (arith, top_even y a.described.tree a.matched i top, keeps y a.described.tree (parts_before y i) b.good i l);
         room = room_left b.good a.room b.made;
       }
 
-      pub before_next : {s' : List ℤ} {part : List ℕ} {m : ℕ}
-          → Balanced (entered parts) (run y (parts_before y i)) i s' (rest plan k) part m
-          → Before y s' before (back plan k part) (k + m) (i + 1)
+      pub before_next : {s' : List ℤ} {part : List ℕ} {m : ℕ} → Balanced (entered parts) (run y (parts_before y i)) i s' (rest plan k) part m → Before y s' before (back plan k part) (k + m) (i + 1)
       before_next v =
-          let r =
-          parts_turn y a.described.is_tree a.matched i top b.good (entered parts)
-          (λ c h. ap (λ (x : ℕ). not (eqb x c)) (name_is c h)) v.moves v.balances in
-          record {
-            few = omega arith;
-            good = rw one_more r.1;
-            made = rw (ap (parts_before y) one_more ∙ r.0) (made_append b.made v.made);
-          }
+          let r = parts_turn y a.described.tree a.matched i top b.good (entered parts) (λ c h. ap (λ (x : ℕ). not (eqb x c)) (name_is c h)) v.moves v.balances in
+          record { few = omega arith; good = rw one_more r.1; made = rw (ap (parts_before y) one_more ∙ r.0) (made_append b.made v.made) }

@@ -1,27 +1,20 @@
--- What naming the parts asks and gives: a list leads each node up its part, and in the end each
--- node to the topmost at once.
-use Rattle.std.specs.Prelude.{◌≡◌, ◌≢◌, cond, List, map, ℕ, ◌≤◌, ◌<◌, length, get_or, ℤ, pos, nat_abs, eqb}
+-- What naming the parts asks and gives: a list leads each node up its part, and in the end each node to the topmost at once.
+use Rattle.std.specs.Prelude.{◌≡◌, ◌≢◌, cond, List, ℕ, ◌≤◌, ◌<◌, length, get_or, ℤ, pos, nat_abs, eqb}
 use Rattle.model.specs.Yard.{Yard, size, demand, Matched}
 use Rattle.model.specs.Judge.{Tree}
 use Rattle.model.specs.Parts.{topmost}
-use Rattle.model.specs.Numbers.{range}
-use Rattle.laws.specs.Tree.{weight}
+use Rattle.laws.proofs.Demands.{weight}
 
 -- where a climb from v goes on: v itself where the edge above it is cut, else its parent p
 abbrev pub onward : ℕ → ℕ → ℤ → ℕ
 onward v p demand = cond (eqb (nat_abs demand) 0) v p
-
--- what cutting the edges asks: an entry in each list for each node
-abbrev pub CutPre : List ℕ → List ℤ → List ℕ → Type 0
-CutPre parents demands parts = (length parents ≤ 256) × (length parents ≤ length demands) × (length parts ≡ length parents)
 
 -- that is the entry of each node below k
 pub record Cut (parents : List ℕ) (demands : List ℤ) (parts : List ℕ) (k : ℕ) : Type 0 where
   pub long : length parts ≡ length parents
   pub entries : (v : ℕ) → v < k → get_or parts v 0 ≡ onward v (get_or parents v 0) (get_or demands v (pos 0))
 
--- v's entry may be w, a node of the same part: v itself only where v is the topmost, else a node
--- with more nodes inside
+-- v's entry may be w, a node of the same part: v itself only where v is the topmost, else a node with more nodes inside
 pub record Lead (y : Yard) (v w : ℕ) : Type 0 where
   pub node : w < size y
   pub same : topmost y w ≡ topmost y v
@@ -36,13 +29,13 @@ pub record Leads (y : Yard) (parts : List ℕ) : Type 0 where
   pub lead : (v : ℕ) → v < size y → Lead y v (get_or parts v 0)
 
 -- what naming one node asks
-pub record NamePre (y : Yard) (parts : List ℕ) (v : ℕ) : Type 0 where
+pub record AskedName (y : Yard) (parts : List ℕ) (v : ℕ) : Type 0 where
   pub leads : Leads y parts
   pub node : v < size y
 
 -- what it asks once v's topmost node is found, with the number of steps to it
-pub record ShortenPre (y : Yard) (parts : List ℕ) (v top steps : ℕ) : Type 0 where
-  pub asked : NamePre y parts v
+pub record AskedShort (y : Yard) (parts : List ℕ) (v top steps : ℕ) : Type 0 where
+  pub asked : AskedName y parts v
   pub found : top ≡ topmost y v
   pub already : steps ≡ 0 → get_or parts v 0 ≡ topmost y v
 
@@ -53,17 +46,10 @@ pub record Named (y : Yard) (before after : List ℕ) (v : ℕ) : Type 0 where
   pub stay : (w : ℕ) → get_or before w 0 ≡ topmost y w → get_or after w 0 ≡ topmost y w
 
 -- what naming all asks: the parents and demands of a tree with as many pebbles as targets
-pub record NamesPre (y : Yard) (parents : List ℕ) (demands : List ℤ) (parts : List ℕ) : Type 0 where
+pub record AskedNames (y : Yard) (parents : List ℕ) (demands : List ℤ) (parts : List ℕ) : Type 0 where
   pub tree : Tree y
   pub matched : Matched y
   pub parents_are : parents ≡ y.parents
   pub demands_are : (v : ℕ) → v < size y → get_or demands v (pos 0) ≡ demand y v
   pub demands_long : size y ≤ length demands
   pub long : length parts ≡ size y
-
--- what naming one node gives in any yard, and naming all
-abbrev pub Names : List ℕ → List ℕ → ℕ → Type 0
-Names parts parts' v = (y : Yard) → NamePre y parts v → Named y parts parts' v
-
-abbrev pub NamesAll : List ℕ → List ℤ → List ℕ → List ℕ → Type 0
-NamesAll parents demands parts parts' = (y : Yard) → NamesPre y parents demands parts → parts' ≡ map (topmost y) (range 0 (size y))

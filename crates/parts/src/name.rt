@@ -1,12 +1,13 @@
-// Naming the parts: for each node the topmost node of its part. All climbs together take a few
-// steps a node, in any order of numbers: each node that a climb passes then leads to the topmost
-// node at once.
-ghost use Rattle.std.specs.Prelude.{◌≡◌, ◌≤◌, ◌<◌, length};
-ghost use Rattle.model.specs.Yard.{Yard};
+// Naming the parts: for each node the topmost node of its part. Climbs together take at most a few steps a node, in any order of numbers: each node that a climb
+// passes then leads to the topmost node at once, and mostly there is nothing to climb.
+ghost use Rattle.std.specs.Prelude.{◌≡◌, map, ◌≤◌, ◌<◌, length};
+ghost use Rattle.model.specs.Yard.{Yard, size};
+ghost use Rattle.model.specs.Parts.{topmost};
 ghost use Rattle.model.specs.Given.{was, became};
-ghost use Rattle.parts.specs.Naming.{onward, CutPre, Cut, NamePre, ShortenPre, Named, NamesPre, Names, NamesAll};
+ghost use Rattle.model.specs.Calls.Answers.{range};
+ghost use Rattle.parts.specs.Naming.{onward, Cut, AskedName, AskedShort, Named, AskedNames};
 
-use lists::numbers::index;
+use serve::choose::wide;
 
 // A topmost node, and the number of steps to it.
 #[derive(Drop)]
@@ -28,7 +29,7 @@ fn above(v: usize, p: u8, demand: i16) -> u8
 
 // Writes that for each node.
 fn cut_edges(parents: &[u8], demands: &[i16], parts: &mut [u8])
-    requires { CutPre parents.now demands.now parts.old }
+    requires { (length parents.now ≤ 256) × (length parents.now ≤ length demands.now) × (length parts.old ≡ length parents.now) }
     ensures { Cut (was parents) (was demands) (became parts) (length (was parents)) }
 {
     let mut v = 0;
@@ -40,13 +41,13 @@ fn cut_edges(parents: &[u8], demands: &[i16], parts: &mut [u8])
 
 // The topmost node of v's part: where the list leads to from v.
 fn find_top(parts: &[u8], v: usize) -> Climb
-    requires { (y : Yard) × NamePre y parts.now v }
-    ensures { (y : Yard) → NamePre y (was parts) v → ShortenPre y (was parts) v result.top result.steps }
+    requires { (y : Yard) × AskedName y parts.now v }
+    ensures { (y : Yard) → AskedName y (was parts) v → AskedShort y (was parts) v result.top result.steps }
 {
     let mut u = v;
     let mut k = 0;
     loop {
-        let w = index(parts[u]);
+        let w = wide(parts[u]);
         if w == u {
             return Climb { top: u, steps: k };
         }
@@ -57,13 +58,13 @@ fn find_top(parts: &[u8], v: usize) -> Climb
 
 // Lets v, and the nodes on so many steps from it, lead to the topmost node at once.
 fn shorten(parts: &mut [u8], v: usize, top: usize, steps: usize)
-    requires { (y : Yard) × ShortenPre y parts.old v top steps }
-    ensures { (y : Yard) → ShortenPre y (was parts) v top steps → Named y (was parts) (became parts) v }
+    requires { (y : Yard) × AskedShort y parts.old v top steps }
+    ensures { (y : Yard) → AskedShort y (was parts) v top steps → Named y (was parts) (became parts) v }
 {
     let mut u = v;
     let mut k = 0;
     while k < steps {
-        let w = index(parts[u]);
+        let w = wide(parts[u]);
         parts[u] = top as u8;
         u = w;
         k += 1;
@@ -72,12 +73,12 @@ fn shorten(parts: &mut [u8], v: usize, top: usize, steps: usize)
 
 // Names v: at once where the node that it leads to leads to a topmost one, else by a climb.
 fn name_node(parts: &mut [u8], v: usize)
-    requires { (y : Yard) × NamePre y parts.old v }
-    ensures { Names (was parts) (became parts) v }
+    requires { (y : Yard) × AskedName y parts.old v }
+    ensures { (y : Yard) → AskedName y (was parts) v → Named y (was parts) (became parts) v }
 {
-    let above = index(parts[v]);
-    let top = index(parts[above]);
-    if index(parts[top]) == top {
+    let above = wide(parts[v]);
+    let top = wide(parts[above]);
+    if wide(parts[top]) == top {
         parts[v] = top as u8;
         return;
     }
@@ -89,8 +90,8 @@ fn name_node(parts: &mut [u8], v: usize)
 
 // Names the parts of a tree with as many pebbles as targets, by its parents and demands.
 pub fn name_parts(parents: &[u8], demands: &[i16], parts: &mut [u8])
-    requires { (y : Yard) × NamesPre y parents.now demands.now parts.old }
-    ensures parts { NamesAll (was parents) (was demands) (was parts) (became parts) }
+    requires { (y : Yard) × AskedNames y parents.now demands.now parts.old }
+    ensures { (y : Yard) → AskedNames y (was parents) (was demands) (was parts) → became parts ≡ map (topmost y) (range 0 (size y)) }
 {
     cut_edges(parents, demands, parts);
     let mut v = 0;

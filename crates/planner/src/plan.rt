@@ -2,21 +2,18 @@
 ghost use Rattle.std.specs.Prelude.{◌≡◌};
 ghost use Rattle.model.specs.Given.{given, was, became};
 ghost use Rattle.model.specs.Calls.Plans.{plan_answer, plan_list};
-ghost use Rattle.model.specs.Meaning.{answer_of_counted};
+ghost use Rattle.model.specs.Paper.{paper_counted};
 ghost use Rattle.laws.specs.Demand2.{PlannerExact};
 ghost use Rattle.laws.specs.Demand3.{Demand3};
 
 use crate::balance::balance_subtrees;
 use crate::state::start;
 use demand::signed::sizes;
-use lists::find::first_root;
+use lists::find::first_own;
 use model::{Counted, Done, Refusal};
-use serve::pebble::WAY;
-use serve::state::STATE;
-use tree::children::tables;
+use serve::tree::tables;
 
-// The plan, or the refusal. The demands tell its length before anything is written: a shorter list
-// is refused with `ListTooShort` (8), and that length as place.
+// The plan, or the refusal. Its length is worked out from the demands before anything is written: refusal 8 with it as place if the list is shorter.
 fn plan_sheet(
     parents: &[u8],
     pebbles: &[u8],
@@ -24,31 +21,29 @@ fn plan_sheet(
     depths: &[u8],
     plan: &mut [u8],
 ) -> Counted
-    ensures answer { answer_of_counted result ≡ plan_answer (given parents pebbles targets depths) (was plan) }
-    ensures list { became plan ≡ plan_list (given parents pebbles targets depths) (was plan) }
+    ensures result_value { paper_counted result ≡ plan_answer (given parents pebbles targets depths) (was plan) }
+    ensures plan_value { became plan ≡ plan_list (given parents pebbles targets depths) (was plan) }
 {
-    let mut state = [0i16; STATE];
-    let tested = start(parents, pebbles, targets, depths, &mut state);
+    let mut s = [0i16; 1280];
+    let tested = start(parents, pebbles, targets, depths, &mut s);
     if let Done::Refused(r) = tested {
         return Counted::Refused(r);
     }
     let n = parents.len();
-    let length = sizes(&state[..n]);
+    let length = sizes(&s[..n]);
     if plan.len() / 2 < length {
         return Counted::Refused(Refusal::ListTooShort(length));
     }
-    let tree = tables(parents);
-    let root = first_root(parents, 0);
-    let mut moves = [0u8; WAY];
-    let count = balance_subtrees(&tree, &mut state, plan, &mut moves, parents, root, n);
+    let t = tables(parents);
+    let root = first_own(parents, 0);
+    let mut moves = [0u8; 512];
+    let count = balance_subtrees(&t, &mut s, plan, &mut moves, parents, root, n);
     Counted::Number(count)
 }
 
-// The planner: the plan of Algorithms 1 to 4 at the front of the lent list; answers the number of
-// moves. Refusals 1, 2, 26, 27, 4, 5, 6, 7, then 8 with the moves needed as place. A refusal
-// changes no byte of the list, and a plan none after its own. On a tree with as many pebbles as
-// targets it is the one list that Algorithms 1 to 4 output (`PlannerExact`, demand 2), and no move
-// is spare (`Demand3`).
+// The planner: the plan of Algorithms 1 to 4 at the front of the lent list, the bytes behind it untouched; answers the number of moves. Refusals 1
+// to 7, then 8 with the moves needed as place; a refusal leaves the list as it was. On a tree with as many pebbles as targets it is the one list that Algorithms 1 to 4 output
+// (`PlannerExact`, demand 2), and no move is spare (`Demand3`).
 pub fn plan(
     parents: &[u8],
     pebbles: &[u8],
@@ -56,10 +51,10 @@ pub fn plan(
     depths: &[u8],
     list: &mut [u8],
 ) -> Counted
-    ensures answer { answer_of_counted result ≡ plan_answer (given parents pebbles targets depths) (was list) }
-    ensures list { became list ≡ plan_list (given parents pebbles targets depths) (was list) }
-    ensures exact { PlannerExact (given parents pebbles targets depths) (was list) (answer_of_counted result) (became list) }
-    ensures optimal { Demand3 (given parents pebbles targets depths) (was list) (answer_of_counted result) (became list) }
+    ensures result_value { paper_counted result ≡ plan_answer (given parents pebbles targets depths) (was list) }
+    ensures list_value { became list ≡ plan_list (given parents pebbles targets depths) (was list) }
+    ensures planner_exact { PlannerExact (given parents pebbles targets depths) (was list) (paper_counted result) (became list) }
+    ensures demand3 { Demand3 (given parents pebbles targets depths) (was list) (paper_counted result) (became list) }
 {
     plan_sheet(parents, pebbles, targets, depths, list)
 }

@@ -1,49 +1,45 @@
 // The state that planning starts from.
-ghost use Rattle.std.specs.Prelude.{◌≤◌, ◌≡◌, length};
+ghost use Rattle.std.specs.Prelude.{◌≤◌, ◌≡◌, length, ◌≢◌};
+ghost use Rattle.std.proofs.Math.Option.{none};
 ghost use Rattle.model.specs.Judge.{matched_fault};
 ghost use Rattle.model.specs.Given.{given, was, became};
-ghost use Rattle.model.specs.Meaning.{fault_of_done};
-ghost use Rattle.serve.specs.Serving.{state_length};
-ghost use Rattle.planner.specs.Balancing.{Placed, Started};
+ghost use Rattle.model.specs.Paper.{paper_done};
+ghost use Rattle.demand.specs.Filling.{demands_then};
+ghost use Rattle.serve.specs.Serving.{Kept};
+ghost use Rattle.planner.specs.Balancing.{Placed};
 
 use demand::matched::matched_demands;
 use model::Done;
-use serve::state::{DEPTHS, LAST_DRAWN, LAST_FILLED, PEBBLES};
+use serve::choose::{DEPTHS, LAST_DRAWN, LAST_FILLED, PEBBLES};
 
-// Writes the rows after the demands: the pebbles, twice each node itself, as none of its children
-// was served, and the depths.
-fn place(pebbles: &[u8], depths: &[u8], state: &mut [i16])
-    requires { (length pebbles.now ≤ 256) × (length depths.now ≡ length pebbles.now) × (length state.old ≡ state_length) }
-    ensures { Placed (was pebbles) (was depths) (was state) (became state) (length (was pebbles)) }
+// Writes the tables behind the demands: the pebbles, twice each node itself, as none of its children was served, and the depths.
+fn place(pebbles: &[u8], depths: &[u8], s: &mut [i16])
+    requires { (length pebbles.now ≤ 256) × (length depths.now ≡ length pebbles.now) × (length s.old ≡ 1280) }
+    ensures { Placed (was pebbles) (was depths) (was s) (became s) (length (was pebbles)) }
 {
     let mut v = 0;
     while v < pebbles.len() {
-        state[PEBBLES + v] = pebbles[v] as i16;
-        state[LAST_FILLED + v] = v as i16;
-        state[LAST_DRAWN + v] = v as i16;
-        state[DEPTHS + v] = depths[v] as i16;
+        s[PEBBLES + v] = pebbles[v] as i16;
+        s[LAST_FILLED + v] = v as i16;
+        s[LAST_DRAWN + v] = v as i16;
+        s[DEPTHS + v] = depths[v] as i16;
         v += 1;
     }
 }
 
 // Tests a yard as the planner does (refusals 1, 2, 26, 27, 4, 5, 6, then 7), and makes the state of
-// one that passes. A refused yard leaves in the state what `matched_demands` leaves there. Entries
-// of numbers that are no node are left open: nothing reads them.
-pub fn start(
-    parents: &[u8],
-    pebbles: &[u8],
-    targets: &[u8],
-    depths: &[u8],
-    state: &mut [i16],
-) -> Done
-    requires { length state.old ≡ state_length }
-    ensures answer { fault_of_done result ≡ matched_fault (given parents pebbles targets depths) }
-    ensures state { Started (given parents pebbles targets depths) (was state) (became state) }
+// one that passes. A refused yard leaves in the state what `matched_demands` leaves there. Entries of
+// numbers that are no node are left open: nothing reads them.
+pub fn start(parents: &[u8], pebbles: &[u8], targets: &[u8], depths: &[u8], s: &mut [i16]) -> Done
+    requires { length s.old ≡ 1280 }
+    ensures result_value { paper_done result ≡ matched_fault (given parents pebbles targets depths) }
+    ensures kept { matched_fault (given parents pebbles targets depths) ≡ none → Kept (given parents pebbles targets depths) (became s) }
+    ensures s_value { matched_fault (given parents pebbles targets depths) ≢ none → became s ≡ demands_then (given parents pebbles targets depths) (was s) }
 {
-    let tested = matched_demands(parents, pebbles, targets, depths, state);
+    let tested = matched_demands(parents, pebbles, targets, depths, s);
     if let Done::Refused(r) = tested {
         return Done::Refused(r);
     }
-    place(pebbles, depths, state);
+    place(pebbles, depths, s);
     Done::Accepted
 }

@@ -1,6 +1,5 @@
--- A value in bytes, found digit by digit. The bytes so far are a decimal, and one more byte makes a
--- longer decimal or none: a value's decimal has only digits and no leading zero, and each digit
--- makes the number greater.
+-- A value in bytes, found digit by digit. What the bytes so far write is a decimal, and one more byte makes it a longer one or none: a value's
+-- decimal has only digits, no zero before another, and a number that grows with each of them.
 use mathlib.Core.Path.{◌≡◌, refl, sym, ap, ◌∙◌}
 use mathlib.Core.Bool.{Bool, true, not, ◌&&◌, and-eq-true_iff}
 use mathlib.Core.List.{List, [], ◌∷◌, ◌++◌, append_assoc}
@@ -10,15 +9,15 @@ use native.Mathlib.Omega.{arith}
 use lib.ListN.{length, drop, get_or, length-append}
 use lib.Dec.{leb, ltb}
 use borrow.Author.Tests.{leb-true, ltb-true, not-false}
-use Rattle.model.specs.Numbers.{below}
+use Rattle.model.specs.Yard.{below}
 use Rattle.model.specs.Sheets.{digits, decimal, Field, field}
-use Rattle.laws.proofs.Base.Lists.{below_none}
-use Rattle.laws.proofs.Sheets.Lines.{plain, number, decimal_sound, field_decimal, field_some}
+use Rattle.laws.proofs.Basics.{below_none}
+use Rattle.laws.proofs.Lines.{plain, number, decimal_sound, field_decimal, field_some}
 use Rattle.reader.specs.Reading.{Extended}
 use Rattle.sheet.proofs.Decimals.{decimal_low, decimal_high, length_some}
 use Rattle.sheet.proofs.Writing.{drop_next}
 
--- a value's decimal has no byte above 57 (the code of 9), and no leading zero. All 256 are tried
+-- a value's decimal has no byte above 57 (the code of 9), and no zero before another byte. All 256 are tried.
 up_to9 : List ℕ → Bool
 up_to9 [] = true
 up_to9 (b ∷ bs) = (leb b 57) && (up_to9 bs)
@@ -37,11 +36,9 @@ all_tidy = refl
 
 decimal_tidy : (v : ℕ) → v < 256 → (up_to9 (decimal v) ≡ true) × (leads (decimal v) ≡ true)
 unfolding tidy
-decimal_tidy v l =
-    let all = not-false (tidy v) (below_none 256 (λ v. not (tidy v)) all_tidy v l) in
-    (and-eq-true_iff (up_to9 (decimal v)) (leads (decimal v))).0 all
+decimal_tidy v l = (and-eq-true_iff (up_to9 (decimal v)) (leads (decimal v))).0 (not-false (tidy v) (below_none 256 (λ v. not (tidy v)) all_tidy v l))
 
--- each byte of a decimal is a digit
+-- a byte within it is a digit
 plain_at : (xs : List ℕ) (b : ℕ) (w : List ℕ) → plain (xs ++ (b ∷ w)) ≡ true → 48 ≤ b
 unfolding plain
 plain_at [] b w e = leb-true 48 b ((and-eq-true_iff (leb 48 b) (plain w)).0 e).0
@@ -69,8 +66,7 @@ module _ (v : ℕ) (h : v < 256) (xs : List ℕ) (b : ℕ) (w : List ℕ) (e : d
   prefix_number : (u : ℕ) → u < 256 → xs ≡ decimal u → u * 10 + (b - 48) ≤ v
   unfolding number
   prefix_number u k q =
-      let n : number u (b ∷ w) ≡ v = ap (λ (m : ℕ). number m (b ∷ w)) (sym (decimal_sound u k).2 ∙ ap (number 0) (sym q))
-      ∙ sym (number_append 0 xs (b ∷ w)) ∙ ap (number 0) (sym e) ∙ (decimal_sound v h).2 in
+      let n : number u (b ∷ w) ≡ v = ap (λ (m : ℕ). number m (b ∷ w)) (sym (decimal_sound u k).2 ∙ ap (number 0) (sym q)) ∙ sym (number_append 0 xs (b ∷ w)) ∙ ap (number 0) (sym e) ∙ (decimal_sound v h).2 in
       omega (arith, number_grows (u * 10 + (b - 48)) w)
 
 -- one byte more
@@ -80,8 +76,7 @@ module _ (u b : ℕ) where
   extended_zero z = record {
     good = λ l. absurd (omega arith);
     bad = λ _ v w h e.
-        let q : decimal v ≡ 48 ∷ b ∷ w =
-        e ∙ ap (λ (n : ℕ). decimal n ++ (b ∷ w)) z ∙ ap (λ (l : List ℕ). l ++ (b ∷ w)) (decimal_low 0 (omega arith)) in
+        let q : decimal v ≡ 48 ∷ b ∷ w = e ∙ ap (λ (n : ℕ). decimal n ++ (b ∷ w)) z ∙ ap (λ (l : List ℕ). l ++ (b ∷ w)) (decimal_low 0 (omega arith)) in
         let t : ltb 48 48 ≡ true = ap leads (sym q) ∙ (decimal_tidy v h).1 in
         absurd (omega (arith, ltb-true 48 48 t));
   }
@@ -99,17 +94,17 @@ module _ (u b : ℕ) where
         bad = λ k v w h e. let g = prefix_number v h (decimal u) b w e u l refl in omega arith;
       }
 
--- the bytes of a field, cut in two before its end: the first part begins the decimal of its value
-cut : (stop : ℕ) (xs rest word tail : List ℕ) → stop < 48 → plain xs ≡ true → xs ++ rest ≡ word ++ (stop ∷ tail)
+-- the bytes of a field, cut in two behind bytes of which none is its end: the first are the front of its value's decimal
+behind : (stop : ℕ) (xs rest word tail : List ℕ) → stop < 48 → plain xs ≡ true → xs ++ rest ≡ word ++ (stop ∷ tail)
     → (w : List ℕ) × (word ≡ xs ++ w) × (rest ≡ w ++ (stop ∷ tail))
 unfolding plain
-cut stop [] rest word tail l p e = (word, refl, e)
-cut stop (x ∷ xs) rest [] tail l p e =
+behind stop [] rest word tail l p e = (word, refl, e)
+behind stop (x ∷ xs) rest [] tail l p e =
     let q : x ≡ stop = cc in
     absurd (omega (arith, leb-true 48 x ((and-eq-true_iff (leb 48 x) (plain xs)).0 p).0))
-cut stop (x ∷ xs) rest (y ∷ word) tail l p e =
+behind stop (x ∷ xs) rest (y ∷ word) tail l p e =
     let t : xs ++ rest ≡ word ++ (stop ∷ tail) = cc in
-    let r = cut stop xs rest word tail l ((and-eq-true_iff (leb 48 x) (plain xs)).0 p).1 t in
+    let r = behind stop xs rest word tail l ((and-eq-true_iff (leb 48 x) (plain xs)).0 p).1 t in
     (r.0, cc r.1, r.2)
 
 unread : (stop : ℕ) (bs : List ℕ) → ((f : Field) → field stop bs ≡ some f → ⊥) → none ≡ field stop bs
@@ -121,49 +116,38 @@ unread stop bs n = go (field stop bs) refl
 
 module _ (stop : ℕ) (low : stop < 48) where
   pub field_nothing : (bs : List ℕ) → bs ≡ [] → none ≡ field stop bs
-  field_nothing bs z = unread stop bs (λ f e.
-      let q = field_some stop bs e in omega (arith, simp length-append at (ap length (sym z ∙ q.0))))
+  field_nothing bs z = unread stop bs (λ f e. let q = field_some stop bs e in omega (arith, simp length-append at (ap length (sym z ∙ q.0))))
 
   -- a first byte that is no digit
   pub field_first : (bs : List ℕ) (b : ℕ) (rest : List ℕ) → bs ≡ b ∷ rest → ((48 ≤ b) × (b ≤ 57) → ⊥) → none ≡ field stop bs
-  field_first bs b rest z n = unread stop bs (λ f e.
-      let q = field_some stop bs e in go f.value q.1 f.rest (decimal f.value) refl (sym z ∙ q.0))
+  field_first bs b rest z n = unread stop bs (λ f e. let q = field_some stop bs e in go f.value q.1 f.rest (decimal f.value) refl (sym z ∙ q.0))
     where
       go : (v : ℕ) → v < 256 → (tail word : List ℕ) → decimal v ≡ word → b ∷ rest ≡ word ++ (stop ∷ tail) → ⊥
       go v h tail [] d e = omega (arith, length_some v, ap length d)
       go v h tail (x ∷ word) d e = let q : decimal v ≡ b ∷ word = cc in n (within v h [] b word q)
 
-  -- after the decimal of u: the end of the bytes, the end of the field, or another byte
+  -- behind the decimal of u: the end of the bytes, the end of the field, or another byte
   module _ (bs : List ℕ) (u : ℕ) (h : u < 256) (rest : List ℕ) (z : bs ≡ decimal u ++ rest) where
-    split : (f : Field) → field stop bs ≡ some f
-        → (w : List ℕ) × (decimal f.value ≡ decimal u ++ w) × (rest ≡ w ++ (stop ∷ f.rest))
-    split f e = cut stop (decimal u) rest (decimal f.value) f.rest low (decimal_sound u h).0
-        (sym z ∙ (field_some stop bs e).0)
+    split : (f : Field) → field stop bs ≡ some f → (w : List ℕ) × (decimal f.value ≡ decimal u ++ w) × (rest ≡ w ++ (stop ∷ f.rest))
+    split f e = behind stop (decimal u) rest (decimal f.value) f.rest low (decimal_sound u h).0 (sym z ∙ (field_some stop bs e).0)
 
     pub field_end : rest ≡ [] → none ≡ field stop bs
-    field_end n = unread stop bs (λ f e.
-        let r = split f e in omega (arith, simp length-append at (ap length (sym n ∙ r.2))))
+    field_end n = unread stop bs (λ f e. let r = split f e in omega (arith, simp length-append at (ap length (sym n ∙ r.2))))
 
     pub field_found : (tail : List ℕ) → rest ≡ stop ∷ tail → some (record { value = u; rest = tail }) ≡ field stop bs
     field_found tail q = sym (ap (field stop) (z ∙ ap (λ (l : List ℕ). decimal u ++ l) q) ∙ field_decimal stop u tail low h)
 
-    pub field_break : (b : ℕ) (tail : List ℕ) → rest ≡ b ∷ tail → (b ≡ stop → ⊥) → {r : ℕ} → Extended u b r → 256 ≤ r
-        → none ≡ field stop bs
-    field_break b tail q n x k = unread stop bs (λ f e.
-        let r = split f e in go f (field_some stop bs e).1 r.0 r.1 (sym q ∙ r.2))
+    pub field_break : (b : ℕ) (tail : List ℕ) → rest ≡ b ∷ tail → (b ≡ stop → ⊥) → {r : ℕ} → Extended u b r → 256 ≤ r → none ≡ field stop bs
+    field_break b tail q n x k = unread stop bs (λ f e. let r = split f e in go f (field_some stop bs e).1 r.0 r.1 (sym q ∙ r.2))
       where
-        go : (f : Field) → f.value < 256 → (w : List ℕ) → decimal f.value ≡ decimal u ++ w
-            → b ∷ tail ≡ w ++ (stop ∷ f.rest) → ⊥
+        go : (f : Field) → f.value < 256 → (w : List ℕ) → decimal f.value ≡ decimal u ++ w → b ∷ tail ≡ w ++ (stop ∷ f.rest) → ⊥
         go f l [] d e = let p : b ≡ stop = cc in n p
         go f l (c ∷ w) d e = let p : decimal f.value ≡ decimal u ++ (b ∷ w) = cc in x.bad k f.value w l p
 
-pub field_begins : (l : List ℕ) (i : ℕ) → i < length l → 48 ≤ get_or l i 0 → get_or l i 0 ≤ 57
-    → drop i l ≡ decimal (get_or l i 0 - 48) ++ drop (i + 1) l
+pub field_begins : (l : List ℕ) (i : ℕ) → i < length l → 48 ≤ get_or l i 0 → get_or l i 0 ≤ 57 → drop i l ≡ decimal (get_or l i 0 - 48) ++ drop (i + 1) l
 field_begins l i h low high =
     let e : 48 + (get_or l i 0 - 48) ≡ get_or l i 0 = omega arith in
     drop_next l i h ∙ sym (rw (decimal_low (get_or l i 0 - 48) (omega arith), e))
 
-pub field_goes_on : (bs l : List ℕ) (i u : ℕ) {r : ℕ} → i < length l → bs ≡ decimal u ++ drop i l → Extended u (get_or l i 0) r → r < 256
-    → bs ≡ decimal r ++ drop (i + 1) l
-field_goes_on bs l i u h z x k =
-    z ∙ rw (drop_next l i h, x.good k) (sym (append_assoc (decimal u) (get_or l i 0 ∷ []) (drop (i + 1) l)))
+pub field_goes_on : (bs l : List ℕ) (i u : ℕ) {r : ℕ} → i < length l → bs ≡ decimal u ++ drop i l → Extended u (get_or l i 0) r → r < 256 → bs ≡ decimal r ++ drop (i + 1) l
+field_goes_on bs l i u h z x k = z ∙ rw (drop_next l i h, x.good k) (sym (append_assoc (decimal u) (get_or l i 0 ∷ []) (drop (i + 1) l)))

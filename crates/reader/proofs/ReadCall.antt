@@ -1,6 +1,5 @@
--- What a sheet says, by its header and its length; and the reader's answer and the lists that it
--- leaves: for a short list, for a refused sheet, and for a yard, whose lists are copied to the
--- front.
+-- What a sheet says by its header and its length, and the reader's answer and the lists that it leaves, by what is found: a short list, a refusal,
+-- or the lists of a yard, copied to the front of the lent ones.
 use mathlib.Core.Path.{◌≡◌, sym, ap, ◌∙◌}
 use mathlib.Core.Bool.{true, false}
 use mathlib.Core.List.{List}
@@ -13,8 +12,8 @@ use Rattle.model.specs.Yard.{Yard, yard_of, max_size}
 use Rattle.model.specs.Judge.{Fault, row}
 use Rattle.model.specs.Calls.Answers.{Answer, answered, refused, overwrite}
 use Rattle.model.specs.Sheets.{header, same, read_yard, reader, read_answer, filled}
-use Rattle.laws.proofs.Sheets.Lines.{same_true}
-use Rattle.laws.proofs.Sheets.YardSheet.{reader_room}
+use Rattle.laws.proofs.Lines.{same_true}
+use Rattle.laws.proofs.Sheets.{reader_room}
 use Rattle.sheet.proofs.Writing.{drop_next, written_front}
 use Rattle.sheet.specs.Written.{Written}
 use Rattle.reader.specs.Reading.{Full, lines_say}
@@ -34,16 +33,13 @@ module _ (bs : List ℕ) where
     pub some_line : (length bs ≡ length header → ⊥) → lines_say bs ≡ read_yard bs
     unfolding read_yard
     some_line n =
-        let front = same_true (take (length header) bs) header e in
-        let h : length header < length bs = omega (arith, simp length-take at (ap length front)) in
+        let h : length header < length bs = omega (arith, simp length-take at (ap length (same_true (take (length header) bs) header e))) in
         sym (rw (e, read_yard) (rw (drop_next bs (length header) h)))
 
--- n entries that are written at the front overwrite it
 copied : (n : ℕ) (us : List ℕ) {i : ℕ} {ps ps' : List ℕ} → n ≤ length ps → Written (take n us) 0 ps i ps' → ps' ≡ overwrite (take n us) ps
 copied n us h w = (written_front w (omega (arith, w.end, length-take n us))).1
 
 module _ (bs ps cs ts ds : List ℕ) where
-  -- the answer a and the lists after the call are the reader's
   abbrev Leaves : Answer ℕ → List ℕ → List ℕ → List ℕ → List ℕ → Type 0
   Leaves a ps' cs' ts' ds' =
       (a ≡ read_answer bs ps cs ts ds)
@@ -72,9 +68,7 @@ module _ (bs ps cs ts ds : List ℕ) where
       module _ (t : 256 ≤ length ts) where
         pub short_depths : length ds < 256 → Leaves (refused (row 18 0)) ps cs ts ds
         unfolding reader
-        short_depths h =
-            let long = le-leb 256 (length ts) t in
-            refuses (rw (le-leb 256 (length ps) p, le-leb 256 (length cs) c, long, lt-leb 256 (length ds) h, reader))
+        short_depths h = refuses (rw (le-leb 256 (length ps) p, le-leb 256 (length cs) c, le-leb 256 (length ts) t, lt-leb 256 (length ds) h, reader))
 
         module _ (d : 256 ≤ length ds) where
           pub sheet_refused : {f : Fault} → read_yard bs ≡ refused f → Leaves (refused f) ps cs ts ds
@@ -82,13 +76,10 @@ module _ (bs ps cs ts ds : List ℕ) where
 
           pub sheet_read : (n : ℕ) (us vs ws xs : List ℕ) {i j k l : ℕ} {ps' cs' ts' ds' : List ℕ} → n ≤ max_size → Full us vs ws xs
               → read_yard bs ≡ answered (yard_of (take n us) (take n vs) (take n ws) (take n xs))
-              → Written (take n us) 0 ps i ps' → Written (take n vs) 0 cs j cs'
-              → Written (take n ws) 0 ts k ts' → Written (take n xs) 0 ds l ds'
+              → Written (take n us) 0 ps i ps' → Written (take n vs) 0 cs j cs' → Written (take n ws) 0 ts k ts' → Written (take n xs) 0 ds l ds'
               → Leaves (answered n) ps' cs' ts' ds'
           sheet_read n us vs ws xs m f e u v w x =
-              let r = reader_room bs ps cs ts ds p c t d ∙ e in
-              let parents = copied n us (omega arith) u in
-              let pebbles = copied n vs (omega arith) v in
-              let targets = copied n ws (omega arith) w in
-              let depths = copied n xs (omega arith) x in
-              (rw (r, length-take-le n us (omega arith)), (rw r parents, (rw r pebbles, (rw r targets, rw r depths))))
+              let r = reader_room bs ps cs ts ds p c t d ∙ e in (
+                rw (r, length-take-le n us (omega arith)),
+                (rw r (copied n us (omega arith) u), (rw r (copied n vs (omega arith) v), (rw r (copied n ws (omega arith) w), rw r (copied n xs (omega arith) x)))),
+              )

@@ -1,2 +1,2 @@
--- Definitions that the contracts of the functions of this crate cite.
+-- Definitions that the contracts of this crate's helpers cite.
 pub mod Reading

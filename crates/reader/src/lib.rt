@@ -1,4 +1,4 @@
-// Reads yard sheets: bytes into four lists.
+// Yard sheets read: bytes into four lists.
 #![tactic(auto)]
 
 pub mod line;

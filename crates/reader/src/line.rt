@@ -1,4 +1,4 @@
-// Finds values, lines and headers in bytes.
+// Values, lines and heads found in bytes.
 ghost use Rattle.std.specs.Prelude.{◌≡◌, ◌<◌, length, drop};
 ghost use Rattle.model.specs.Given.{was, became};
 ghost use Rattle.model.specs.Sheets as Sheets;
@@ -7,22 +7,21 @@ ghost use Rattle.reader.specs.Reading.{Extended, word_in, line_in};
 
 use sheet::line::stop_before;
 
-// A value, and the place after the byte that ends it.
+// A value and the place behind the byte that ends it.
 #[derive(Drop)]
 enum Word {
     Value(u8, usize),
     Wrong,
 }
 
-// The place after the line feed that ends a line.
+// The place behind the line feed that ends a line.
 #[derive(Drop)]
 pub enum Line {
-    After(usize),
+    Behind(usize),
     Wrong,
 }
 
-// The value with one digit more, or a number above 255 if no value is written so: no digit follows
-// a leading zero.
+// The value with one digit more, or one above 255 where no value is so written: a zero takes no digit behind it.
 fn extended(value: usize, b: u8) -> usize
     requires { value < 256 }
     ensures { Extended value b result }
@@ -39,7 +38,7 @@ fn extended(value: usize, b: u8) -> usize
     value * 10 + (b - b'0') as usize
 }
 
-// The value that begins at `at` and ends at the byte `stop`.
+// The value that stands at `at` and is ended by the byte `stop`.
 fn field(sheet: &[u8], at: usize, stop: u8) -> Word
     requires { stop < 48 }
     ensures { word_in (was sheet) result ≡ Sheets.field stop (drop at (was sheet)) }
@@ -70,28 +69,27 @@ fn field(sheet: &[u8], at: usize, stop: u8) -> Word
     Word::Wrong
 }
 
-// Reads the values of the line that begins at `at` into the list, as many as the list has entries.
-// For a wrong line, the contract does not say what the list then holds.
+// The values of the line that stands at `at`, as many as the list takes, into that list; of a wrong line it says no more.
 pub fn read_line(sheet: &[u8], at: usize, values: &mut [u8]) -> Line
-    ensures line { line_in (was sheet) (became values) result ≡ readLine (length (was values)) (drop at (was sheet)) }
+    ensures { line_in (was sheet) (became values) result ≡ readLine (length (was values)) (drop at (was sheet)) }
 {
     let mut next = at;
     let mut i = 0;
     while i < values.len() {
         let word = field(sheet, next, stop_before(values.len() - 1 - i));
-        let Word::Value(value, after) = word else {
+        let Word::Value(value, behind) = word else {
             return Line::Wrong;
         };
         values[i] = value;
-        next = after;
+        next = behind;
         i += 1;
     }
-    Line::After(next)
+    Line::Behind(next)
 }
 
 // Whether a list begins with `head`.
 pub fn begins(list: &[u8], head: &[u8]) -> bool
-    ensures answer { result ≡ Sheets.begins (was head) (was list) }
+    ensures { result ≡ Sheets.begins (was head) (was list) }
 {
     if list.len() < head.len() {
         return false;

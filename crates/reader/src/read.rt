@@ -1,10 +1,10 @@
-// Reads a yard sheet into four lists.
+// The reader's call: what a yard sheet says, into four lists.
 ghost use Rattle.std.specs.Prelude.{◌≡◌, ◌≤◌};
 ghost use Rattle.model.specs.Yard.{size, max_size};
 ghost use Rattle.model.specs.Given.{read_from, was, became};
 ghost use Rattle.model.specs.Calls.Answers.{mapAnswer};
 ghost use Rattle.model.specs.Sheets.{read_yard, filled};
-ghost use Rattle.model.specs.Meaning.{answer_of_counted};
+ghost use Rattle.model.specs.Paper.{paper_counted};
 ghost use Rattle.reader.specs.Reading.{Full, took, counted, lines_say};
 
 use crate::line::{Line, begins, read_line};
@@ -12,11 +12,10 @@ use model::{Counted, Refusal};
 use sheet::decimal::put_text;
 use sheet::writer::{HEADER, HEADER_BYTES};
 
-// The number of values in a node's line.
+// How many values a node's line has.
 const VALUES: usize = 5;
 
-// Reads the lines after the header into four arrays. Answers the number of nodes, or the refusal of
-// the first refused line: `NodeCount` (1), `LineShape` (16) or `NodeNumber` (17).
+// The nodes of a sheet behind the header, line by line, into four arrays: how many, or the refusal of the first line that has one.
 fn read_nodes(
     sheet: &[u8],
     parents: &mut [u8; 256],
@@ -37,7 +36,7 @@ fn read_nodes(
         }
         let mut values = [0u8; VALUES];
         let line = read_line(sheet, at, &mut values);
-        let Line::After(next) = line else {
+        let Line::Behind(next) = line else {
             return Counted::Refused(Refusal::LineShape(number));
         };
         if values[0] != v as u8 {
@@ -53,8 +52,7 @@ fn read_nodes(
     Counted::Number(v)
 }
 
-// Reads a sheet into the first entries of four arrays: `Header` (15), `NodeCount` (1) for a sheet
-// without lines, then as `read_nodes`.
+// What a sheet says, in the first entries of four arrays.
 fn read_lines(
     sheet: &[u8],
     parents: &mut [u8; 256],
@@ -75,8 +73,8 @@ fn read_lines(
     read_nodes(sheet, parents, pebbles, targets, depths)
 }
 
-// Reads a sheet: answers the number of nodes n and fills the first n entries of each list.
-// `ReaderList` (18) if a list is shorter than 256, then as `read_lines`. A refusal changes no list.
+// Reads a sheet: 18 if one of the lists is shorter than 256, then as the sheet says. It answers the number of nodes and fills as many
+// entries at the front of each list, and nothing else; a refusal leaves all lists as they were.
 pub fn read_sheet(
     sheet: &[u8],
     parents: &mut [u8],
@@ -84,11 +82,11 @@ pub fn read_sheet(
     targets: &mut [u8],
     depths: &mut [u8],
 ) -> Counted
-    ensures answer { answer_of_counted result ≡ mapAnswer size (read_from sheet parents pebbles targets depths) }
-    ensures parents { became parents ≡ filled (λ y. y.parents) (read_from sheet parents pebbles targets depths) (was parents) }
-    ensures pebbles { became pebbles ≡ filled (λ y. y.pebbles) (read_from sheet parents pebbles targets depths) (was pebbles) }
-    ensures targets { became targets ≡ filled (λ y. y.targets) (read_from sheet parents pebbles targets depths) (was targets) }
-    ensures depths { became depths ≡ filled (λ y. y.depths) (read_from sheet parents pebbles targets depths) (was depths) }
+    ensures result_value { paper_counted result ≡ mapAnswer size (read_from sheet parents pebbles targets depths) }
+    ensures parents_value { became parents ≡ filled (λ y. y.parents) (read_from sheet parents pebbles targets depths) (was parents) }
+    ensures pebbles_value { became pebbles ≡ filled (λ y. y.pebbles) (read_from sheet parents pebbles targets depths) (was pebbles) }
+    ensures targets_value { became targets ≡ filled (λ y. y.targets) (read_from sheet parents pebbles targets depths) (was targets) }
+    ensures depths_value { became depths ≡ filled (λ y. y.depths) (read_from sheet parents pebbles targets depths) (was depths) }
 {
     if parents.len() < 256 {
         return Counted::Refused(Refusal::ReaderList);

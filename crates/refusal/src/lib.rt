@@ -1,15 +1,13 @@
-// A refusal's number and place in the table of document 01 and of the requests. Other crates call
-// these two functions and match on no variant, so a new row of the table changes this file alone.
+// A refusal's number and place in the table of document 01 and of the requests. Other crates use these and match on no case, so that a new row changes this file alone.
 #![tactic(auto)]
 
 ghost use Rattle.std.specs.Prelude.{◌≡◌};
-ghost use Rattle.model.specs.Meaning.{fault_of};
+ghost use Rattle.model.specs.Paper.{paper};
 
 use model::Refusal;
 
-// The number of a refusal.
 pub fn number(r: Refusal) -> u32
-    ensures number { result ≡ (fault_of r).number }
+    ensures { result ≡ (paper r).number }
 {
     match r {
         Refusal::NodeCount(_) => 1,
@@ -20,30 +18,29 @@ pub fn number(r: Refusal) -> u32
         Refusal::Totals => 7,
         Refusal::ListTooShort(_) => 8,
         Refusal::PlanLength => 9,
-        Refusal::MoveOutside(_) => 10,
+        Refusal::NoSuchNode(_) => 10,
         Refusal::NotAdjacent(_) => 11,
         Refusal::FromEmpty(_) => 12,
         Refusal::ToFull(_) => 13,
-        Refusal::TargetUnmet(_) => 14,
+        Refusal::TargetEmpty(_) => 14,
         Refusal::Header(_) => 15,
         Refusal::LineShape(_) => 16,
         Refusal::NodeNumber(_) => 17,
         Refusal::ReaderList => 18,
         Refusal::NodeOutside => 19,
-        Refusal::CannotHappen => 20,
+        Refusal::EventImpossible => 20,
         Refusal::NoPebble => 22,
         Refusal::StaleDemands(_) => 23,
-        Refusal::WrongRegister(_) => 24,
+        Refusal::Register(_) => 24,
         Refusal::NotIdle => 25,
-        Refusal::DepthOutside(_) => 26,
+        Refusal::Depth(_) => 26,
         Refusal::AboveDepth(_) => 27,
         Refusal::Width => 28,
     }
 }
 
-// The place that a refusal names, or 0 if it names none.
 pub fn place(r: Refusal) -> usize
-    ensures place { result ≡ (fault_of r).place }
+    ensures { result ≡ (paper r).place }
 {
     match r {
         Refusal::NodeCount(p) => p,
@@ -54,22 +51,22 @@ pub fn place(r: Refusal) -> usize
         Refusal::Totals => 0,
         Refusal::ListTooShort(n) => n,
         Refusal::PlanLength => 0,
-        Refusal::MoveOutside(m) => m,
+        Refusal::NoSuchNode(m) => m,
         Refusal::NotAdjacent(m) => m,
         Refusal::FromEmpty(m) => m,
         Refusal::ToFull(m) => m,
-        Refusal::TargetUnmet(v) => v,
+        Refusal::TargetEmpty(v) => v,
         Refusal::Header(l) => l,
         Refusal::LineShape(l) => l,
         Refusal::NodeNumber(l) => l,
         Refusal::ReaderList => 0,
         Refusal::NodeOutside => 0,
-        Refusal::CannotHappen => 0,
+        Refusal::EventImpossible => 0,
         Refusal::NoPebble => 0,
         Refusal::StaleDemands(v) => v,
-        Refusal::WrongRegister(r) => r,
+        Refusal::Register(r) => r,
         Refusal::NotIdle => 0,
-        Refusal::DepthOutside(v) => v,
+        Refusal::Depth(v) => v,
         Refusal::AboveDepth(v) => v,
         Refusal::Width => 0,
     }

@@ -1,5 +1,7 @@
 -- Laws about the planner's tables and state, beside the functions' proofs.
+pub mod Links
 pub mod Numbers
+pub mod Siblings
 pub mod Looking
 pub mod Picking
 pub mod Moving

@@ -1,5 +1,5 @@
--- Looking for the child that is served, by scans of u's children in rising number: from each that
--- needs more than those before it on to the next, or on from the child that was served last.
+-- Looking for the child that is served, by scans of u's children in rising number: from each that needs more than those before it on to the next, or on from
+-- the child that was served last.
 use mathlib.Core.Path.{◌≡◌, refl, sym, ap, subst, ◌∙◌}
 use mathlib.Core.Logic.{◌≢◌}
 use mathlib.Core.Bool.{Bool, true, false, not, cond, false≢true}
@@ -13,25 +13,21 @@ use lib.IntN.{ℤ, pos, negsuc, nat_abs}
 use mir.Syntax.{w16}
 use mir.Val.{to_z, of_z}
 use borrow.Author.Tests.{lt-ltb, le-ltb, ltb-true, ltb-false, le-leb, eq-eqb, ne_eqb}
-use Rattle.model.specs.Yard.{Yard, size, parent, is_child, pebbles_in, demand}
-use Rattle.model.specs.Numbers.{one, above0, below0}
+use Rattle.model.specs.Yard.{Yard, size, one, parent, pebbles_in, demand}
 use Rattle.model.specs.Judge.{Tree}
 use Rattle.model.specs.Push.{Move, moved}
 use Rattle.model.specs.Plan.{neediest_child, choice}
-use Rattle.laws.proofs.Base.Lists.{below_none}
-use Rattle.laws.specs.Tree.{Child}
-use Rattle.laws.specs.Choice.{Neediest}
-use Rattle.laws.proofs.Tree.Inside.{child_is}
-use Rattle.laws.proofs.Tree.Judge.{facts}
-use Rattle.laws.specs.Due.{nextℤ}
-use Rattle.laws.proofs.Demand.Signed.{demand_parts, demand_range}
+use Rattle.laws.proofs.Basics.{below_none}
+use Rattle.laws.specs.Choice.{Child, Neediest}
+use Rattle.laws.proofs.Trees.{child_is}
+use Rattle.laws.proofs.Judged.{facts}
+use Rattle.laws.proofs.Signed.{nextℤ, above0, below0, demand_parts, demand_range}
 use Rattle.laws.specs.Algorithms.{need}
-use Rattle.laws.proofs.Push.Step.{Step, pebbles_in_other, pebbles_in_node}
-use Rattle.laws.proofs.Plan.Choice.{neediest_is, neediest_none, neediest_other}
-use Rattle.serve.specs.Serving.{last_at, LastServed, Describes, beyond, NextBeyond, ChoicePre}
-use Rattle.tree.specs.Children.{next_at, passes_from, LowestChild}
-use Rattle.tree.proofs.Siblings.{no_child_from, child_from, no_child_between, next_is}
+use Rattle.laws.proofs.Step.{Step, pebbles_in_other, pebbles_in_node}
+use Rattle.laws.proofs.Choice.{neediest_is, neediest_none, neediest_other}
+use Rattle.serve.specs.Serving.{is_child_from, Lowest, LastServed, last_at, Describes, Sees, beyond, NextBeyond}
 use Rattle.serve.proofs.Numbers.{small_back}
+use Rattle.serve.proofs.Siblings.{none_from, none_between, child_from, next_is}
 
 -- how far a number is from 0 on the side of a sign; for a demand, what is needed
 abbrev pub sized : Bool → ℤ → ℕ
@@ -59,10 +55,9 @@ beyond_sized false (pos d) (negsuc e) h = sym (le-ltb (suc e) 0 (omega arith))
 beyond_sized false (negsuc d) (pos e) h = sym (lt-ltb 0 (suc d) (omega arith))
 beyond_sized false (negsuc d) (negsuc e) h = sym (leb-suc-suc (suc e) d)
 
--- what holds of the children passed, and of the one at hand, holds of those passed then; after the
--- last, of all
-module _ {ps : List ℕ} {u low c : ℕ} (h : LowestChild ps u low c) {P : ℕ → Type 0} (p : (v : ℕ) → Child ps u v → v < low → P v) where
-  from_low : {v : ℕ} → Child ps u v → low ≤ v → passes_from (is_child ps u) low v ≡ true
+-- what holds of the children passed, and of the one at hand, holds of those passed then; behind the last, of all
+module _ {ps : List ℕ} {u low c : ℕ} (h : Lowest ps u low c) {P : ℕ → Type 0} (p : (v : ℕ) → Child ps u v → v < low → P v) where
+  from_low : {v : ℕ} → Child ps u v → low ≤ v → is_child_from ps u low v ≡ true
   from_low {v} k m = rw (le-leb low v m) (child_is ps u v k)
 
   passed_all : c ≡ u → (v : ℕ) → Child ps u v → P v
@@ -70,10 +65,7 @@ module _ {ps : List ℕ} {u low c : ℕ} (h : LowestChild ps u low c) {P : ℕ �
     where
       go : Dec (v < low) → P v
       go (yes m) = p v k m
-      go (no m) =
-          absurd
-          (false≢true (sym (below_none (length ps) (passes_from (is_child ps u) low) (no_child_from h q) v k.lt)
-          ∙ from_low k (omega arith)))
+      go (no m) = absurd (false≢true (sym (below_none (length ps) (is_child_from ps u low) (none_from h q) v k.lt) ∙ from_low k (omega arith)))
 
   module _ (d : c ≢ u) where
     passed_before : (v : ℕ) → Child ps u v → v < c → P v
@@ -81,7 +73,7 @@ module _ {ps : List ℕ} {u low c : ℕ} (h : LowestChild ps u low c) {P : ℕ �
       where
         go : Dec (v < low) → P v
         go (yes m) = p v k m
-        go (no m) = absurd (false≢true (sym (no_child_between h d v l) ∙ from_low k (omega arith)))
+        go (no m) = absurd (false≢true (sym (none_between h d v l) ∙ from_low k (omega arith)))
 
     passed_more : P c → (v : ℕ) → Child ps u v → v < c + 1 → P v
     passed_more x v k l = go (ℕ_discrete v c)
@@ -94,11 +86,11 @@ module _ {ps : List ℕ} {u low c : ℕ} (h : LowestChild ps u low c) {P : ℕ �
 pub record Scan (b : Bool) (y : Yard) (u low : ℕ) (most : ℤ) (c : ℕ) : Type 0 where
   pub at : ℕ
   pub at_le : low ≤ at
-  pub lowest : LowestChild y.parents u at c
+  pub lowest : Lowest y.parents u at c
   pub passed : (v : ℕ) → Child y.parents u v → v < at → low ≤ v → beyond b (demand y v) most ≡ false
 
 module _ {b : Bool} {y : Yard} {u low : ℕ} {most : ℤ} where
-  pub scan_first : {c : ℕ} → LowestChild y.parents u low c → Scan b y u low most c
+  pub scan_first : {c : ℕ} → Lowest y.parents u low c → Scan b y u low most c
   scan_first h = record { at = low; at_le = omega arith; lowest = h; passed = λ v k l m. absurd (omega arith) }
 
   pub scan_end : Scan b y u low most u → NextBeyond b y u low most u
@@ -108,7 +100,7 @@ module _ {b : Bool} {y : Yard} {u low : ℕ} {most : ℤ} where
     pub scan_child : Child y.parents u c
     scan_child = (child_from h.lowest e).0
 
-    module _ {t : List ℕ} {s : List ℤ} (w : ChoicePre y t s u) where
+    module _ {t : List ℕ} {s : List ℤ} (w : Sees y t s u) where
       reads : demand y c ≡ get_or s c (pos 0)
       reads = sym (w.demands c scan_child)
 
@@ -118,7 +110,7 @@ module _ {b : Bool} {y : Yard} {u low : ℕ} {most : ℤ} where
         found = λ _. (scan_child, omega (arith, h.at_le, (child_from h.lowest e).1), rw reads f);
       }
 
-      pub scan_next : beyond b (get_or s c (pos 0)) most ≡ false → Scan b y u low most (get_or t (next_at c) 0)
+      pub scan_next : beyond b (get_or s c (pos 0)) most ≡ false → Scan b y u low most (get_or t (512 + c) 0)
       scan_next f = record {
         at = c + 1;
         at_le = omega (arith, h.at_le, (child_from h.lowest e).1);
@@ -132,11 +124,10 @@ pub record Lead (b : Bool) (y : Yard) (u r : ℕ) : Type 0 where
   pub needs : 0 < need y b r
   pub first : (v : ℕ) → Child y.parents u v → v < r → need y b v < need y b r
 
--- from each such child on to the next: r is the last so far, or u itself before the first, and of
--- the children passed, those below number `at`, none needs more
+-- from each such child on to the next: r is the last so far, or u itself before the first, and of the children passed, those below number `at`, none needs more
 pub record Led (b : Bool) (y : Yard) (u r from : ℕ) (most : ℤ) : Type 0 where
   pub at : ℕ
-  pub lowest : LowestChild y.parents u at from
+  pub lowest : Lowest y.parents u at from
   pub side : sized (not b) most ≡ 0
   pub passed : (v : ℕ) → Child y.parents u v → v < at → need y b v ≤ sized b most
   pub none : r ≡ u → sized b most ≡ 0
@@ -147,15 +138,8 @@ abbrev pub left : ℕ → ℕ → ℕ
 left u r = cond (eqb r u) 257 (256 - r)
 
 module _ {b : Bool} {y : Yard} {u : ℕ} where
-  pub led_first : {from : ℕ} → LowestChild y.parents u 0 from → Led b y u u from (pos 0)
-  led_first h = record {
-    at = 0;
-    lowest = h;
-    side = sized_zero (not b);
-    passed = λ v k l. absurd (omega arith);
-    none = λ _. sized_zero b;
-    lead = λ d. absurd (d refl);
-  }
+  pub led_first : {from : ℕ} → Lowest y.parents u 0 from → Led b y u u from (pos 0)
+  led_first h = record { at = 0; lowest = h; side = sized_zero (not b); passed = λ v k l. absurd (omega arith); none = λ _. sized_zero b; lead = λ d. absurd (d refl) }
 
   module _ {r from c : ℕ} {most : ℤ} (h : Led b y u r from most) (n : NextBeyond b y u h.at most c) where
     lies : (v : ℕ) → beyond b (demand y v) most ≡ ltb (sized b most) (need y b v)
@@ -177,16 +161,13 @@ module _ {b : Bool} {y : Yard} {u : ℕ} where
 
         go : Dec (r ≡ u) → r ≡ neediest_child (need y b) y u
         go (yes e) = e ∙ neediest_none (need y b) y u (λ v k. omega (arith, all v k, h.none e))
-        go (no d) =
-            let f = h.lead d in
-            neediest_is (need y b) y u
-            record { needy = (f.0.child, f.0.needs); most = λ v k. omega (arith, all v k, f.2); first = f.0.first }
+        go (no d) = let f = h.lead d in neediest_is (need y b) y u record { needy = (f.0.child, f.0.needs); most = λ v k. omega (arith, all v k, f.2); first = f.0.first }
 
     module _ (d : c ≢ u) where
       record_more : sized b most < need y b c
       record_more = ltb-true (sized b most) (need y b c) (sym (lies c) ∙ (n.found d).2)
 
-      pub led_next : {from' : ℕ} → LowestChild y.parents u (c + 1) from' → Led b y u c from' (demand y c)
+      pub led_next : {from' : ℕ} → Lowest y.parents u (c + 1) from' → Led b y u c from' (demand y c)
       led_next l = record {
         at = c + 1;
         lowest = l;
@@ -194,11 +175,7 @@ module _ {b : Bool} {y : Yard} {u : ℕ} where
         passed = λ v k g. at v k g (ℕ_discrete v c);
         none = λ e. absurd (d e);
         lead = λ _. (
-          record {
-            child = (n.found d).0;
-            needs = omega (arith, record_more);
-            first = λ v k g. omega (arith, no_record v k (λ _. g), record_more);
-          },
+          record { child = (n.found d).0; needs = omega (arith, record_more); first = λ v k g. omega (arith, no_record v k (λ _. g), record_more) },
           omega arith,
           sym (need_sized y b c),
         );
@@ -225,8 +202,7 @@ next_sized false (pos (suc n)) h d = absurd (omega arith)
 next_sized false (negsuc zero) h d = omega arith
 next_sized false (negsuc (suc n)) h d = omega arith
 
--- after the child l was served: the first after it that needs more; else none needs more than l
--- does, and the choice is the first that needs as much
+-- after the child l was served: the first behind it that needs more; else none needs more than l does, and the choice is the first that needs as much
 module _ {b : Bool} {y : Yard} {u l c : ℕ} (f : LastServed b y u l) (n : NextBeyond b y u (l + 1) (demand y l) c) where
   more_than : (v : ℕ) → beyond b (demand y v) (demand y l) ≡ ltb (need y b l) (need y b v)
   more_than v = rw (← need_sized y b l, ← need_sized y b v) (beyond_sized b (demand y v) (demand y l) (need_sized y (not b) l ∙ f.side))
@@ -272,9 +248,7 @@ module _ {b : Bool} {y : Yard} {u l c : ℕ} (f : LastServed b y u l) (n : NextB
       last_round {r} m = go (ℕ_discrete r u)
         where
           less : (v : ℕ) → Child y.parents u v → (r ≢ u → v < r) → need y b v < need y b l
-          less v k h =
-              omega
-              (arith, ltb-false (sized b (nextℤ b (demand y l))) (need y b v) (sym (as_much v) ∙ m.passed v k (omega arith) h), level)
+          less v k h = omega (arith, ltb-false (sized b (nextℤ b (demand y l))) (need y b v) (sym (as_much v) ∙ m.passed v k (omega arith) h), level)
 
           go : Dec (r ≡ u) → r ≡ neediest_child (need y b) y u
           go (yes h) = absurd (omega (arith, less l f.child (λ d. absurd (d h))))
@@ -291,8 +265,7 @@ pub chosen_child : (y : Yard) (b : Bool) (u c : ℕ) → c ≡ choice (need y b)
 unfolding choice
 chosen_child y b u c q d = rw q (neediest_other (need y b) y u (λ e. d (q ∙ e))).needy.0
 
--- a move over the edge of the child that is chosen: that is the one served last then; for other
--- nodes, and for the other sign, the one served last stays
+-- a move over the edge of the child that is chosen: that is the one served last then; for other nodes, and for the other sign, the one served last stays
 module _ {y : Yard} {m : Move} (g : Step y m) (n : Neediest (need y g.away) y (parent y g.node) g.node) where
   need_other : (b : Bool) (v : ℕ) → v ≢ g.node → need (moved y m) b v ≡ need y b v
   need_other true v d = rw (pebbles_in_other y m g v d)
@@ -314,8 +287,7 @@ module _ {y : Yard} {m : Move} (g : Step y m) (n : Neediest (need y g.away) y (p
     first = λ v k l. omega (arith, need_other g.away v (λ e. absurd (omega arith)), n.first v k l, need_node.0);
   }
     where
-      at : (v : ℕ) → Child y.parents (parent y g.node) v → Dec (v ≡ g.node)
-          → need (moved y m) g.away v ≤ need (moved y m) g.away g.node + 1
+      at : (v : ℕ) → Child y.parents (parent y g.node) v → Dec (v ≡ g.node) → need (moved y m) g.away v ≤ need (moved y m) g.away g.node + 1
       at v k (yes e) = rw e (omega arith)
       at v k (no d) = omega (arith, need_other g.away v d, n.most v k, need_node.0)
 
@@ -325,8 +297,7 @@ module _ {y : Yard} {m : Move} (g : Step y m) (n : Neediest (need y g.away) y (p
     side_of false e = rw e
 
     not_here : c ≢ g.node
-    not_here e =
-        absurd (omega (arith, n.needy.1, rw e at (sym (side_of g.away (apart (sym f.child.up ∙ ap (parent y) e))) ∙ f.side)))
+    not_here e = absurd (omega (arith, n.needy.1, rw e at (sym (side_of g.away (apart (sym f.child.up ∙ ap (parent y) e))) ∙ f.side)))
 
     no_more_then : (v : ℕ) → Child y.parents u v → need (moved y m) b v ≤ need y b v
     no_more_then v k = at (ℕ_discrete v g.node)
@@ -348,15 +319,15 @@ pub tree_small : (y : Yard) (v : ℕ) → Tree y → v < size y → v < 256
 tree_small y v t l = omega (arith, (facts y t).few)
 
 pub node_small : {y : Yard} {t : List ℕ} {s : List ℤ} {v : ℕ} → Describes y t s → v < size y → v < 256
-node_small {y} {v = v} r l = tree_small y v r.is_tree l
+node_small {y} {v = v} r l = tree_small y v r.tree l
 
-pub seen_small : {y : Yard} {t : List ℕ} {s : List ℤ} {u v : ℕ} → ChoicePre y t s u → v < size y → v < 256
-seen_small {y} {v = v} r l = tree_small y v r.is_tree l
+pub seen_small : {y : Yard} {t : List ℕ} {s : List ℤ} {u v : ℕ} → Sees y t s u → v < size y → v < 256
+seen_small {y} {v = v} r l = tree_small y v r.tree l
 
 -- a demand is within −2,048 to 2,048, and so unchanged by a passage through 16 bits
-module _ {y : Yard} {t : List ℕ} {s : List ℤ} {u v : ℕ} (r : ChoicePre y t s u) (k : Child y.parents u v) where
+module _ {y : Yard} {t : List ℕ} {s : List ℤ} {u v : ℕ} (r : Sees y t s u) (k : Child y.parents u v) where
   pub in_range : nat_abs (get_or s v (pos 0)) ≤ 2_048
-  in_range = rw (r.demands v k) (demand_range y r.is_tree v)
+  in_range = rw (r.demands v k) (demand_range y r.tree v)
 
   pub demand_back : to_z w16 (of_z w16 (get_or s v (pos 0))) ≡ get_or s v (pos 0)
   demand_back = small_back (get_or s v (pos 0)) in_range
@@ -365,7 +336,7 @@ module _ {y : Yard} {t : List ℕ} {s : List ℤ} {u v : ℕ} (r : ChoicePre y t
   zero_demand = ((λ e. sym (r.demands v k) ∙ sym demand_back ∙ ap (to_z w16) e), (λ e. ap (of_z w16) (r.demands v k ∙ e)))
 
 -- the entry for the child that was served last
-module _ {y : Yard} {t : List ℕ} {s : List ℤ} {u : ℕ} (b : Bool) (r : ChoicePre y t s u) where
+module _ {y : Yard} {t : List ℕ} {s : List ℤ} {u : ℕ} (b : Bool) (r : Sees y t s u) where
   pub last_entry : (c : ℕ) × (c < 256) × (get_or s (last_at b u) (pos 0) ≡ pos c)
   last_entry = let k = r.lasts b in (k.node, small (ℕ_discrete k.node u), k.is)
     where

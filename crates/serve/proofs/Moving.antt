@@ -1,4 +1,4 @@
--- A move on the planner's state: the demand of the edge's node changes by one, and the pebble goes.
+-- A move on the planner's state: the demand of the edge's node changes by one, and the pebble goes. Its two bytes in a list.
 use mathlib.Core.Path.{◌≡◌, refl, sym, ap, ◌∙◌}
 use mathlib.Core.Logic.{◌≢◌}
 use mathlib.Core.Bool.{Bool, true, false, not}
@@ -11,34 +11,43 @@ use lib.ListN.{length, get_or, set, drop, length-set}
 use lib.Seq.{get_or-set_same, get_or-set_other}
 use borrow.Author.Tests.{eq-eqb, ne_eqb}
 use lib.IntN.{ℤ, pos}
-use Rattle.model.specs.Yard.{Yard, size, parent, pebble, demand}
-use Rattle.model.specs.Numbers.{one}
+use Rattle.model.specs.Yard.{Yard, size, one, parent, pebble, demand}
 use Rattle.model.specs.Push.{Move, moved, after, run}
 use Rattle.model.specs.Calls.Plans.{bytes}
 use Rattle.laws.specs.Choice.{Neediest}
-use Rattle.laws.proofs.Tree.Judge.{facts, rooted_tree}
+use Rattle.laws.proofs.Judged.{facts, wood}
 use Rattle.laws.specs.Algorithms.{need}
-use Rattle.laws.proofs.Push.Step.{Step, legal_step, ends, moved_pebble}
-use Rattle.laws.proofs.Push.Runs.{after_append, run_one}
-use Rattle.laws.specs.Due.{nextℤ}
-use Rattle.laws.proofs.Demand.Signed.{demand_node, demand_other}
-use Rattle.serve.specs.Serving.{state_length, pebbles_at, last_at, depth_at, Last, Kept, picked_state, shifted_state}
-use Rattle.serve.specs.Serving.{Made}
+use Rattle.laws.proofs.Step.{Step, legal_step, ends, moved_pebble}
+use Rattle.laws.proofs.Runs.{after_append, run_one}
+use Rattle.laws.proofs.Signed.{nextℤ, demand_node, demand_other}
+use Rattle.serve.specs.Serving.{Last, last_at, Kept, stepped, picked_state, Made}
 use Rattle.serve.proofs.Looking.{last_here, last_there}
 use Rattle.serve.proofs.Picking.{last_place, last_other}
 
--- the state after a legal push over the edge of the child that is chosen: the demand of its node,
--- the child served last, and the two counts
-module _ (y : Yard) (m : Move) (g : Step y m) (n : Neediest (need y g.away) y (parent y g.node) g.node) (s : List ℤ)
-    (k : Kept y s) (d : ℤ) (e : d ≡ nextℤ g.away (demand y g.node)) where
-  long : length s ≡ state_length
+-- bytes of two lists of moves
+pub bytes_append : (ms ns : List Move) → bytes (ms ++ ns) ≡ bytes ms ++ bytes ns
+unfolding bytes
+bytes_append [] ns = refl
+bytes_append (m ∷ ms) ns = ap (λ (l : List ℕ). m.from ∷ m.to ∷ l) (bytes_append ms ns)
+
+-- two bytes behind the front
+pub two_behind : (xs l : List ℕ) (a b : ℕ) → length xs + 2 ≤ length l → set (set (xs ++ drop (length xs) l) (length xs) a) (length xs + 1) b ≡ xs ++ (a ∷ b ∷ drop (length xs + 2) l)
+two_behind [] [] a b h = absurd (omega arith)
+two_behind [] (p ∷ []) a b h = absurd (omega arith)
+two_behind [] (p ∷ q ∷ l) a b h = refl
+two_behind (x ∷ xs) [] a b h = absurd (omega arith)
+two_behind (x ∷ xs) (p ∷ l) a b h = rw (suc-add (length xs) 1, suc-add (length xs) 2) (ap (λ (r : List ℕ). x ∷ r) (two_behind xs l a b (omega arith)))
+
+-- the state after a legal push over the edge of the child that is chosen: the demand of its node, the child served last, and the two counts
+module _ (y : Yard) (m : Move) (g : Step y m) (n : Neediest (need y g.away) y (parent y g.node) g.node) (s : List ℤ) (k : Kept y s) (d : ℤ) (e : d ≡ nextℤ g.away (demand y g.node)) where
+  long : length s ≡ 1280
   long = k.long
 
   small : (v : ℕ) → v < size y → v < 256
   small v l = omega (arith, (facts y g.tree).few)
 
   up_small : parent y g.node < 256
-  up_small = small (parent y g.node) ((rooted_tree y g.tree).parent_lt g.node g.node_lt)
+  up_small = small (parent y g.node) ((wood y g.tree).parent_lt g.node g.node_lt)
 
   place : (512 ≤ last_at g.away (parent y g.node)) × (last_at g.away (parent y g.node) < 1024)
   place = last_place g.away (parent y g.node) up_small
@@ -50,88 +59,67 @@ module _ (y : Yard) (m : Move) (g : Step y m) (n : Neediest (need y g.away) y (p
   after_last = set after_demand (last_at g.away (parent y g.node)) (pos g.node)
 
   abbrev less : ℤ
-  less = nextℤ true (get_or after_last (pebbles_at m.from) (pos 0))
+  less = nextℤ true (get_or after_last (256 + m.from) (pos 0))
 
   abbrev after_from : List ℤ
-  after_from = set after_last (pebbles_at m.from) less
+  after_from = set after_last (256 + m.from) less
 
   abbrev more : ℤ
-  more = nextℤ false (get_or after_from (pebbles_at m.to) (pos 0))
+  more = nextℤ false (get_or after_from (256 + m.to) (pos 0))
 
   abbrev after_move : List ℤ
-  after_move = set after_from (pebbles_at m.to) more
+  after_move = set after_from (256 + m.to) more
 
   -- what is at other places than those counts
-  no_count : (i : ℕ) → i ≢ pebbles_at m.from → i ≢ pebbles_at m.to → get_or after_move i (pos 0) ≡ get_or after_last i (pos 0)
-  no_count i p q =
-      get_or-set_other after_from (pebbles_at m.to) i more (pos 0) q ∙ get_or-set_other after_last (pebbles_at m.from) i less (pos 0) p
+  no_count : (i : ℕ) → i ≢ 256 + m.from → i ≢ 256 + m.to → get_or after_move i (pos 0) ≡ get_or after_last i (pos 0)
+  no_count i p q = get_or-set_other after_from (256 + m.to) i more (pos 0) q ∙ get_or-set_other after_last (256 + m.from) i less (pos 0) p
 
   not_last : (i : ℕ) → i < 512 → get_or after_last i (pos 0) ≡ get_or after_demand i (pos 0)
-  not_last i l =
-      get_or-set_other after_demand (last_at g.away (parent y g.node)) i (pos g.node) (pos 0) (λ q. absurd (omega (arith, place)))
+  not_last i l = get_or-set_other after_demand (last_at g.away (parent y g.node)) i (pos g.node) (pos 0) (λ q. absurd (omega (arith, place)))
 
   demand_at : (v : ℕ) → v < size y → Dec (v ≡ g.node) → get_or after_demand v (pos 0) ≡ demand (moved y m) v
-  demand_at v l (yes q) =
-      rw (q, get_or-set_same s g.node d (pos 0) (omega (arith, long, small g.node g.node_lt))) (e ∙ sym (demand_node y m g))
+  demand_at v l (yes q) = rw (q, get_or-set_same s g.node d (pos 0) (omega (arith, long, small g.node g.node_lt))) (e ∙ sym (demand_node y m g))
   demand_at v l (no q) = get_or-set_other s g.node v d (pos 0) q ∙ k.demands v l ∙ sym (demand_other y m g v q)
 
   -- the counts as they were
-  count_was : (v : ℕ) → v < size y → get_or after_last (pebbles_at v) (pos 0) ≡ pos (pebble y v)
+  count_was : (v : ℕ) → v < size y → get_or after_last (256 + v) (pos 0) ≡ pos (pebble y v)
   count_was v l =
-      not_last (pebbles_at v) (omega (arith, small v l))
-      ∙ get_or-set_other s g.node (pebbles_at v) d (pos 0) (omega (arith, small g.node g.node_lt)) ∙ k.pebbles v l
+      not_last (256 + v) (omega (arith, small v l))
+      ∙ get_or-set_other s g.node (256 + v) d (pos 0) (omega (arith, small g.node g.node_lt)) ∙ k.pebbles v l
 
   less_one : (p q : ℕ) → p ≡ q + 1 → nextℤ true (pos p) ≡ pos q
   less_one p q e = let z : p ≡ suc q = omega arith in rw z
 
-  count_at : (v : ℕ) → v < size y → Dec (v ≡ m.to) → Dec (v ≡ m.from) → get_or after_move (pebbles_at v) (pos 0) ≡ pos (pebble (moved y m) v)
+  count_at : (v : ℕ) → v < size y → Dec (v ≡ m.to) → Dec (v ≡ m.from) → get_or after_move (256 + v) (pos 0) ≡ pos (pebble (moved y m) v)
   count_at v l (yes q) _ =
-      let c : pebble (moved y m) v ≡ suc (pebble y v) =
-      omega (arith, moved_pebble y m g v, ap one (eq-eqb v m.to q), ap one (ne_eqb v m.from (λ p. (ends y m g).2 (sym p ∙ q)))) in
-      rw c
-      (ap (λ (w : ℕ). get_or after_move (pebbles_at w) (pos 0)) q
-      ∙ get_or-set_same after_from (pebbles_at m.to) more (pos 0) (simp length-set (omega (arith, long, small m.to (ends y m g).1)))
-      ∙ ap (nextℤ false)
-      (get_or-set_other after_last (pebbles_at m.from) (pebbles_at m.to) less (pos 0) (λ p. (ends y m g).2 (sym (omega arith)))
-      ∙ count_was m.to (ends y m g).1)
-      ∙ ap (λ (w : ℕ). pos (suc (pebble y w))) (sym q))
+      let c : pebble (moved y m) v ≡ suc (pebble y v) = omega (arith, moved_pebble y m g v, ap one (eq-eqb v m.to q), ap one (ne_eqb v m.from (λ p. (ends y m g).2 (sym p ∙ q)))) in
+      rw c (ap (λ (w : ℕ). get_or after_move (256 + w) (pos 0)) q ∙ get_or-set_same after_from (256 + m.to) more (pos 0) (simp length-set (omega (arith, long, small m.to (ends y m g).1)))
+      ∙ ap (nextℤ false) (get_or-set_other after_last (256 + m.from) (256 + m.to) less (pos 0) (λ p. (ends y m g).2 (sym (omega arith))) ∙ count_was m.to (ends y m g).1) ∙ ap (λ (w : ℕ). pos (suc (pebble y w))) (sym q))
   count_at v l (no q) (yes p) =
-      let c : pebble y v ≡ pebble (moved y m) v + 1 =
-      omega (arith, moved_pebble y m g v, g.holds, ap (pebble y) p, ap one (ne_eqb v m.to q), ap one (eq-eqb v m.from p)) in
-      get_or-set_other after_from (pebbles_at m.to) (pebbles_at v) more (pos 0) (omega arith)
-      ∙ ap (λ (w : ℕ). get_or after_from (pebbles_at w) (pos 0)) p
-      ∙ get_or-set_same after_last (pebbles_at m.from) less (pos 0) (simp length-set (omega (arith, long, small m.from (ends y m g).0)))
-      ∙ ap (nextℤ true) (count_was m.from (ends y m g).0 ∙ ap (λ (w : ℕ). pos (pebble y w)) (sym p))
-      ∙ less_one (pebble y v) (pebble (moved y m) v) c
+      let c : pebble y v ≡ pebble (moved y m) v + 1 = omega (arith, moved_pebble y m g v, g.holds, ap (pebble y) p, ap one (ne_eqb v m.to q), ap one (eq-eqb v m.from p)) in
+      get_or-set_other after_from (256 + m.to) (256 + v) more (pos 0) (omega arith)
+      ∙ ap (λ (w : ℕ). get_or after_from (256 + w) (pos 0)) p ∙ get_or-set_same after_last (256 + m.from) less (pos 0) (simp length-set (omega (arith, long, small m.from (ends y m g).0)))
+      ∙ ap (nextℤ true) (count_was m.from (ends y m g).0 ∙ ap (λ (w : ℕ). pos (pebble y w)) (sym p)) ∙ less_one (pebble y v) (pebble (moved y m) v) c
   count_at v l (no q) (no p) =
-      let c : pebble (moved y m) v ≡ pebble y v =
-      omega (arith, moved_pebble y m g v, ap one (ne_eqb v m.to q), ap one (ne_eqb v m.from p)) in
-      rw c (no_count (pebbles_at v) (omega arith) (omega arith) ∙ count_was v l)
+      let c : pebble (moved y m) v ≡ pebble y v = omega (arith, moved_pebble y m g v, ap one (ne_eqb v m.to q), ap one (ne_eqb v m.from p)) in
+      rw c (no_count (256 + v) (omega arith) (omega arith) ∙ count_was v l)
 
   -- the one served last, where it was chosen and elsewhere
   last_new : (b : Bool) (u : ℕ) → b ≡ g.away → u ≡ parent y g.node → Last b (moved y m) u (get_or after_last (last_at b u) (pos 0))
   last_new b u q p = rw (q, p) record {
     node = g.node;
-    is =
-        get_or-set_same after_demand (last_at g.away (parent y g.node)) (pos g.node) (pos 0)
-        (simp length-set (omega (arith, long, place)));
+    is = get_or-set_same after_demand (last_at g.away (parent y g.node)) (pos g.node) (pos 0) (simp length-set (omega (arith, long, place)));
     served = λ _. last_here g n;
   }
 
-  last_old : (b : Bool) (u : ℕ) → u < size y → last_at b u ≢ last_at g.away (parent y g.node)
-      → (u ≡ parent y g.node → b ≡ not g.away) → Last b (moved y m) u (get_or after_last (last_at b u) (pos 0))
+  last_old : (b : Bool) (u : ℕ) → u < size y → last_at b u ≢ last_at g.away (parent y g.node) → (u ≡ parent y g.node → b ≡ not g.away) → Last b (moved y m) u (get_or after_last (last_at b u) (pos 0))
   last_old b u l p q =
       let f = k.lasts b u l in
       record {
         node = f.node;
         is =
             get_or-set_other after_demand (last_at g.away (parent y g.node)) (last_at b u) (pos g.node) (pos 0) p
-            ∙ get_or-set_other s g.node (last_at b u) d (pos 0) (λ r. absurd (omega (
-              arith,
-              last_place b u (small u l),
-              small g.node g.node_lt,
-            )))
-            ∙ f.is;
+            ∙ get_or-set_other s g.node (last_at b u) d (pos 0) (λ r. absurd (omega (arith, last_place b u (small u l), small g.node g.node_lt))) ∙ f.is;
         served = λ o. last_there g n q (f.served o);
       }
 
@@ -148,30 +136,21 @@ module _ (y : Yard) (m : Move) (g : Step y m) (n : Neediest (need y g.away) y (p
   kept_move : Kept (moved y m) after_move
   kept_move = record {
     long = simp length-set long;
-    demands =
-        λ v l. no_count v (omega (arith, small v l)) (omega (arith, small v l)) ∙ not_last v (omega (arith, small v l))
-        ∙ demand_at v l (ℕ_discrete v g.node);
+    demands = λ v l. no_count v (omega (arith, small v l)) (omega (arith, small v l)) ∙ not_last v (omega (arith, small v l)) ∙ demand_at v l (ℕ_discrete v g.node);
     pebbles = λ v l. count_at v l (ℕ_discrete v m.to) (ℕ_discrete v m.from);
     lasts = λ b u l.
         let r = last_place b u (small u l) in
-        rw
-        (no_count (last_at b u) (λ q. absurd (omega (arith, r, small m.from (ends y m g).0)))
-        (λ q. absurd (omega (arith, r, small m.to (ends y m g).1))))
-        (last_at_law b u l (ℕ_discrete u (parent y g.node)));
+        rw (no_count (last_at b u) (λ q. absurd (omega (arith, r, small m.from (ends y m g).0))) (λ q. absurd (omega (arith, r, small m.to (ends y m g).1)))) (last_at_law b u l (ℕ_discrete u (parent y g.node)));
     depths = λ v l.
-        no_count (depth_at v) (omega (arith, small m.from (ends y m g).0)) (omega (arith, small m.to (ends y m g).1))
-        ∙ get_or-set_other after_demand (last_at g.away (parent y g.node)) (depth_at v) (pos g.node) (pos 0)
-        (λ q. absurd (omega (arith, place)))
-        ∙ get_or-set_other s g.node (depth_at v) d (pos 0) (omega (arith, small g.node g.node_lt)) ∙ k.depths v l;
+        no_count (1024 + v) (omega (arith, small m.from (ends y m g).0)) (omega (arith, small m.to (ends y m g).1))
+        ∙ get_or-set_other after_demand (last_at g.away (parent y g.node)) (1024 + v) (pos g.node) (pos 0) (λ q. absurd (omega (arith, place)))
+        ∙ get_or-set_other s g.node (1024 + v) d (pos 0) (omega (arith, small g.node g.node_lt)) ∙ k.depths v l;
   }
 
--- the same after other moves
-pub kept_next : (y : Yard) (ms : List Move) (m : Move) (s : List ℤ) → Kept (run y ms) s → (g : Step (run y ms) m)
-    → Neediest (need (run y ms) g.away) (run y ms) (parent y g.node) g.node
-    → Kept (run y (ms ++ (m ∷ []))) (shifted_state m.from m.to (picked_state g.away (parent y g.node) g.node s))
-kept_next y ms m s k g n =
-    rw (after_append ms (m ∷ []) y, (run_one (run y ms) m (legal_step (run y ms) m g)).0)
-    (kept_move (run y ms) m g n s k (nextℤ g.away (get_or s g.node (pos 0))) (ap (nextℤ g.away) (k.demands g.node g.node_lt)))
+-- the same behind other moves
+pub kept_next : (y : Yard) (ms : List Move) (m : Move) (s : List ℤ) → Kept (run y ms) s → (g : Step (run y ms) m) → Neediest (need (run y ms) g.away) (run y ms) (parent y g.node) g.node
+    → Kept (run y (ms ++ (m ∷ []))) (stepped false (256 + m.to) (stepped true (256 + m.from) (picked_state g.away (parent y g.node) g.node s)))
+kept_next y ms m s k g n = rw (after_append ms (m ∷ []) y, (run_one (run y ms) m (legal_step (run y ms) m g)).0) (kept_move (run y ms) m g n s k (nextℤ g.away (get_or s g.node (pos 0))) (ap (nextℤ g.away) (k.demands g.node g.node_lt)))
 
 -- no move
 pub made_nil : (y : Yard) (s : List ℤ) (plan : List ℕ) → Kept y s → Made y [] s plan plan 0

@@ -1,5 +1,4 @@
--- Demands in 16 bits: numbers from −2,048 to 2,048 and one more or less fit, and a passage through
--- the bits gives them back.
+-- Demands in 16 bits: numbers from −2,048 to 2,048 and one more or less fit, and a passage through the bits gives them back.
 use mathlib.Core.Path.{◌≡◌, ap, ◌∙◌}
 use mathlib.Core.Bool.{Bool, true, false}
 use Prim.Native.Nat.{zero, suc, ◌≤◌}
@@ -8,7 +7,7 @@ use lib.IntN.{ℤ, pos, negsuc, nat_abs, ◌+ℤ◌, ◌-ℤ◌, +ℤ_one, -ℤ_
 use mir.Syntax.{w16}
 use mir.Val.{SFits, to_z, of_z}
 use mir.ValLaws.{to_z-of_z}
-use Rattle.laws.specs.Due.{nextℤ}
+use Rattle.laws.proofs.Signed.{nextℤ}
 use Rattle.demand.proofs.Numbers.{small_fits}
 
 pub small_back : (k : ℤ) → nat_abs k ≤ 2_048 → to_z w16 (of_z w16 k) ≡ k

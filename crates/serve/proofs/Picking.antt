@@ -1,5 +1,4 @@
--- Entries of the state that are stepped and set, in any order where they are different ones; and
--- moves on the state.
+-- Entries of the state that are stepped and set, in any order where they are different ones; and moves on the state.
 use mathlib.Core.Path.{◌≡◌, refl, sym, ap, ◌∙◌}
 use mathlib.Core.Logic.{◌≢◌}
 use mathlib.Core.Bool.{Bool, true, false, not, cond}
@@ -13,8 +12,8 @@ use lib.IntN.{ℤ, pos, negsuc, nat_abs}
 use Rattle.model.specs.Yard.{up}
 use Rattle.model.specs.Push.{Move}
 use Rattle.laws.specs.Algorithms.{crossing}
-use Rattle.laws.specs.Due.{nextℤ}
-use Rattle.serve.specs.Serving.{pebbles_at, last_at, stepped, picked_state, moved_state, moved_all, shifted_state}
+use Rattle.laws.proofs.Signed.{nextℤ}
+use Rattle.serve.specs.Serving.{last_at, stepped, picked_state, moved_state, moved_all}
 
 -- two entries set, and one set twice
 set_swap : {A : Type 0} (l : List A) (i j : ℕ) (a b : A) → i ≢ j → set (set l i a) j b ≡ set (set l j b) i a
@@ -39,13 +38,7 @@ next_undo false (negsuc zero) = refl
 next_undo false (negsuc (suc n)) = refl
 
 pub step_undo : (b : Bool) (i : ℕ) (s : List ℤ) → i < length s → stepped (not b) i (stepped b i s) ≡ s
-step_undo b i s l =
-    rw (
-      get_or-set_same s i (nextℤ b (get_or s i (pos 0))) (pos 0) l,
-      next_undo b (get_or s i (pos 0)),
-      set_twice s i (nextℤ b (get_or s i (pos 0))) (get_or s i (pos 0)),
-    )
-    (set-get_or s i (pos 0))
+step_undo b i s l = rw (get_or-set_same s i (nextℤ b (get_or s i (pos 0))) (pos 0) l, next_undo b (get_or s i (pos 0)), set_twice s i (nextℤ b (get_or s i (pos 0))) (get_or s i (pos 0))) (set-get_or s i (pos 0))
 
 pub step_redo : (b : Bool) (i : ℕ) (s : List ℤ) → i < length s → stepped b i (stepped (not b) i s) ≡ s
 step_redo true i s l = step_undo false i s l
@@ -73,8 +66,7 @@ step_set : (b : Bool) (i j : ℕ) (a : ℤ) (s : List ℤ) → i ≢ j → stepp
 step_set b i j a s d = rw (get_or-set_other s j i a (pos 0) d) (set_swap s j i a (nextℤ b (get_or s i (pos 0))) (λ e. d (sym e)))
 
 pub step_step : (b c : Bool) (i j : ℕ) (s : List ℤ) → i ≢ j → stepped b i (stepped c j s) ≡ stepped c j (stepped b i s)
-step_step b c i j s d =
-    step_set b i j (nextℤ c (get_or s j (pos 0))) s d ∙ rw (get_or-set_other s i j (nextℤ b (get_or s i (pos 0))) (pos 0) (λ e. d (sym e)))
+step_step b c i j s d = step_set b i j (nextℤ c (get_or s j (pos 0))) s d ∙ rw (get_or-set_other s i j (nextℤ b (get_or s i (pos 0))) (pos 0) (λ e. d (sym e)))
 
 -- the places of the last children
 pub last_place : (b : Bool) (u : ℕ) → u < 256 → (512 ≤ last_at b u) × (last_at b u < 1024)
@@ -89,46 +81,34 @@ last_other false false u p l h d e = d (omega arith)
 
 -- a child picked, and a pebble counted
 module _ (b : Bool) {u c : ℕ} (h : u < 256) (k : c < 256) where
-  pub count_pick : (a : Bool) (v : ℕ) → v < 256 → (s : List ℤ)
-      → stepped a (pebbles_at v) (picked_state b u c s) ≡ picked_state b u c (stepped a (pebbles_at v) s)
+  pub count_pick : (a : Bool) (v : ℕ) → v < 256 → (s : List ℤ) → stepped a (256 + v) (picked_state b u c s) ≡ picked_state b u c (stepped a (256 + v) s)
   count_pick a v l s =
-      step_set a (pebbles_at v) (last_at b u) (pos c) (stepped b c s) (λ e. absurd (omega (arith, last_place b u h)))
-      ∙ ap (λ (z : List ℤ). set z (last_at b u) (pos c)) (step_step a b (pebbles_at v) c s (omega arith))
+      step_set a (256 + v) (last_at b u) (pos c) (stepped b c s) (λ e. absurd (omega (arith, last_place b u h)))
+      ∙ ap (λ (z : List ℤ). set z (last_at b u) (pos c)) (step_step a b (256 + v) c s (omega arith))
 
-  pub pick_reads : (v : ℕ) → v < 256 → (s : List ℤ) → get_or (picked_state b u c s) (pebbles_at v) (pos 0) ≡ get_or s (pebbles_at v) (pos 0)
+  pub pick_reads : (v : ℕ) → v < 256 → (s : List ℤ) → get_or (picked_state b u c s) (256 + v) (pos 0) ≡ get_or s (256 + v) (pos 0)
   pick_reads v l s =
-      get_or-set_other (stepped b c s) (last_at b u) (pebbles_at v) (pos c) (pos 0) (λ e. absurd (omega (arith, last_place b u h)))
-      ∙ get_or-set_other s c (pebbles_at v) (nextℤ b (get_or s c (pos 0))) (pos 0) (omega arith)
+      get_or-set_other (stepped b c s) (last_at b u) (256 + v) (pos c) (pos 0) (λ e. absurd (omega (arith, last_place b u h))) ∙ get_or-set_other s c (256 + v) (nextℤ b (get_or s c (pos 0))) (pos 0) (omega arith)
 
   -- two children picked, of two nodes
-  pub pick_pick : {v w : ℕ} → v < 256 → w < 256 → u ≢ v → c ≢ w → (s : List ℤ)
-      → picked_state b u c (picked_state b v w s) ≡ picked_state b v w (picked_state b u c s)
+  pub pick_pick : {v w : ℕ} → v < 256 → w < 256 → u ≢ v → c ≢ w → (s : List ℤ) → picked_state b u c (picked_state b v w s) ≡ picked_state b v w (picked_state b u c s)
   pick_pick {v} {w} l m d e s =
-      ap (λ (z : List ℤ). set z (last_at b u) (pos c))
-      (step_set b c (last_at b v) (pos w) (stepped b w s) (λ q. absurd (omega (arith, last_place b v l)))
-      ∙ ap (λ (z : List ℤ). set z (last_at b v) (pos w)) (step_step b b c w s e))
+      ap (λ (z : List ℤ). set z (last_at b u) (pos c)) (step_set b c (last_at b v) (pos w) (stepped b w s) (λ q. absurd (omega (arith, last_place b v l))) ∙ ap (λ (z : List ℤ). set z (last_at b v) (pos w)) (step_step b b c w s e))
       ∙ set_swap (stepped b w (stepped b c s)) (last_at b v) (last_at b u) (pos w) (pos c) (last_other b b v u l h (λ q. d (sym q)))
-      ∙ ap (λ (z : List ℤ). set z (last_at b v) (pos w))
-      (sym (step_set b w (last_at b u) (pos c) (stepped b c s) (λ q. absurd (omega (arith, last_place b u h)))))
+      ∙ ap (λ (z : List ℤ). set z (last_at b v) (pos w)) (sym (step_set b w (last_at b u) (pos c) (stepped b c s) (λ q. absurd (omega (arith, last_place b u h)))))
 
 -- a move, and a child picked elsewhere
-pub move_pick : (b : Bool) {p w q v : ℕ} → p < 256 → w < 256 → q < 256 → v < 256 → p ≢ q → w ≢ v → (s : List ℤ)
-    → moved_state b q v (picked_state b p w s) ≡ picked_state b p w (moved_state b q v s)
+pub move_pick : (b : Bool) {p w q v : ℕ} → p < 256 → w < 256 → q < 256 → v < 256 → p ≢ q → w ≢ v → (s : List ℤ) → moved_state b q v (picked_state b p w s) ≡ picked_state b p w (moved_state b q v s)
 move_pick b {p} {w} {q} {v} pl wl ql vl d e s =
-    ap (λ (z : List ℤ). stepped (not b) (pebbles_at v) (stepped b (pebbles_at q) z)) (sym (pick_pick b pl wl ql vl d e s))
-    ∙ ap (stepped (not b) (pebbles_at v)) (count_pick b pl wl b q ql (picked_state b q v s))
-    ∙ count_pick b pl wl (not b) v vl (stepped b (pebbles_at q) (picked_state b q v s))
+    ap (λ (z : List ℤ). stepped (not b) (256 + v) (stepped b (256 + q) z)) (sym (pick_pick b pl wl ql vl d e s))
+    ∙ ap (stepped (not b) (256 + v)) (count_pick b pl wl b q ql (picked_state b q v s))
+    ∙ count_pick b pl wl (not b) v vl (stepped b (256 + q) (picked_state b q v s))
 
 -- the counts of a move, from one node to another
-pub shift_is : (b : Bool) (p v : ℕ) (s : List ℤ) → p ≢ v
-    → shifted_state (cond b p v) (cond b v p) s ≡ stepped (not b) (pebbles_at v) (stepped b (pebbles_at p) s)
-shift_is true p v s d = refl
-shift_is false p v s d = step_step false true (pebbles_at p) (pebbles_at v) s (λ e. d (omega arith))
-
 pub shift_steps : (t : List ℕ) (b : Bool) (v : ℕ) (s : List ℤ) → v ≢ up t v
-    → shifted_state (crossing t b v).from (crossing t b v).to (picked_state b (up t v) v s) ≡ moved_state b (up t v) v s
+    → stepped false (256 + (crossing t b v).to) (stepped true (256 + (crossing t b v).from) (picked_state b (up t v) v s)) ≡ moved_state b (up t v) v s
 shift_steps t true v s d = refl
-shift_steps t false v s d = step_step false true (pebbles_at (up t v)) (pebbles_at v) (picked_state false (up t v) v s) (λ e. d (omega arith))
+shift_steps t false v s d = step_step false true (256 + up t v) (256 + v) (picked_state false (up t v) v s) (λ e. d (omega arith))
 
 -- some moves more, and how long the state is
 pub moved_append : (b : Bool) (ms ns : List Move) (s : List ℤ) → moved_all b (ms ++ ns) s ≡ moved_all b ns (moved_all b ms s)

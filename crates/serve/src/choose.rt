@@ -1,15 +1,31 @@
-// The choice of a child: the one whose demand, of the sign wanted, is farthest from 0, and of
-// equals the lowest-numbered. The source leaves it open (Algorithm 1, lines 3 and 6; 2 and 3, line
-// 2).
-ghost use Rattle.std.specs.Prelude.{◌≡◌, ℕ, ◌<◌, get_or, pos};
-ghost use Rattle.model.specs.Yard.{Yard};
+// The choice of a child: the one whose demand, of the sign wanted, is farthest from 0, the lowest-numbered among equals.
+ghost use Rattle.std.specs.Prelude.{◌≡◌, ℕ, ◌≤◌, ◌<◌, get_or, pos, nat_abs};
+ghost use Rattle.model.specs.Yard.{Yard, max_demand};
 ghost use Rattle.model.specs.Given.{was, became};
-ghost use Rattle.serve.specs.Serving.{last_at, InDemandRange, picked_state, beyond, ChoicePre, ScanPre, AfterPre, Picks};
-ghost use Rattle.serve.specs.Serving.{Scans, Chooses, ChoosesAfter};
+ghost use Rattle.model.specs.Plan.{choice};
+ghost use Rattle.laws.specs.Algorithms.{need};
+ghost use Rattle.laws.proofs.Signed.{nextℤ};
+ghost use Rattle.serve.specs.Serving.{beyond, last_at, Small, picked_state, Sees, Lowest, NextBeyond, AskedAfter, Picks};
 
-use crate::state::{LAST_DRAWN, LAST_FILLED, STATE, nearer};
-use lists::numbers::index;
-use tree::children::{LOWEST, NEXT, TREE};
+// Where the tables of a tree begin behind the parents: the lowest children, and the next siblings.
+pub const LOWEST: usize = 256;
+
+pub const NEXT: usize = 512;
+// Where those of the state begin behind the demands: the pebbles, for each sign the children served last, and the depths.
+pub const PEBBLES: usize = 256;
+
+pub const LAST_FILLED: usize = 512;
+
+pub const LAST_DRAWN: usize = 768;
+
+pub const DEPTHS: usize = 1024;
+
+// A byte as a number.
+pub fn wide(x: u8) -> usize
+    ensures { (result ≡ x) × (result < 256) }
+{
+    x as usize
+}
 
 // Whether a demand lies beyond another, away from 0 on the side of the sign wanted.
 fn passes(demand: i16, other: i16, away: bool) -> bool
@@ -21,121 +37,121 @@ fn passes(demand: i16, other: i16, away: bool) -> bool
     demand < other
 }
 
-// The first child of u, from one on, whose demand lies beyond `most`; u itself if there is none.
-// Returns at that child, so that branch prediction does not wait for the loads.
+// The first child of u, from one on, whose demand lies beyond `most`; u itself if there is none. It ends at that child, so that a processor need not wait for
+// the demands to foresee where the way leads.
 fn next_beyond(
-    tree: &[u8; TREE],
-    state: &[i16; STATE],
+    t: &[u8; 768],
+    s: &[i16; 1280],
     u: usize,
     from: usize,
     most: i16,
     away: bool,
 ) -> usize
-    requires { (y : Yard) × (low : ℕ) × ScanPre y tree.now state.now u low from }
-    ensures { Scans away (was tree) (was state) u from most result }
+    requires { (y : Yard) × Sees y t.now s.now u × ((low : ℕ) × Lowest y.parents u low from) }
+    ensures { (y : Yard) → Sees y (was t) (was s) u → (low : ℕ) → Lowest y.parents u low from → NextBeyond away y u low most result }
 {
     let mut c = from;
     while c != u {
-        if passes(state[c], most, away) {
+        if passes(s[c], most, away) {
             return c;
         }
-        c = index(tree[NEXT + c]);
+        c = wide(t[NEXT + c]);
     }
     u
 }
 
-// The child that is served first, by a scan of all children. Each child found lies beyond those
-// before it, and the scan goes on from there.
-fn choose_first(tree: &[u8; TREE], state: &[i16; STATE], u: usize, away: bool) -> usize
-    requires { (y : Yard) × ChoicePre y tree.now state.now u }
-    ensures { Chooses away (was tree) (was state) u result }
+// The child that is served before any other was: from each that is farther from 0 than those before it on to the next, through all children of u.
+fn choose_of_all(t: &[u8; 768], s: &[i16; 1280], u: usize, away: bool) -> usize
+    requires { (y : Yard) × Sees y t.now s.now u }
+    ensures { (y : Yard) → Sees y (was t) (was s) u → result ≡ choice (need y away) y u }
 {
     let mut best = u;
-    let mut from = index(tree[LOWEST + u]);
+    let mut from = wide(t[LOWEST + u]);
     let mut most = 0;
     loop {
-        let c = next_beyond(tree, state, u, from, most, away);
+        let c = next_beyond(t, s, u, from, most, away);
         if c == u {
             return best;
         }
         best = c;
-        from = index(tree[NEXT + c]);
-        most = state[c];
+        from = wide(t[NEXT + c]);
+        most = s[c];
     }
 }
 
-// The child that is served after `last`. It saves the scan of all children: those at the greatest
-// size are served in rising number and no demand grows, so the next one comes after `last`, or else
-// is the first that is as far from 0.
-fn choose_after(tree: &[u8; TREE], state: &[i16; STATE], u: usize, last: usize, away: bool) -> usize
-    requires { (y : Yard) × AfterPre away y tree.now state.now u last }
-    ensures { ChoosesAfter away (was tree) (was state) u last result }
+// The child of u that was served last for a sign, or u itself before one was.
+fn last_served(s: &[i16; 1280], u: usize, away: bool) -> usize
+    requires { (u < 256) × ((c : ℕ) × (c < 256) × (get_or s.now (last_at away u) (pos 0) ≡ pos c)) }
+    ensures { get_or (was s) (last_at away u) (pos 0) ≡ pos result }
 {
-    let c = next_beyond(tree, state, u, index(tree[NEXT + last]), state[last], away);
+    if away {
+        return s[LAST_FILLED + u] as usize;
+    }
+    s[LAST_DRAWN + u] as usize
+}
+
+// A demand, one nearer to 0 on the side of the sign wanted.
+pub fn nearer(demand: i16, away: bool) -> i16
+    requires { nat_abs demand ≤ max_demand }
+    ensures { result ≡ nextℤ away demand }
+{
+    if away {
+        return demand - 1;
+    }
+    demand + 1
+}
+
+// The child that is served after `last`. Children at the greatest size are served in rising number, and no demand grows: so the next one lies behind it, by
+// what its demand then is; else it is the first that is as far from 0, at most `last` itself.
+fn choose_after(t: &[u8; 768], s: &[i16; 1280], u: usize, last: usize, away: bool) -> usize
+    requires { (y : Yard) × AskedAfter away y t.now s.now u last }
+    ensures { (y : Yard) → AskedAfter away y (was t) (was s) u last → result ≡ choice (need y away) y u }
+{
+    let c = next_beyond(t, s, u, wide(t[NEXT + last]), s[last], away);
     if c != u {
         return c;
     }
-    if state[last] == 0 {
+    if s[last] == 0 {
         return u;
     }
-    next_beyond(
-        tree,
-        state,
-        u,
-        index(tree[LOWEST + u]),
-        nearer(state[last], away),
-        away,
-    )
+    next_beyond(t, s, u, wide(t[LOWEST + u]), nearer(s[last], away), away)
 }
 
-// The child of u that was served last for a sign, or u itself before one was. The two rows are read
-// in two branches: one read at a computed place is slower on long ways.
-fn last_served(state: &[i16; STATE], u: usize, away: bool) -> usize
-    requires { (u < 256) × ((c : ℕ) × (c < 256) × (get_or state.now (last_at away u) (pos 0) ≡ pos c)) }
-    ensures { get_or (was state) (last_at away u) (pos 0) ≡ pos result }
+// The child of u that is served wherever one is chosen, or u itself if no child has a demand of the sign wanted.
+fn choose(t: &[u8; 768], s: &[i16; 1280], u: usize, away: bool) -> usize
+    requires { (y : Yard) × Sees y t.now s.now u }
+    ensures { (y : Yard) → Sees y (was t) (was s) u → result ≡ choice (need y away) y u }
 {
-    if away {
-        return state[LAST_FILLED + u] as usize;
-    }
-    state[LAST_DRAWN + u] as usize
-}
-
-// The child of u to serve, or u itself if no child has a demand of the sign wanted.
-fn choose(tree: &[u8; TREE], state: &[i16; STATE], u: usize, away: bool) -> usize
-    requires { (y : Yard) × ChoicePre y tree.now state.now u }
-    ensures { Chooses away (was tree) (was state) u result }
-{
-    let last = last_served(state, u, away);
+    let last = last_served(s, u, away);
     if last == u {
-        return choose_first(tree, state, u, away);
+        return choose_of_all(t, s, u, away);
     }
-    choose_after(tree, state, u, last, away)
+    choose_after(t, s, u, last, away)
 }
 
-// Counts the demand of c, a child of u, one nearer to 0, and notes c as the child served last.
-fn note_served(state: &mut [i16; STATE], u: usize, c: usize, away: bool)
-    requires { (u < 256) × (c < 256) × InDemandRange state.old c }
-    ensures { became state ≡ picked_state away u c (was state) }
+// Writes that the child c of u is served: its demand is one nearer to 0, and it is the one that was served last.
+fn note_served(s: &mut [i16; 1280], u: usize, c: usize, away: bool)
+    requires { (u < 256) × (c < 256) × Small s.old c }
+    ensures { became s ≡ picked_state away u c (was s) }
 {
-    state[c] = nearer(state[c], away);
+    s[c] = nearer(s[c], away);
     if away {
-        state[LAST_FILLED + u] = c as i16;
+        s[LAST_FILLED + u] = c as i16;
         return;
     }
-    state[LAST_DRAWN + u] = c as i16;
+    s[LAST_DRAWN + u] = c as i16;
 }
 
-// Picks the child of u to serve. A move over its edge always follows, so its demand is counted one
-// nearer to 0 here (Algorithm 4, lines 3 to 6), and it is the one that was served last.
-pub fn pick(tree: &[u8; TREE], state: &mut [i16; STATE], u: usize, away: bool) -> usize
-    requires { (y : Yard) × ChoicePre y tree.now state.old u }
-    ensures child { Chooses away (was tree) (was state) u result }
-    ensures state { Picks away u result (was state) (became state) }
+// Picks that child: the state is then as if a pebble had gone over its edge, but for the pebbles.
+pub fn pick(t: &[u8; 768], s: &mut [i16; 1280], u: usize, away: bool) -> usize
+    requires { (y : Yard) × Sees y t.now s.old u }
+    ensures value { (y : Yard) → Sees y (was t) (was s) u → result ≡ choice (need y away) y u }
+    ensures picks { Picks away u result (was s) (became s) }
 {
-    let c = choose(tree, state, u, away);
+    let c = choose(t, s, u, away);
     if c == u {
         return u;
     }
-    note_served(state, u, c, away);
+    note_served(s, u, c, away);
     c
 }

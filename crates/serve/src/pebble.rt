@@ -1,151 +1,167 @@
-// Algorithms 2, 3 and 4: filling and clearing, which call each other down the tree, drawing, and
-// moving.
-ghost use Rattle.std.specs.Prelude.{◌≡◌, ◌≢◌, true, false, ◌+◌, ◌*◌, ◌<◌, ◌≤◌, List, length, drop, ℤ};
-ghost use Rattle.model.specs.Yard.{Yard};
+// Algorithms 2, 3 and 4: filling and clearing, which call each other down the tree, drawing, and their moves.
+ghost use Rattle.std.specs.Prelude.{◌≡◌, ◌≢◌, true, false, not, ℕ, ◌+◌, ◌*◌, ◌<◌, ◌≤◌, List, length, drop, ℤ, ltb};
+ghost use Rattle.model.specs.Yard.{Yard, up};
 ghost use Rattle.model.specs.Given.{was, became};
 ghost use Rattle.model.specs.Calls.Answers.{overwrite};
-ghost use Rattle.lists.specs.Moves.{recorded};
-ghost use Rattle.serve.specs.Serving.{way_length, pebbles_at, InDemandRange, shifted_state};
-ghost use Rattle.serve.specs.Serving.{FillPre, EdgePre, Fills, Clears, ServePre, ServesChild};
+ghost use Rattle.serve.specs.Serving.{Small, Room, stepped, recorded, AskedFill, Filled, Cleared, AskedServe, Served};
 
-use crate::choose::pick;
-use crate::state::{PEBBLES, STATE, count_pebble, has_place};
+use crate::choose::{DEPTHS, PEBBLES, nearer, pick};
 use lists::copy::copy;
-use lists::moves::record_move;
-use tree::children::TREE;
 
-// The bytes of the list that a filling is written to, and its places for moves.
-pub const WAY: usize = 512;
-
+// How many moves the list of a filling has places for, and how many bytes it has.
 const PLACES: usize = 256;
 
-// Algorithm 2: fills v, the child of u that was picked, and answers where the moves begin in the
-// list. Written from the end: line 4, the move from u to v, is the last one and known first; it
-// goes to the place before `end`. Lines 1 to 3, clearing v, go to the places before it. `end`
-// bounds the height below v and falls by one with each node down.
+const LIST_BYTES: usize = 2 * PLACES;
+
+// Whether a node has a place for one more pebble.
+fn has_place(s: &[i16; 1280], v: usize) -> bool
+    requires { (v < 256) × ((p : ℕ) × (d : ℕ) × Room s.now v p d) }
+    ensures { (p d : ℕ) → Room (was s) v p d → result ≡ ltb p d }
+{
+    s[PEBBLES + v] < s[DEPTHS + v]
+}
+
+// One pebble less at a node (true), or one more.
+fn count_pebble(s: &mut [i16; 1280], v: usize, less: bool)
+    requires { (v < 256) × Small s.old (256 + v) }
+    ensures { became s ≡ stepped less (256 + v) (was s) }
+{
+    s[PEBBLES + v] = nearer(s[PEBBLES + v], less);
+}
+
+// Algorithm 4: writes the move of a pebble over the edge of v, whose parent is p, away from the root or towards it, at place k of the list.
+pub fn record_move(plan: &mut [u8], k: usize, p: usize, v: usize, away: bool)
+    requires { (p < 256) × (v < 256) × (2 * k + 2 ≤ length plan.old) }
+    ensures { became plan ≡ recorded away p v k (was plan) }
+{
+    if away {
+        plan[2 * k] = p as u8;
+        plan[2 * k + 1] = v as u8;
+        return;
+    }
+    plan[2 * k] = v as u8;
+    plan[2 * k + 1] = p as u8;
+}
+
+// Algorithm 2: fills v, which was picked for it, from its parent u. The last move of a filling is known first: it is written to the place before `end`, and v
+// is cleared into the places before that one. Answers where the moves begin.
 #[cycle(clear_node_inject_pebble)]
 pub fn inject_pebble(
-    tree: &[u8; TREE],
-    state: &mut [i16; STATE],
-    moves: &mut [u8; WAY],
+    t: &[u8; 768],
+    s: &mut [i16; 1280],
+    moves: &mut [u8; 512],
     end: usize,
     u: usize,
     v: usize,
 ) -> usize
-    requires { (y : Yard) × EdgePre true y tree.now state.old end u v }
-    ensures moves { Fills true (was tree) (was state) (became state) (was moves) (became moves) end u v result }
+    requires { (y : Yard) × AskedFill true y t.now s.old end v × (u ≡ up y.parents v) }
+    ensures { (y : Yard) → AskedFill true y (was t) (was s) end v → u ≡ up y.parents v → Filled true y end v (was s) (became s) (was moves) (became moves) result }
 {
-    record_move(moves, end - 1, u, v);
-    clear_node(tree, state, moves, end - 1, v)
+    record_move(moves, end - 1, u, v, true);
+    clear_node(t, s, moves, end - 1, v)
 }
 
-// Algorithm 2, lines 1 to 3: clears v, and takes the place for the pebble that comes. A full v is
-// cleared by filling the child that is picked (lines 2 and 3).
+// Clears v, so that it has a place, and takes that place. To clear a full v, fill the child that is picked.
 #[cycle(clear_node_inject_pebble)]
 fn clear_node(
-    tree: &[u8; TREE],
-    state: &mut [i16; STATE],
-    moves: &mut [u8; WAY],
+    t: &[u8; 768],
+    s: &mut [i16; 1280],
+    moves: &mut [u8; 512],
     end: usize,
     v: usize,
 ) -> usize
-    requires { (y : Yard) × FillPre true y tree.now state.old (end + 1) v }
-    ensures { Clears true (was tree) (was state) (became state) (was moves) (became moves) end v result }
+    requires { (y : Yard) × AskedFill true y t.now s.old (end + 1) v }
+    ensures { (y : Yard) → AskedFill true y (was t) (was s) (end + 1) v → Cleared true y end v (was s) (became s) (was moves) (became moves) result }
 {
-    if has_place(state, v) {
-        count_pebble(state, v, false);
+    if has_place(s, v) {
+        count_pebble(s, v, false);
         return end;
     }
-    let c = pick(tree, state, v, true);
-    inject_pebble(tree, state, moves, end, v, c)
+    let c = pick(t, s, v, true);
+    inject_pebble(t, s, moves, end, v, c)
 }
 
-// Algorithm 3: draws from v, the child of u that was picked, and answers where the moves begin in
-// the list. Written from the end, as filling is: line 4 first, the move from v to u. Into an empty
-// v a pebble is drawn from the child that is picked (lines 1 to 3).
+// Algorithm 3: draws from v, which was picked for it, into its parent u. Into an empty v a pebble is drawn first.
 pub fn extract_pebble(
-    tree: &[u8; TREE],
-    state: &mut [i16; STATE],
-    moves: &mut [u8; WAY],
+    t: &[u8; 768],
+    s: &mut [i16; 1280],
+    moves: &mut [u8; 512],
     end: usize,
     u: usize,
     v: usize,
 ) -> usize
-    requires { (y : Yard) × EdgePre false y tree.now state.old end u v }
-    ensures moves { Fills false (was tree) (was state) (became state) (was moves) (became moves) end u v result }
+    requires { (y : Yard) × AskedFill false y t.now s.old end v × (u ≡ up y.parents v) }
+    ensures { (y : Yard) → AskedFill false y (was t) (was s) end v → u ≡ up y.parents v → Filled false y end v (was s) (became s) (was moves) (became moves) result }
 {
-    record_move(moves, end - 1, v, u);
-    if state[PEBBLES + v] != 0 {
-        count_pebble(state, v, true);
+    record_move(moves, end - 1, u, v, false);
+    if s[PEBBLES + v] != 0 {
+        count_pebble(s, v, true);
         return end - 1;
     }
-    let c = pick(tree, state, v, false);
-    extract_pebble(tree, state, moves, end - 1, v, c)
+    let c = pick(t, s, v, false);
+    extract_pebble(t, s, moves, end - 1, v, c)
 }
 
-// Algorithm 4: moves a pebble, as the first move of the plan. Lines 1 and 2 are the two counts,
-// line 7 is the record; lines 3 to 6, the demand, are counted by `pick`.
-fn move_pebble(state: &mut [i16; STATE], plan: &mut [u8], from: usize, to: usize)
-    requires from_bound { (from < 256) × (to < 256) × (from ≢ to) × (2 ≤ length plan.old) }
-    requires in_demand_range { InDemandRange state.old (pebbles_at from) × InDemandRange state.old (pebbles_at to) }
-    ensures state_value { became state ≡ shifted_state from to (was state) }
-    ensures plan_value { became plan ≡ recorded from to 0 (was plan) }
+// A single move over the edge of v, whose parent is u, to the front of the plan.
+fn move_pebble(s: &mut [i16; 1280], plan: &mut [u8], u: usize, v: usize, away: bool)
+    requires { (u < 256) × (v < 256) × (u ≢ v) × Small s.old (256 + u) × Small s.old (256 + v) × (2 ≤ length plan.old) }
+    ensures s_value { became s ≡ stepped (not away) (256 + v) (stepped away (256 + u) (was s)) }
+    ensures plan_value { became plan ≡ recorded away u v 0 (was plan) }
 {
-    count_pebble(state, from, true);
-    count_pebble(state, to, false);
-    record_move(plan, 0, from, to);
+    count_pebble(s, u, away);
+    count_pebble(s, v, !away);
+    record_move(plan, 0, u, v, away);
 }
 
 // Copies the moves from place k of a list to the front of the plan. Answers how many.
 fn hand_over(moves: &[u8], k: usize, plan: &mut [u8]) -> usize
-    requires { (length moves.now ≡ way_length) × (k ≤ 256) × (way_length ≤ length plan.old + 2 * k) }
+    requires { (length moves.now ≡ 512) × (k ≤ 256) × (512 ≤ length plan.old + 2 * k) }
     ensures k_value { result + k ≡ 256 }
     ensures plan_value { became plan ≡ overwrite (drop (2 * k) (was moves)) (was plan) }
 {
-    copy(&moves[2 * k..], &mut plan[..WAY - 2 * k]);
+    copy(&moves[2 * k..], &mut plan[..LIST_BYTES - 2 * k]);
     PLACES - k
 }
 
-// Algorithm 1, line 4: fills c, the child of u that was picked, by moves at the front of the plan.
-// Answers how many. A c with a place takes one move, which is written to the plan at once; other
-// fillings are written to the lent list from its end, and then copied.
+// Fills the child c of u that was picked, by moves at the front of the plan; answers how many. Mostly c has a place, and it is one;
+// else they are written to a list that is lent for it, and handed over.
 pub fn fill_child(
-    tree: &[u8; TREE],
-    state: &mut [i16; STATE],
+    t: &[u8; 768],
+    s: &mut [i16; 1280],
     plan: &mut [u8],
-    moves: &mut [u8; WAY],
+    moves: &mut [u8; 512],
     u: usize,
     c: usize,
 ) -> usize
-    requires { (y : Yard) × (before : List ℤ) × ServePre true y tree.now before state.old plan.old u c }
-    ensures plan { ServesChild true (was tree) (was state) (became state) (was plan) (became plan) u c result }
+    requires { (y : Yard) × (s₀ : List ℤ) × AskedServe true y t.now s₀ s.old plan.old u c }
+    ensures { (y : Yard) (s₀ : List ℤ) → AskedServe true y (was t) s₀ (was s) (was plan) u c → Served true y c (became s) (was plan) (became plan) result }
 {
-    if has_place(state, c) {
-        move_pebble(state, plan, u, c);
+    if has_place(s, c) {
+        move_pebble(s, plan, u, c, true);
         return 1;
     }
-    let k = inject_pebble(tree, state, moves, PLACES, u, c);
-    count_pebble(state, u, true);
+    let k = inject_pebble(t, s, moves, PLACES, u, c);
+    count_pebble(s, u, true);
     hand_over(moves, k, plan)
 }
 
-// Algorithm 1, line 7: draws from c, the child of u that was picked, in the same way.
+// Draws from the child c of u that was picked, in the same way.
 pub fn draw_child(
-    tree: &[u8; TREE],
-    state: &mut [i16; STATE],
+    t: &[u8; 768],
+    s: &mut [i16; 1280],
     plan: &mut [u8],
-    moves: &mut [u8; WAY],
+    moves: &mut [u8; 512],
     u: usize,
     c: usize,
 ) -> usize
-    requires { (y : Yard) × (before : List ℤ) × ServePre false y tree.now before state.old plan.old u c }
-    ensures plan { ServesChild false (was tree) (was state) (became state) (was plan) (became plan) u c result }
+    requires { (y : Yard) × (s₀ : List ℤ) × AskedServe false y t.now s₀ s.old plan.old u c }
+    ensures { (y : Yard) (s₀ : List ℤ) → AskedServe false y (was t) s₀ (was s) (was plan) u c → Served false y c (became s) (was plan) (became plan) result }
 {
-    if state[PEBBLES + c] != 0 {
-        move_pebble(state, plan, c, u);
+    if s[PEBBLES + c] != 0 {
+        move_pebble(s, plan, u, c, false);
         return 1;
     }
-    let k = extract_pebble(tree, state, moves, PLACES, u, c);
-    count_pebble(state, u, false);
+    let k = extract_pebble(t, s, moves, PLACES, u, c);
+    count_pebble(s, u, false);
     hand_over(moves, k, plan)
 }

@@ -1,5 +1,5 @@
--- The digits of a number are those of its tenth, then the last. A number below 10 has one digit, a
--- number below 1,000 at most three, and a number below 1,000,000 at most six.
+-- The digits of a number: those of its tenth, and its last. A number below 10 has one, one below 1,000 at most three, and one below 1,000,000
+-- at most six.
 use mathlib.Core.Path.{◌≡◌, refl, sym, ap, ◌∙◌}
 use mathlib.Core.Bool.{Bool, true, false}
 use mathlib.Core.List.{List, [], ◌∷◌, ◌++◌}
@@ -27,8 +27,7 @@ digits_enough zero j n hk hj = absurd (omega arith)
 digits_enough (suc k) zero n hk hj = absurd (omega arith)
 digits_enough (suc k) (suc j) n hk hj = go (ltb n 10) refl (digits_enough k j (n / 10))
   where
-    go : (t : Bool) → ltb n 10 ≡ t → (n / 10 < k → n / 10 < j → digits k (n / 10) ≡ digits j (n / 10))
-        → digits (suc k) n ≡ digits (suc j) n
+    go : (t : Bool) → ltb n 10 ≡ t → (n / 10 < k → n / 10 < j → digits k (n / 10) ≡ digits j (n / 10)) → digits (suc k) n ≡ digits (suc j) n
     go true e ih = let l = ltb-true n 10 e in digits_low k n l ∙ sym (digits_low j n l)
     go false e ih =
         let l = ltb-false n 10 e in
@@ -55,7 +54,7 @@ length_some n = go (ltb n 10) refl
     go true e = omega (arith, length_low n (ltb-true n 10 e))
     go false e = omega (arith, length_high n (ltb-false n 10 e))
 
--- a number has at most one digit more than its tenth
+-- how many digits a number has at most: one more than its tenth
 tenth : (n k : ℕ) → (10 ≤ n → length (decimal (n / 10)) ≤ k) → length (decimal n) ≤ suc k
 tenth n k f = go (ltb n 10) refl
   where
@@ -67,5 +66,4 @@ pub decimal_short : (n : ℕ) → n < 1_000 → length (decimal n) ≤ 3
 decimal_short n h = tenth n 2 (λ _. tenth (n / 10) 1 (λ _. omega (arith, length_low (n / 10 / 10) (omega arith))))
 
 pub decimal_six : (n : ℕ) → n < 1_000_000 → length (decimal n) ≤ 6
-decimal_six n h =
-    tenth n 5 (λ _. tenth (n / 10) 4 (λ _. tenth (n / 10 / 10) 3 (λ _. decimal_short (n / 10 / 10 / 10) (omega arith))))
+decimal_six n h = tenth n 5 (λ _. tenth (n / 10) 4 (λ _. tenth (n / 10 / 10) 3 (λ _. decimal_short (n / 10 / 10 / 10) (omega arith))))

@@ -1,6 +1,5 @@
--- The lines of the crossing report. The lines of the edges below v + 1 are those below v and then,
--- unless v is the root, the line of v; each has at most 18 bytes. With the crossings of some moves
--- as columns, they are the report of those moves.
+-- The lines of the crossing report: the line of an edge is short; those of the edges below v + 1 are those below v and then that of v, if v is not the root;
+-- with the crossings of some moves as columns they are the report of those moves.
 use mathlib.Core.Path.{◌≡◌, refl, sym, ap, ◌∙◌}
 use mathlib.Core.Bool.{Bool, true, false, not, cond}
 use mathlib.Core.List.{List, [], ◌∷◌, ◌++◌, map, append_assoc, append-nil}
@@ -9,13 +8,12 @@ use native.Mathlib.Numerals.{add-one}
 use native.Mathlib.Omega.{arith}
 use lib.ListN.{length, get_or, length-append}
 use lib.Dec.{eqb}
-use Rattle.model.specs.Yard.{Yard, size, max_size, root}
-use Rattle.model.specs.Numbers.{below}
+use Rattle.model.specs.Yard.{Yard, size, max_size, below, root}
 use Rattle.model.specs.Push.{Move, ups, downs}
 use Rattle.model.specs.Calls.Answers.{rowUnit}
 use Rattle.model.specs.Sheets.{text, line, lines, edges, report_row, report}
-use Rattle.laws.proofs.Base.Lists.{all_below}
-use Rattle.laws.proofs.Base.Ranges.{map_all}
+use Rattle.laws.proofs.Basics.{all_below}
+use Rattle.laws.proofs.Ranges.{map_all}
 use Rattle.sheet.specs.Report.{line_unless_root, edge_lines, report_of, Columns, edge_room, report_room}
 use Rattle.sheet.proofs.Decimals.{decimal_short, decimal_six}
 
@@ -46,8 +44,7 @@ module _ (xs zs : List ℕ) (r : ℕ) where
   unfolding below lines
   edges_next v = rw (add-one v, map_append, lines_append) (ap (λ (l : List ℕ). edge_lines xs zs r v ++ l) (go (not (eqb v r))))
     where
-      go : (b : Bool) → lines (map (λ u. u ∷ get_or xs u 0 ∷ get_or zs u 0 ∷ []) (cond b (v ∷ []) []))
-          ≡ cond b (line (v ∷ get_or xs v 0 ∷ get_or zs v 0 ∷ [])) []
+      go : (b : Bool) → lines (map (λ u. u ∷ get_or xs u 0 ∷ get_or zs u 0 ∷ []) (cond b (v ∷ []) [])) ≡ cond b (line (v ∷ get_or xs v 0 ∷ get_or zs v 0 ∷ [])) []
       go true = append-nil _
       go false = refl
 
@@ -55,8 +52,8 @@ module _ (xs zs : List ℕ) (r : ℕ) where
     pub edges_short : (v : ℕ) → v ≤ length xs → length (edge_lines xs zs r v) ≤ edge_room * v
     edges_short zero l = rw edges_none (omega arith)
     edges_short (suc v) l =
-        let last = edge_short r v (get_or xs v 0) (get_or zs v 0) (omega (arith, c.few)) (c.up_small v) (c.down_small v) in
-        rw (← (add-one v), edges_next v, length-append) (omega (arith, edges_short v (omega arith), last))
+        rw (← (add-one v), edges_next v, length-append)
+        (omega (arith, edges_short v (omega arith), edge_short r v (get_or xs v 0) (get_or zs v 0) (omega (arith, c.few)) (c.up_small v) (c.down_small v)))
 
 -- the total's line
 pub total_short : (n : ℕ) → n < rowUnit → length (line (n ∷ [])) ≤ 7
@@ -68,15 +65,11 @@ unfolding text
 report_short xs zs r n c h = simp length-append (omega (arith, edges_short xs zs r c (length xs) (omega arith), total_short n h))
 
 -- the report of some moves
-pub report_is : (y : Yard) (ms : List Move) (xs zs : List ℕ) (r n : ℕ) → length xs ≡ size y
-    → ((v : ℕ) → v < size y → (get_or xs v 0 ≡ ups y ms v) × (get_or zs v 0 ≡ downs y ms v))
+pub report_is : (y : Yard) (ms : List Move) (xs zs : List ℕ) (r n : ℕ) → length xs ≡ size y → ((v : ℕ) → v < size y → (get_or xs v 0 ≡ ups y ms v) × (get_or zs v 0 ≡ downs y ms v))
     → r ≡ root y → n ≡ length ms → report_of xs zs r n ≡ report y ms
 unfolding report edges
 report_is y ms xs zs r n l e q m =
     rw (l, q, m)
     (ap (λ (rows : List (List ℕ)). text "track up down\n" ++ (lines rows ++ (text "total\n" ++ line (length ms ∷ []))))
     (map_all (λ v. v ∷ get_or xs v 0 ∷ get_or zs v 0 ∷ []) (report_row y ms) (edges y)
-    (all_below _ (λ v. not (eqb v (root y))) (size y) (λ v h _. row_is v h))))
-  where
-    row_is : (v : ℕ) → v < size y → v ∷ get_or xs v 0 ∷ get_or zs v 0 ∷ [] ≡ report_row y ms v
-    row_is v h = ap (λ (a : ℕ). v ∷ a ∷ get_or zs v 0 ∷ []) (e v h).0 ∙ ap (λ (b : ℕ). v ∷ ups y ms v ∷ b ∷ []) (e v h).1
+    (all_below _ (λ v. not (eqb v (root y))) (size y) (λ v h _. ap (λ (a : ℕ). v ∷ a ∷ get_or zs v 0 ∷ []) (e v h).0 ∙ ap (λ (b : ℕ). v ∷ ups y ms v ∷ b ∷ []) (e v h).1))))

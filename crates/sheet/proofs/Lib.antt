@@ -1,4 +1,4 @@
--- Laws that the proofs of the functions share.
+-- Laws that several proofs of this crate cite.
 pub mod Decimals
 pub mod Writing
 pub mod Rows

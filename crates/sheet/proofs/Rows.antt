@@ -1,6 +1,5 @@
--- The rest of a sheet. The line from a value on is that value, the byte that ends it, and the line
--- from the next value on; the lines from a node or a move on are its line and those from the next
--- on.
+-- What is left of a sheet: a line from a value on is that value, the byte that ends it, and the line from the next on; the lines from a node or a
+-- move on are its line and those from the next on.
 use mathlib.Core.Path.{◌≡◌, refl, sym, ap, ◌∙◌}
 use mathlib.Core.List.{List, [], ◌∷◌, ◌++◌, map, append_assoc}
 use Prim.Native.Nat.{ℕ, zero, suc, ◌+◌, ◌-◌, ◌*◌, ◌≤◌, ◌<◌}
@@ -10,10 +9,10 @@ use native.Mathlib.Omega.{arith}
 use lib.ListN.{length, drop, get_or, length-append, length-drop, drop_of_length-le}
 use Rattle.model.specs.Yard.{Yard, size}
 use Rattle.model.specs.Push.{Move}
-use Rattle.model.specs.Numbers.{range}
+use Rattle.model.specs.Calls.Answers.{range}
 use Rattle.model.specs.Calls.Plans.{moves_of}
 use Rattle.model.specs.Sheets.{text, space, line_feed, decimal, stopBefore, line, lines, header, node_values, yard_sheet, move_lines}
-use Rattle.laws.proofs.Sheets.Lines.{length_line}
+use Rattle.laws.proofs.Lines.{length_line}
 use Rattle.sheet.proofs.Decimals.{decimal_six}
 use Rattle.sheet.proofs.Writing.{drop_next}
 
@@ -29,8 +28,7 @@ stop_inner zero n = absurd (n refl)
 stop_inner (suc k) n = refl
 
 module _ (vs : List ℕ) (i : ℕ) (h : i < length vs) where
-  pub line_next : line (drop i vs)
-      ≡ (decimal (get_or vs i 0) ++ (stopBefore (length vs - (i + 1)) ∷ [])) ++ line (drop (i + 1) vs)
+  pub line_next : line (drop i vs) ≡ (decimal (get_or vs i 0) ++ (stopBefore (length vs - (i + 1)) ∷ [])) ++ line (drop (i + 1) vs)
   unfolding line
   line_next = rw (drop_next vs i h, length-drop (i + 1) vs) (sym (append_assoc (decimal (get_or vs i 0)) _ _))
 
@@ -70,17 +68,14 @@ abbrev pub moves : List ℕ → ℕ → List ℕ
 moves plan i = lines (map (λ (m : Move). m.from ∷ m.to ∷ []) (moves_of (drop i plan)))
 
 module _ (plan : List ℕ) where
-  pub moves_next : (i : ℕ) → i + 1 < length plan
-      → moves plan i ≡ line (get_or plan i 0 ∷ get_or plan (i + 1) 0 ∷ []) ++ moves plan (i + 2)
+  pub moves_next : (i : ℕ) → i + 1 < length plan → moves plan i ≡ line (get_or plan i 0 ∷ get_or plan (i + 1) 0 ∷ []) ++ moves plan (i + 2)
   unfolding lines moves_of
   moves_next i h =
       let n : i + 1 + 1 ≡ i + 2 = omega arith in
       rw (drop_next plan i (omega arith), drop_next plan (i + 1) h, n)
 
-  pub length_moves_next : (i : ℕ) → i + 1 < length plan
-      → length (moves plan i) ≡ length (line (get_or plan i 0 ∷ get_or plan (i + 1) 0 ∷ [])) + length (moves plan (i + 2))
-  length_moves_next i h =
-      ap length (moves_next i h) ∙ length-append (line (get_or plan i 0 ∷ get_or plan (i + 1) 0 ∷ [])) (moves plan (i + 2))
+  pub length_moves_next : (i : ℕ) → i + 1 < length plan → length (moves plan i) ≡ length (line (get_or plan i 0 ∷ get_or plan (i + 1) 0 ∷ [])) + length (moves plan (i + 2))
+  length_moves_next i h = ap length (moves_next i h) ∙ length-append (line (get_or plan i 0 ∷ get_or plan (i + 1) 0 ∷ [])) (moves plan (i + 2))
 
   pub moves_end : (i : ℕ) → length plan ≤ i + 1 → moves plan i ≡ []
   unfolding lines moves_of
@@ -95,7 +90,7 @@ module _ (plan : List ℕ) where
   unfolding move_lines
   moves_all = refl
 
--- they take at most 4 bytes for each byte of the plan
+-- which take at most 4 bytes for each of a plan's
 pub length_moves : (plan : List ℕ) → ((i : ℕ) → get_or plan i 0 < 256) → length (moves plan 0) ≤ 4 * length plan
 unfolding lines moves_of
 length_moves [] h = omega arith
@@ -106,8 +101,7 @@ length_moves (a ∷ b ∷ plan) h =
 
 pub length_move_lines : (plan : List ℕ) → ((i : ℕ) → get_or plan i 0 < 256) → length (move_lines (moves_of plan)) ≤ 8 + 4 * length plan
 unfolding text
-length_move_lines plan h =
-    omega (arith, ap length (moves_all plan), length-append (text "from to\n") (moves plan 0), length_moves plan h)
+length_move_lines plan h = omega (arith, ap length (moves_all plan), length-append (text "from to\n") (moves plan 0), length_moves plan h)
 
 -- a line of two values
 pub length_pair : (n p : ℕ) → n < 1_000_000 → p < 1_000_000 → length (line (n ∷ p ∷ [])) ≤ 14

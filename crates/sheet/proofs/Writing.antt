@@ -1,6 +1,5 @@
--- Storing words into a list: two words that follow each other are stored as one. So a loop that
--- stores a word part by part has at each turn a rest to store, and storing the rest in the present
--- list gives what storing the whole in the first list gives.
+-- Storing words into a list: a word and one behind it are stored as one, and what is left of a word is stored behind its front. So a loop that
+-- stores a word part by part has, at each turn, the rest to store, which makes of the list what the whole makes of the list at the start.
 use mathlib.Core.Path.{◌≡◌, refl, sym, ap, ◌∙◌, subst}
 use mathlib.Core.List.{List, [], ◌∷◌, ◌++◌}
 use Prim.Native.Nat.{ℕ, suc, ◌+◌, ◌/◌, ◌%◌, ◌≤◌, ◌<◌}
@@ -21,8 +20,7 @@ sets_append l i (a ∷ v) w = sets_append (set l i a) (suc i) v w ∙ rw (suc-ad
 sets_last : (l : List ℕ) (i : ℕ) (w : List ℕ) (b : ℕ) → sets l i (w ++ (b ∷ [])) ≡ sets (set l (i + length w) b) i w
 sets_last l i [] b = rw add-zero
 sets_last l i (a ∷ w) b =
-    sets_last (set l i a) (suc i) w b
-    ∙ ap (λ (m : List ℕ). sets m (suc i) w) (rw (suc-add, add-suc) (set_comm l i (suc (i + length w)) a b (λ e. omega arith)))
+    sets_last (set l i a) (suc i) w b ∙ ap (λ (m : List ℕ). sets m (suc i) w) (rw (suc-add, add-suc) (set_comm l i (suc (i + length w)) a b (λ e. omega arith)))
 
 -- the digits of a number, from its last to its first, each at the place i
 module _ (at i n : ℕ) (l : List ℕ) (e : i + 1 ≡ at + length (decimal n)) where
@@ -36,9 +34,8 @@ module _ (at i n : ℕ) (l : List ℕ) (e : i + 1 ≡ at + length (decimal n)) w
       let q : i ≡ at = omega (arith, length_low n k) in
       rw (q, decimal_low n k)
 
--- Written: words stored one after another
-pub written_append : {v w : List ℕ} {at m e : ℕ} {old mid new : List ℕ} → Written v at old m mid → Written w m mid e new
-    → Written (v ++ w) at old e new
+-- Written
+pub written_append : {v w : List ℕ} {at m e : ℕ} {old mid new : List ℕ} → Written v at old m mid → Written w m mid e new → Written (v ++ w) at old e new
 written_append {v} {w} {at} {old = old} a b = record {
   list = b.list ∙ rw (a.list, a.end) (sym (sets_append old at v w));
   end = b.end ∙ rw (a.end, length-append v w) (omega arith);
@@ -56,15 +53,13 @@ written_none at l = record { list = refl; end = omega arith }
 pub written_byte : (b at : ℕ) (l : List ℕ) → Written (b ∷ []) at l (at + 1) (set l at b)
 written_byte b at l = record { list = refl; end = refl }
 
-pub written_front : {w : List ℕ} {e : ℕ} {old new : List ℕ} → Written w 0 old e new → e ≤ length old
-    → (e ≡ length w) × (new ≡ overwrite w old)
+pub written_front : {w : List ℕ} {e : ℕ} {old new : List ℕ} → Written w 0 old e new → e ≤ length old → (e ≡ length w) × (new ≡ overwrite w old)
 written_front {w} {old = old} a h =
     let n = a.end in
     (omega arith, a.list ∙ sets-eq w old 0 (omega arith) ∙ rw zero-add)
 
--- a word at the front of a list, and an equal word
-pub printed_as : {v w : List ℕ} (out : List ℕ) {new : List ℕ} {r : ℕ} → v ≡ w
-    → (r ≡ length v) × (new ≡ overwrite v out) → (r ≡ length w) × (new ≡ overwrite w out)
+-- what is at the front of a list, said otherwise
+pub printed_as : {v w : List ℕ} (out : List ℕ) {new : List ℕ} {r : ℕ} → v ≡ w → (r ≡ length v) × (new ≡ overwrite v out) → (r ≡ length w) × (new ≡ overwrite w out)
 printed_as out q h = rw (← q) h
 
 pub written_taken : {w : List ℕ} {e : ℕ} {old new : List ℕ} → Written w 0 old e new → e ≤ length old → take e new ≡ w
@@ -72,8 +67,7 @@ written_taken {w} {old = old} a h =
     let f = written_front a h in
     rw (f.0, f.1) (take-append_seam w (drop (length w) old))
 
--- Left: storing `word` from `at` on in `list` gives what storing `whole` from `start` on in `old`
--- gives
+-- Left: to store `word` from `at` on into `list` is to store `whole` from `start` on into `old`
 pub record Left (word : List ℕ) (at : ℕ) (list whole : List ℕ) (start : ℕ) (old : List ℕ) : Type 0 where
   pub same : sets list at word ≡ sets old start whole
   pub end : at + length word ≡ start + length whole
@@ -94,6 +88,6 @@ module _ {w : List ℕ} {at : ℕ} {l whole : List ℕ} {start : ℕ} {old : Lis
   pub left_none : w ≡ [] → Written whole start old at l
   left_none q = record { list = ap (sets l at) (sym q) ∙ r.same; end = omega (arith, r.end, ap length q) }
 
--- the bytes of a text, one after another
+-- the bytes of a text, one after the other
 pub drop_next : (l : List ℕ) (i : ℕ) → i < length l → drop i l ≡ get_or l i 0 ∷ drop (i + 1) l
 drop_next l i h = rw add-one (drop-cons l i 0 h)

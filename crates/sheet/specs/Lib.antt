@@ -1,3 +1,3 @@
--- Definitions that the contracts of the functions of this crate cite.
+-- Definitions that the contracts of this crate's helpers cite.
 pub mod Written
 pub mod Report

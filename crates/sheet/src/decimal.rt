@@ -1,10 +1,10 @@
-// Writes decimal numbers and texts into a list.
+// Numbers in decimal, and texts, written into a lent list.
 ghost use Rattle.std.specs.Prelude.{◌≡◌, ◌+◌, ◌≤◌, length};
 ghost use Rattle.model.specs.Given.{was, became};
 ghost use Rattle.model.specs.Sheets.{decimal};
 ghost use Rattle.sheet.specs.Written.{Written};
 
-// The number of digits of a number.
+// How many digits a number has.
 fn width(n: usize) -> usize
     ensures { result ≡ length (decimal n) }
 {
@@ -17,10 +17,10 @@ fn width(n: usize) -> usize
     count
 }
 
-// Writes a number from `at` on, and answers the place after it. The last digit is written first.
+// Writes a number from `at` on, its last digit first, and answers the place behind it.
 pub fn put_decimal(out: &mut [u8], at: usize, n: usize) -> usize
     requires { at + length (decimal n) ≤ length out.old }
-    ensures written { Written (decimal n) at (was out) result (became out) }
+    ensures { Written (decimal n) at (was out) result (became out) }
 {
     let end = at + width(n);
     let mut i = end - 1;
@@ -34,10 +34,10 @@ pub fn put_decimal(out: &mut [u8], at: usize, n: usize) -> usize
     end
 }
 
-// Writes a text from `at` on, and answers the place after it.
+// Writes a text from `at` on, and answers the place behind it.
 pub fn put_text(out: &mut [u8], at: usize, text: &[u8]) -> usize
     requires { at + length text.now ≤ length out.old }
-    ensures written { Written (was text) at (was out) result (became out) }
+    ensures { Written (was text) at (was out) result (became out) }
 {
     let mut i = 0;
     while i < text.len() {

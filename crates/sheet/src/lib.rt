@@ -1,4 +1,4 @@
-// Writes yard sheets, move sheets, crossing reports and refusals as bytes.
+// Yard sheets, move sheets and refusals written as bytes.
 #![tactic(auto)]
 
 pub mod decimal;

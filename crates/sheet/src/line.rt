@@ -1,4 +1,4 @@
-// Writes a line of values into a list.
+// A line of values, written into a lent list.
 ghost use Rattle.std.specs.Prelude.{◌≡◌, ◌+◌, ◌≤◌, length};
 ghost use Rattle.model.specs.Given.{was, became};
 ghost use Rattle.model.specs.Sheets.{stopBefore, line};
@@ -6,9 +6,9 @@ ghost use Rattle.sheet.specs.Written.{Written};
 
 use crate::decimal::put_decimal;
 
-// The byte that ends a value: a line feed if no other value follows it in its line, else a space.
+// The byte that ends a value with `others` behind it in its line.
 pub fn stop_before(others: usize) -> u8
-    ensures stop { result ≡ stopBefore others }
+    ensures { result ≡ stopBefore others }
 {
     if others == 0 {
         return b'\n';
@@ -16,10 +16,10 @@ pub fn stop_before(others: usize) -> u8
     b' '
 }
 
-// Writes a line of values from `at` on, and answers the place after it.
+// Writes a line of values from `at` on, and answers the place behind it.
 pub fn put_line(out: &mut [u8], at: usize, values: &[usize]) -> usize
     requires { at + length (line values.now) ≤ length out.old }
-    ensures written { Written (line (was values)) at (was out) result (became out) }
+    ensures { Written (line (was values)) at (was out) result (became out) }
 {
     let mut end = at;
     let mut i = 0;

@@ -1,10 +1,10 @@
-// Writes what the programs print: the moves of a move sheet, two values below a head, a refusal.
+// What the programs print: the moves of a move sheet, two values under a head, a refusal.
 ghost use Rattle.std.specs.Prelude.{◌≡◌, [], ◌∷◌, ◌++◌, ◌+◌, ◌≤◌, ◌<◌, length};
 ghost use Rattle.model.specs.Given.{was, became};
-ghost use Rattle.model.specs.Calls.Answers.{overwrite, rowUnit, Row};
+ghost use Rattle.model.specs.Calls.Answers.{overwrite, Row};
 ghost use Rattle.model.specs.Calls.Plans.{moves_of};
 ghost use Rattle.model.specs.Sheets.{line, move_lines, refusal_sheet};
-ghost use Rattle.model.specs.Meaning.{fault_of};
+ghost use Rattle.model.specs.Paper.{paper};
 ghost use Rattle.sheet.specs.Written.{Written, move_lines_room, pair_room, refusal_room};
 
 use crate::decimal::put_text;
@@ -12,18 +12,17 @@ use crate::line::put_line;
 use model::Refusal;
 use refusal::{number, place};
 
-// The head of a move sheet, and the head of the crossing report after its moves.
+// The head of a move sheet, and of the crossing report behind its moves.
 pub const MOVE_HEAD_BYTES: usize = 8;
 
 pub const MOVE_HEAD: [u8; MOVE_HEAD_BYTES] = *b"from to\n";
 
 pub const REPORT_HEAD: [u8; 14] = *b"track up down\n";
 
-// Writes the head of a move sheet and the moves of a plan at the front of a list, and answers the
-// place after them.
+// Writes the head of a move sheet and the moves of a plan at the front of a list, and answers the place behind them.
 pub fn put_moves(plan: &[u8], out: &mut [u8]) -> usize
     requires { move_lines_room (length plan.now) ≤ length out.old }
-    ensures written { Written (move_lines (moves_of (was plan))) 0 (was out) result (became out) }
+    ensures { Written (move_lines (moves_of (was plan))) 0 (was out) result (became out) }
 {
     let mut at = put_text(out, 0, &MOVE_HEAD);
     let mut i = 0;
@@ -36,12 +35,11 @@ pub fn put_moves(plan: &[u8], out: &mut [u8]) -> usize
     at
 }
 
-// Writes a head, and below it a line of two values, at the front of a list, and answers their
-// length.
+// Writes a head, and under it a line of two values, at the front of a list, and answers its length.
 pub fn put_pair(head: &[u8], first: usize, second: usize, out: &mut [u8]) -> usize
-    requires { (first < rowUnit) × (second < rowUnit) × (length head.now + pair_room ≤ length out.old) }
-    ensures answer { result ≡ length (was head ++ line (first ∷ second ∷ [])) }
-    ensures list { became out ≡ overwrite (was head ++ line (first ∷ second ∷ [])) (was out) }
+    requires { (first < 1_000_000) × (second < 1_000_000) × (length head.now + pair_room ≤ length out.old) }
+    ensures value { result ≡ length (was head ++ line (first ∷ second ∷ [])) }
+    ensures out_value { became out ≡ overwrite (was head ++ line (first ∷ second ∷ [])) (was out) }
 {
     let at = put_text(out, 0, head);
     put_line(out, at, &[first, second])
@@ -49,9 +47,9 @@ pub fn put_pair(head: &[u8], first: usize, second: usize, out: &mut [u8]) -> usi
 
 // Writes a refusal and its place at the front of a list, and answers its length.
 pub fn put_refused(r: Refusal, out: &mut [u8]) -> usize
-    requires { Row (fault_of r) × (refusal_room ≤ length out.old) }
-    ensures answer { result ≡ length (refusal_sheet (fault_of r)) }
-    ensures list { became out ≡ overwrite (refusal_sheet (fault_of r)) (was out) }
+    requires { Row (paper r) × (refusal_room ≤ length out.old) }
+    ensures value { result ≡ length (refusal_sheet (paper r)) }
+    ensures out_value { became out ≡ overwrite (refusal_sheet (paper r)) (was out) }
 {
     let row = number(r) as usize;
     let at = place(r);

@@ -1,4 +1,4 @@
-// Writes the crossing report: how often each edge is crossed towards the root and away from it.
+// The crossing report: how often each edge (track) is crossed towards the root and away from it.
 ghost use Rattle.std.specs.Prelude.{◌≡◌, ◌+◌, ◌*◌, ◌≤◌, ◌<◌, length};
 ghost use Rattle.model.specs.Yard.{max_size};
 ghost use Rattle.model.specs.Given.{was, became};
@@ -10,7 +10,7 @@ use crate::decimal::put_text;
 use crate::line::put_line;
 use crate::output::REPORT_HEAD;
 
-// Writes the line of the edge of v, and answers the place after it. The root has no line.
+// Writes the line of the edge of v. The root has none.
 fn put_edge(out: &mut [u8], at: usize, v: usize, root: usize, up: u32, down: u32) -> usize
     requires { (v < max_size) × (up < rowUnit) × (down < rowUnit) × (at + edge_room ≤ length out.old) }
     ensures { Written (line_unless_root root v up down) at (was out) result (became out) }
@@ -21,7 +21,7 @@ fn put_edge(out: &mut [u8], at: usize, v: usize, root: usize, up: u32, down: u32
     put_line(out, at, &[v, up as usize, down as usize])
 }
 
-// Writes the lines of all edges in rising order, and answers the place after them.
+// Writes the lines of all edges, in rising number.
 fn put_edges(ups: &[u32], downs: &[u32], root: usize, out: &mut [u8], at: usize) -> usize
     requires { Columns ups.now downs.now × (at + edge_room * length ups.now ≤ length out.old) }
     ensures { Written (edge_lines (was ups) (was downs) root (length (was ups))) at (was out) result (became out) }
@@ -45,10 +45,10 @@ pub fn put_report(
     at: usize,
 ) -> usize
     requires { Columns ups.now downs.now × (total < rowUnit) × (at + report_room (length ups.now) ≤ length out.old) }
-    ensures written { Written (report_of (was ups) (was downs) root total) at (was out) result (became out) }
+    ensures { Written (report_of (was ups) (was downs) root total) at (was out) result (became out) }
 {
     let edges = put_text(out, at, &REPORT_HEAD);
-    let end = put_edges(ups, downs, root, out, edges);
-    let last = put_text(out, end, b"total\n");
+    let behind = put_edges(ups, downs, root, out, edges);
+    let last = put_text(out, behind, b"total\n");
     put_line(out, last, &[total])
 }

@@ -1,8 +1,8 @@
-// Writes four lists as a yard sheet.
+// The writer's call: four lists as a yard sheet.
 ghost use Rattle.std.specs.Prelude.{◌≡◌, ◌≤◌, length};
 ghost use Rattle.model.specs.Given.{given, handed, was, became};
 ghost use Rattle.model.specs.Sheets.{yard_sheet, write_answer, write_list};
-ghost use Rattle.model.specs.Meaning.{answer_of_counted};
+ghost use Rattle.model.specs.Paper.{paper_counted};
 ghost use Rattle.sheet.specs.Written.{SameLength, Written};
 
 use crate::decimal::put_text;
@@ -15,7 +15,7 @@ pub const HEADER_BYTES: usize = 30;
 
 pub const HEADER: [u8; HEADER_BYTES] = *b"berth parent car target depth\n";
 
-// The length of the longest yard sheet.
+// Room for every sheet.
 const SHEET_BYTES: usize = 5_040;
 
 // Writes the sheet of four lists at the front of a list, and answers its length.
@@ -43,10 +43,8 @@ fn put_sheet(
     at
 }
 
-// Writes four lists as a sheet at the front of a list, and answers the bytes written.
-// `NodeCount` (1) and `ListLength` (2), then `ListTooShort` (8) with the bytes needed as its place.
-// A refusal changes nothing. The sheet is written into a local array first, because only then its
-// length is known.
+// Writes four lists as a sheet: refusals 1 and 2, then 8 with the bytes needed if the list is shorter. It answers the bytes written and
+// leaves the others. The sheet is written aside first, since its length is known only then.
 pub fn write_sheet(
     parents: &[u8],
     pebbles: &[u8],
@@ -54,8 +52,8 @@ pub fn write_sheet(
     depths: &[u8],
     sheet: &mut [u8],
 ) -> Counted
-    ensures answer { answer_of_counted result ≡ write_answer (given parents pebbles targets depths) (was sheet) }
-    ensures list { became sheet ≡ write_list (given parents pebbles targets depths) (was sheet) }
+    ensures result_value { paper_counted result ≡ write_answer (given parents pebbles targets depths) (was sheet) }
+    ensures sheet_value { became sheet ≡ write_list (given parents pebbles targets depths) (was sheet) }
 {
     let lengths = test_lengths(parents, pebbles, targets, depths);
     if let Done::Refused(r) = lengths {

@@ -1,4 +1,4 @@
-// Cases of the checker, the trial and the wear.
+// A plan checked or tried, and its wear.
 use cases::kinds::kind;
 use cases::lines::field;
 use cases::lists::{decimal, entries, short};
@@ -7,14 +7,13 @@ use checker::check::check;
 use checker::trial::trial;
 use wear::call::wear;
 
-// Prints the checker's answer.
 fn check_plan(line: &[u8], parents: &[u8], pebbles: &[u8], targets: &[u8], depths: &[u8]) {
     let mut plan = [0u8; 262146];
     let plan = entries(field(line, 6), &mut plan);
     checked(check(parents, pebbles, targets, depths, plan));
 }
 
-// Prints the answer, and the pebble list after the trial.
+// The answer, and the pebble list after the trial.
 fn try_plan(line: &[u8], parents: &[u8], targets: &[u8], depths: &[u8]) {
     let mut pebbles = [0u8; 300];
     let pebbles = entries(field(line, 3), &mut pebbles);
@@ -31,7 +30,6 @@ fn try_plan(line: &[u8], parents: &[u8], targets: &[u8], depths: &[u8]) {
     list(b", pebbles", pebbles);
 }
 
-// Prints the wear.
 fn wear_plan(line: &[u8], parents: &[u8], pebbles: &[u8], targets: &[u8], depths: &[u8]) {
     let mut plan = [0u8; 262146];
     let plan = entries(field(line, 6), &mut plan);
@@ -39,7 +37,6 @@ fn wear_plan(line: &[u8], parents: &[u8], pebbles: &[u8], targets: &[u8], depths
     worn(wear(parents, pebbles, targets, depths, plan, width));
 }
 
-// Runs a case of these kinds; answers whether it is one.
 pub fn case(line: &[u8], parents: &[u8], pebbles: &[u8], targets: &[u8], depths: &[u8]) -> bool {
     match kind(line, b"check 6 | trial 7 | wear 7") {
         0 => check_plan(line, parents, pebbles, targets, depths),

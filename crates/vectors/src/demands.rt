@@ -1,4 +1,4 @@
-// Cases of the demands, the bound, the displaced pebbles, and the longest plan of n nodes.
+// The account call, the bound, the displaced, and the longest plan of n nodes.
 use crate::signed::{signed_list, signed_part};
 use cases::kinds::kind;
 use cases::lines::field;
@@ -8,7 +8,7 @@ use demand::call::demands;
 use figures::bound::{length_bound, longest_plan};
 use figures::displaced::displaced;
 
-// Prints the answer, and the list, whose entries are 9 before the call.
+// The answer, and the list, which is full of 9 before the call.
 fn account(line: &[u8], parents: &[u8], pebbles: &[u8], targets: &[u8], depths: &[u8]) {
     let mut list = [9i16; 300];
     let list = signed_part(field(line, 6), &mut list);
@@ -16,14 +16,13 @@ fn account(line: &[u8], parents: &[u8], pebbles: &[u8], targets: &[u8], depths: 
     signed_list(b", list", list);
 }
 
-// Prints the answer for 256 nodes, and the first two and the last two demands.
+// The answer for 256 nodes, and the first two and the last two demands.
 fn account_ends(parents: &[u8], pebbles: &[u8], targets: &[u8], depths: &[u8]) {
     let mut list = [9i16; 256];
     done(demands(parents, pebbles, targets, depths, &mut list));
     signed_list(b", ends", &[list[0], list[1], list[254], list[255]]);
 }
 
-// Prints the bound and the displaced pebbles.
 fn figures(parents: &[u8], pebbles: &[u8], targets: &[u8], depths: &[u8]) {
     text(b"bound ");
     measured(length_bound(parents, pebbles, targets, depths));
@@ -31,7 +30,6 @@ fn figures(parents: &[u8], pebbles: &[u8], targets: &[u8], depths: &[u8]) {
     counted(displaced(parents, pebbles, targets, depths));
 }
 
-// Runs a case of these kinds; answers whether it is one.
 pub fn case(line: &[u8], parents: &[u8], pebbles: &[u8], targets: &[u8], depths: &[u8]) -> bool {
     match kind(line, b"account 6 | ends 5 | figures 5") {
         0 => account(line, parents, pebbles, targets, depths),
@@ -42,7 +40,7 @@ pub fn case(line: &[u8], parents: &[u8], pebbles: &[u8], targets: &[u8], depths:
     true
 }
 
-// The same for cases that have only a number of nodes.
+// A case on a number of nodes alone.
 pub fn case_alone(line: &[u8]) -> bool {
     match kind(line, b"longest 2") {
         0 => counted(longest_plan(value(field(line, 2)))),

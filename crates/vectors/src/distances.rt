@@ -1,11 +1,11 @@
-// Cases of the nearest pebble, and of the pebbles within reach.
+// The nearest pebble, and those within reach.
 use cases::kinds::kind;
 use cases::lines::field;
 use cases::lists::{part, short, value};
 use cases::print::{counted, list, located};
 use distance::call::{nearest, reach};
 
-// Prints the answer, and the list, whose entries are 9 before the call.
+// The answer, and the list, which is full of 9 before the call.
 fn within(line: &[u8], parents: &[u8], pebbles: &[u8], targets: &[u8], depths: &[u8]) {
     let mut counts = [9u8; 300];
     let counts = part(field(line, 6), &mut counts);
@@ -21,7 +21,6 @@ fn within(line: &[u8], parents: &[u8], pebbles: &[u8], targets: &[u8], depths: &
     list(b", list", counts);
 }
 
-// Runs a case of these kinds; answers whether it is one.
 pub fn case(line: &[u8], parents: &[u8], pebbles: &[u8], targets: &[u8], depths: &[u8]) -> bool {
     match kind(line, b"nearest 6 | reach 8") {
         0 => located(nearest(parents, pebbles, targets, depths, value(field(line, 6)))),

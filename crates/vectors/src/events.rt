@@ -1,4 +1,4 @@
-// Cases of events at a node.
+// Events at a node.
 use crate::signed::{signed_list, signed_part};
 use cases::kinds::kind;
 use cases::lines::{bad, field};
@@ -9,7 +9,7 @@ use demand::call::demands;
 use event::call::event_at;
 use model::Event;
 
-// The entry that a word is, among those that the cases use.
+// An entry, of those that the cases need.
 fn entry(word: &[u8]) -> i16 {
     if same(word, b"2049") {
         return 2049;
@@ -33,15 +33,14 @@ fn entry(word: &[u8]) -> i16 {
     0
 }
 
-// Writes an entry, if the list has the index.
+// Puts an entry at an index, if the list has it.
 fn put(list: &mut [i16], at: usize, entry: i16) {
     if at < list.len() {
         list[at] = entry;
     }
 }
 
-// Prints the answer, and the three lists after the event. Before it, the demand list is the yard's
-// except for one entry.
+// The answer, and the three lists then. The demand list is the yard's, but for one entry.
 fn happen(line: &[u8], parents: &[u8], depths: &[u8], event: Event) {
     let mut pebbles = [0u8; 300];
     let mut targets = [0u8; 300];
@@ -65,7 +64,7 @@ fn happen(line: &[u8], parents: &[u8], depths: &[u8], event: Event) {
     signed_list(b", demands", account);
 }
 
-// The event of the kind at this place.
+// The event of a kind.
 fn named(which: usize) -> Event {
     match which {
         0 => Event::PebbleArrives,
@@ -75,7 +74,6 @@ fn named(which: usize) -> Event {
     }
 }
 
-// Runs a case of these kinds; answers whether it is one.
 pub fn case(line: &[u8], parents: &[u8], depths: &[u8]) -> bool {
     let which = kind(line, b"arrives 9 | leaves 9 | set 9 | cleared 9");
     if which < NONE {

@@ -1,7 +1,6 @@
-// Runs worked cases of the library's calls: document 01's yards and tables, and further cases. Each
-// line of standard input is a case. Its first field is its kind. The output has a line for each
-// case: its label, and then what the call gave. Each module has the kinds of one subject, and its
-// function `case` answers whether a case is of one of them.
+// Worked cases of the library's calls: document 01's yards and tables, and cases beside them. Each line of standard input is a case, which goes by its
+// kind, the first field, and of the output too: the case's label, and then what the call gave. The kinds of one subject stand in a module, whose function
+// `case` answers whether the case was one of them.
 #![tactic(auto)]
 
 mod checks;
@@ -21,7 +20,7 @@ use cases::lists::{NONE, entries};
 use cases::print::{end, label};
 use yard::state::Yard;
 
-// Runs a case on four lists: the module that knows its kind runs it.
+// A case on four lists: each module is asked whether it is one of its own.
 fn on_lists(line: &[u8], parents: &[u8], pebbles: &[u8], targets: &[u8], depths: &[u8]) {
     let known = yards::case(line, parents, pebbles, targets, depths)
         | demands::case(line, parents, pebbles, targets, depths)
@@ -36,7 +35,7 @@ fn on_lists(line: &[u8], parents: &[u8], pebbles: &[u8], targets: &[u8], depths:
     }
 }
 
-// Runs a case whose fields after the label begin with a yard's four lists.
+// A case whose fields behind the label begin with a yard's four lists.
 fn with_lists(line: &[u8]) {
     let mut parents = [0u8; 300];
     let mut pebbles = [0u8; 300];
@@ -49,7 +48,7 @@ fn with_lists(line: &[u8]) {
     on_lists(line, parents, pebbles, targets, depths);
 }
 
-// Runs a case with the yard state that the case before it left; answers the state after it.
+// A case, with the yard state of the case before it; the state after it.
 fn case(line: &[u8], yard: Yard) -> Yard {
     let which = states::state_kind(line);
     if which < NONE {
@@ -62,8 +61,8 @@ fn case(line: &[u8], yard: Yard) -> Yard {
     yard
 }
 
-// Runs a line of the input: a case, a comment or an empty line.
-fn run_line(line: &[u8], yard: Yard) -> Yard {
+// A line of the input, which is a case, a comment or empty.
+fn told(line: &[u8], yard: Yard) -> Yard {
     if !is_case(line) {
         return yard;
     }
@@ -73,12 +72,11 @@ fn run_line(line: &[u8], yard: Yard) -> Yard {
     next
 }
 
-// Runs all lines of the input.
 fn run(input: &[u8]) {
     let mut yard = Yard::new();
     let mut at = 0;
     while at < input.len() {
-        yard = run_line(line_at(input, at), yard);
+        yard = told(line_at(input, at), yard);
         at = next_line(input, at);
     }
 }

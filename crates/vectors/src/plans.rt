@@ -1,5 +1,4 @@
-// Cases of the planner, for a whole yard and part by part, and of the moves that a plan can start
-// with.
+// A yard planned into a list, whole or part by part, and the moves that a plan can start with.
 use cases::kinds::kind;
 use cases::lines::field;
 use cases::lists::{entries, part};
@@ -8,7 +7,7 @@ use openings::call::openings;
 use parts::plan::plan_parts;
 use planner::plan::plan;
 
-// Prints the answer, and the whole list.
+// The answer, and the whole list.
 fn plan_short(line: &[u8], parents: &[u8], pebbles: &[u8], targets: &[u8], depths: &[u8]) {
     let mut moves = [0u8; 262144];
     let moves = entries(field(line, 6), &mut moves);
@@ -16,15 +15,14 @@ fn plan_short(line: &[u8], parents: &[u8], pebbles: &[u8], targets: &[u8], depth
     list(b", list", moves);
 }
 
-// Prints the first and the last four bytes of a list, and its digest.
+// The first and the last four bytes of a list, and its digest.
 fn ends(name: &[u8], bytes: &[u8]) {
     first(name, bytes, 4);
     last(b", last", bytes, 4);
     digest(b", digest ", bytes);
 }
 
-// Prints the answer for the first n bytes of the list, where a field says n; then the ends of the
-// whole list.
+// The answer for the first bytes of the list, as many as a field says; then the first two and the last two moves of the list, and its digest.
 fn plan_long(line: &[u8], parents: &[u8], pebbles: &[u8], targets: &[u8], depths: &[u8]) {
     let mut moves = [0u8; 262144];
     let moves = entries(field(line, 6), &mut moves);
@@ -38,7 +36,7 @@ fn plan_long(line: &[u8], parents: &[u8], pebbles: &[u8], targets: &[u8], depths
     ends(b", first", moves);
 }
 
-// Prints the answer, and both lists.
+// The answer, and both lists.
 fn parts_short(line: &[u8], parents: &[u8], pebbles: &[u8], targets: &[u8], depths: &[u8]) {
     let mut moves = [0u8; 262144];
     let mut parts = [0u8; 300];
@@ -49,7 +47,7 @@ fn parts_short(line: &[u8], parents: &[u8], pebbles: &[u8], targets: &[u8], dept
     list(b", parts", parts);
 }
 
-// Prints the answer, and the ends of both lists.
+// The answer, and the ends of both lists.
 fn parts_long(line: &[u8], parents: &[u8], pebbles: &[u8], targets: &[u8], depths: &[u8]) {
     let mut moves = [0u8; 262144];
     let mut parts = [0u8; 300];
@@ -60,7 +58,7 @@ fn parts_long(line: &[u8], parents: &[u8], pebbles: &[u8], targets: &[u8], depth
     ends(b", parts", parts);
 }
 
-// Prints the answer, and the whole list.
+// The answer, and the whole list.
 fn openings_short(line: &[u8], parents: &[u8], pebbles: &[u8], targets: &[u8], depths: &[u8]) {
     let mut moves = [0u8; 600];
     let moves = entries(field(line, 6), &mut moves);
@@ -68,7 +66,7 @@ fn openings_short(line: &[u8], parents: &[u8], pebbles: &[u8], targets: &[u8], d
     list(b", list", moves);
 }
 
-// Prints the answer, and the ends of the list.
+// The answer, and the ends of the list.
 fn openings_long(line: &[u8], parents: &[u8], pebbles: &[u8], targets: &[u8], depths: &[u8]) {
     let mut moves = [0u8; 600];
     let moves = entries(field(line, 6), &mut moves);
@@ -76,7 +74,6 @@ fn openings_long(line: &[u8], parents: &[u8], pebbles: &[u8], targets: &[u8], de
     ends(b", first", moves);
 }
 
-// Runs a case of these kinds; answers whether it is one.
 pub fn case(line: &[u8], parents: &[u8], pebbles: &[u8], targets: &[u8], depths: &[u8]) -> bool {
     match kind(
         line,

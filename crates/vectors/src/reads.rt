@@ -1,11 +1,11 @@
-// Cases of the reader of yard sheets.
+// Yard sheets read.
 use cases::kinds::kind;
 use cases::lines::{bad, field};
 use cases::lists::{front, part};
 use cases::print::{counted, first};
 use reader::read::read_sheet;
 
-// The byte that a sign in a case stands for.
+// A sheet's byte, by the sign for it in a case.
 fn meant(sign: u8) -> u8 {
     match sign {
         b'~' => b'\n',
@@ -15,7 +15,7 @@ fn meant(sign: u8) -> u8 {
     }
 }
 
-// Writes the bytes that signs stand for at the front of a list; answers their number.
+// The bytes that signs are for, into the front of a list; how many.
 fn spell(signs: &[u8], sheet: &mut [u8]) -> usize {
     if signs.len() > sheet.len() {
         bad(signs);
@@ -29,13 +29,13 @@ fn spell(signs: &[u8], sheet: &mut [u8]) -> usize {
     i
 }
 
-// Writes the sheet that a field says at the front of a list; answers that front.
+// The sheet that a field says, in the front of a list.
 fn spelled<'a>(signs: &[u8], sheet: &'a mut [u8]) -> &'a mut [u8] {
     let count = spell(signs, sheet);
     front(sheet, count)
 }
 
-// Prints the answer, and the first four entries of each list, whose entries are 7 before the call.
+// After the answer come the first four entries of each list, which held 7 before.
 fn read_small(line: &[u8]) {
     let mut sheet = [0u8; 300];
     let sheet = spelled(field(line, 2), &mut sheet);
@@ -50,7 +50,7 @@ fn read_small(line: &[u8]) {
     first(b", depths", &depths, 4);
 }
 
-// Prints the answer for lists of the lengths that the fields say.
+// The answer for lists as long as the fields say.
 fn read_to_lists(line: &[u8]) {
     let mut sheet = [0u8; 300];
     let sheet = spelled(field(line, 2), &mut sheet);
@@ -65,7 +65,6 @@ fn read_to_lists(line: &[u8]) {
     counted(read_sheet(sheet, parents, pebbles, targets, depths));
 }
 
-// Runs a case of these kinds; answers whether it is one.
 pub fn case(line: &[u8]) -> bool {
     match kind(line, b"read 2 | lists 6") {
         0 => read_small(line),

@@ -1,10 +1,10 @@
-// Lists of demands: their parts, and printing them.
+// Lists of demands: parts of them, and in print.
 use cases::lines::bad;
 use cases::lists::value;
 use cases::print::{figure, text};
 use demand::signed::size;
 
-// The first n entries of a list, where a field says n.
+// As many of a list's first entries as a field says.
 pub fn signed_part<'a>(digits: &[u8], list: &'a mut [i16]) -> &'a mut [i16] {
     let n = value(digits);
     if n < list.len() {
@@ -14,7 +14,7 @@ pub fn signed_part<'a>(digits: &[u8], list: &'a mut [i16]) -> &'a mut [i16] {
     list
 }
 
-// The size of a number, or 9,999 for a number outside −2,048 to 2,048: no demand lies outside.
+// A number's size, and 9,999 for a number outside −2,048 to 2,048, which no demand is.
 fn magnitude(x: i16) -> usize {
     if x < -2048 {
         return 9999;
@@ -25,7 +25,6 @@ fn magnitude(x: i16) -> usize {
     size(x)
 }
 
-// Prints an entry with its sign.
 fn signed_entry(x: i16) {
     if x < 0 {
         figure(b" -", magnitude(x));
@@ -34,7 +33,7 @@ fn signed_entry(x: i16) {
     figure(b" ", magnitude(x));
 }
 
-// Prints the name of a list, then its entries.
+// A list with its name before it.
 pub fn signed_list(name: &[u8], list: &[i16]) {
     text(name);
     let mut i = 0;

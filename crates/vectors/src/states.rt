@@ -1,12 +1,10 @@
-// Cases of yard states and their pushes. The output ends with the size and the first four pebbles
-// of the yard after the case.
+// Yard states, and pushes of them. What is told ends with the size and the first four pebbles of the yard that came back.
 use cases::kinds::kind;
 use cases::lines::field;
 use cases::lists::{entries, value};
 use cases::print::{done, figure, first};
 use yard::state::{Answered, Yard};
 
-// Prints an answer and its yard; answers the yard.
 fn show(a: Answered) -> Yard {
     let answer = a.answer;
     let yard = a.yard;
@@ -17,14 +15,14 @@ fn show(a: Answered) -> Yard {
     yard
 }
 
-// Pushes; two fields say the nodes.
+// A push; its nodes stand in two fields.
 fn push_state(line: &[u8], yard: Yard, from_field: usize, to_field: usize) -> Yard {
     let from = value(field(line, from_field));
     let to = value(field(line, to_field));
     show(yard.push(from, to))
 }
 
-// Makes a yard from lists.
+// A yard made from lists.
 fn made(line: &[u8]) -> Yard {
     let mut parents = [0u8; 300];
     let mut pebbles = [0u8; 300];
@@ -37,7 +35,7 @@ fn made(line: &[u8]) -> Yard {
     show(Yard::from_lists(parents, pebbles, targets, depths))
 }
 
-// The state that the fields say, with zeros after each list.
+// A state as it stands in the fields, with zeros behind each list.
 fn state(line: &[u8]) -> Yard {
     let mut parents = [0u8; 256];
     let mut pebbles = [0u8; 256];
@@ -57,12 +55,12 @@ fn state(line: &[u8]) -> Yard {
     }
 }
 
-// The place of a case's kind among the kinds of states, or `NONE`.
+// Which of the kinds of a state a case is of.
 pub fn state_kind(line: &[u8]) -> usize {
     kind(line, b"fresh 3 | made 5 | then 3 | state 8")
 }
 
-// Runs a case of the kind at this place with the yard before it; answers the yard after it.
+// A case of such a kind, with the yard before it; the yard that came back.
 pub fn case(line: &[u8], which: usize, yard: Yard) -> Yard {
     match which {
         0 => push_state(line, Yard::new(), 2, 3),

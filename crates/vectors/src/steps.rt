@@ -1,11 +1,11 @@
-// Cases of the pusher cabinet's step.
+// Steps of the pusher cabinet.
 use cabinet::call::step_block;
 use cases::kinds::kind;
 use cases::lines::field;
 use cases::lists::{NONE, entries};
 use cases::print::{list, signalled};
 
-// Prints the answer, and the pebbles and the block after the step.
+// The answer, the pebbles and the block then.
 fn step(line: &[u8], parents: &[u8], targets: &[u8], depths: &[u8], failed: bool) {
     let mut pebbles = [0u8; 300];
     let mut plan = [0u8; 262146];
@@ -18,7 +18,6 @@ fn step(line: &[u8], parents: &[u8], targets: &[u8], depths: &[u8], failed: bool
     list(b", block", block);
 }
 
-// Runs a case of these kinds; answers whether it is one.
 pub fn case(line: &[u8], parents: &[u8], targets: &[u8], depths: &[u8]) -> bool {
     let which = kind(line, b"step 7 | fails 7");
     if which < NONE {

@@ -1,4 +1,4 @@
-// Cases of the writer of yard sheets, and of the reader of written sheets.
+// Yard sheets written, and read back.
 use cases::kinds::kind;
 use cases::lines::field;
 use cases::lists::part;
@@ -6,7 +6,7 @@ use cases::print::{counted, digest, text};
 use reader::read::read_sheet;
 use sheet::writer::write_sheet;
 
-// Prints the answer, and the list, in which a line feed begins a line.
+// The answer, and the list; a line feed in it begins a line.
 fn write_small(line: &[u8], parents: &[u8], pebbles: &[u8], targets: &[u8], depths: &[u8]) {
     let mut sheet = [b'.'; 5041];
     let sheet = part(field(line, 6), &mut sheet);
@@ -15,8 +15,7 @@ fn write_small(line: &[u8], parents: &[u8], pebbles: &[u8], targets: &[u8], dept
     text(sheet);
 }
 
-// Prints the answer for the first n bytes of the list, where a field says n; then digests of the
-// parents and of the list.
+// The answer for the first bytes of the list, as many as a field says; then digests of the parents and of the list.
 fn write_long(line: &[u8], parents: &[u8], pebbles: &[u8], targets: &[u8], depths: &[u8]) {
     let mut sheet = [b'.'; 5041];
     let sheet = part(field(line, 6), &mut sheet);
@@ -31,7 +30,7 @@ fn write_long(line: &[u8], parents: &[u8], pebbles: &[u8], targets: &[u8], depth
     digest(b", list ", sheet);
 }
 
-// Prints what a sheet says.
+// What a sheet says.
 fn read_back(sheet: &[u8]) {
     let mut parents = [0u8; 256];
     let mut pebbles = [0u8; 256];
@@ -44,7 +43,7 @@ fn read_back(sheet: &[u8]) {
     digest(b", depths ", &depths);
 }
 
-// Writes a sheet, and prints what its first n bytes say, where a field says n.
+// What the first bytes of a written sheet say, as many as a field says.
 fn write_and_read(line: &[u8], parents: &[u8], pebbles: &[u8], targets: &[u8], depths: &[u8]) {
     let mut sheet = [b'.'; 5041];
     let sheet = part(field(line, 6), &mut sheet);
@@ -53,7 +52,6 @@ fn write_and_read(line: &[u8], parents: &[u8], pebbles: &[u8], targets: &[u8], d
     read_back(sheet);
 }
 
-// Runs a case of these kinds; answers whether it is one.
 pub fn case(line: &[u8], parents: &[u8], pebbles: &[u8], targets: &[u8], depths: &[u8]) -> bool {
     match kind(line, b"write 6 | long-sheet 7 | back 7") {
         0 => write_small(line, parents, pebbles, targets, depths),

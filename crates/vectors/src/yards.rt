@@ -1,4 +1,4 @@
-// Cases of the test of a yard, and of one push.
+// The test of a yard, and one push of its lists.
 use cases::kinds::kind;
 use cases::lines::field;
 use cases::lists::{entries, value};
@@ -6,7 +6,7 @@ use cases::print::{done, last, list};
 use judge::test::test_yard;
 use yard::push::push_lists;
 
-// Prints the answer, and the pebble list after the push: all of it, or its last two entries.
+// The answer, and the pebble list after the push: the whole of it, or its last two entries.
 fn push(line: &[u8], parents: &[u8], targets: &[u8], depths: &[u8], whole: bool) {
     let mut pebbles = [0u8; 300];
     let pebbles = entries(field(line, 3), &mut pebbles);
@@ -20,7 +20,6 @@ fn push(line: &[u8], parents: &[u8], targets: &[u8], depths: &[u8], whole: bool)
     last(b", last pebbles", pebbles, 2);
 }
 
-// Runs a case of these kinds; answers whether it is one.
 pub fn case(line: &[u8], parents: &[u8], pebbles: &[u8], targets: &[u8], depths: &[u8]) -> bool {
     match kind(line, b"test 5 | push 7 | last 7") {
         0 => done(test_yard(parents, pebbles, targets, depths)),

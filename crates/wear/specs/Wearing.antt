@@ -1,56 +1,38 @@
 -- What counting within a stretch asks and gives.
 use Rattle.std.specs.Prelude.{cond, List, ℕ, ◌+◌, ◌-◌, ◌*◌, ◌≤◌, ◌<◌, length, get_or, set, eqb}
 use Rattle.std.proofs.Math.Option.{Option, none, some}
-use Rattle.model.specs.Yard.{Yard, up}
-use Rattle.model.specs.Judge.{Fault, first_of}
-use Rattle.model.specs.Push.{Move, push, after}
-use Rattle.model.specs.Wear as Wear
-use Rattle.model.specs.Calls.Answers.{Answer, answer}
+use Rattle.model.specs.Yard.{up}
+use Rattle.model.specs.Judge.{Fault}
+use Rattle.model.specs.Push.{Move, push}
 use Rattle.model.specs.Calls.Plans.{moves_of}
-use Rattle.model.specs.Calls.Checks.{within, moves_fault, obey_tests}
+use Rattle.model.specs.Calls.Checks.{within}
 
 -- a plan's move i, and its edge, by its bytes
 abbrev pub move_in : List ℕ → ℕ → Move
 move_in plan i = push (get_or plan (2 * i) 0) (get_or plan (2 * i + 1) 0)
 
 abbrev pub edge_in : List ℕ → List ℕ → ℕ → ℕ
-edge_in parents plan i =
-    let from = get_or plan (2 * i) 0 in
-    let to = get_or plan (2 * i + 1) 0 in
-    cond (eqb (up parents from) to) from to
+edge_in parents plan i = let from = get_or plan (2 * i) 0 in let to = get_or plan (2 * i + 1) 0 in cond (eqb (up parents from) to) from to
 
--- the moves of a plan that are obeyed where the first refused one ends it: all of them, or those
--- before it, which are as many as the refusal's place says
+-- the moves of a plan that are obeyed where the first refused one ends it: all of them, or those before it, which are as many as the refusal's place says
 abbrev pub obeyed_of : Option Fault → List ℕ → List Move
 obeyed_of none plan = moves_of plan
 obeyed_of (some f) plan = within plan f.place
 
--- what obeying and counting answers, and the pebbles that it leaves
-abbrev pub worn_of : Yard → List ℕ → ℕ → Answer Wear.Wear
-worn_of y plan width = answer (moves_fault 0 y (moves_of plan)) (Wear.wear y width (moves_of plan))
-
-abbrev pub pebbles_after : Yard → List ℕ → List ℕ
-pebbles_after y plan = after y (obeyed_of (moves_fault 0 y (moves_of plan)) plan)
-
--- what a whole plan's wear answers, by its moves and the yard at the end
-abbrev pub worn_at_end : Yard → List ℕ → ℕ → Answer Wear.Wear
-worn_at_end y plan width = answer (first_of (obey_tests y (moves_of plan))) (Wear.wear y width (moves_of plan))
-
 -- a width from 1 to the number of moves, which are not too many
-pub record WearPre (plan : List ℕ) (w : ℕ) : Type 0 where
+pub record AskedWear (plan : List ℕ) (w : ℕ) : Type 0 where
   pub some : 0 < w
   pub wide : w ≤ length (moves_of plan)
   pub few : length (moves_of plan) ≤ 131_072
 
--- one crossing less of one edge, and one more of another
+-- one crossing less of one edge, then one more of another; what that asks
 abbrev pub taken : List ℕ → ℕ → List ℕ
 taken counts gone = set counts gone (get_or counts gone 0 - 1)
 
 abbrev pub added : List ℕ → ℕ → List ℕ
 added counts come = set counts come (get_or counts come 0 + 1)
 
--- what shifting the crossings by one move asks
-pub record ShiftPre (counts : List ℕ) (come gone : ℕ) : Type 0 where
+pub record AskedShift (counts : List ℕ) (come gone : ℕ) : Type 0 where
   pub come_lt : come < 256
   pub gone_lt : gone < 256
   pub some : 0 < get_or counts gone 0

@@ -1,11 +1,14 @@
 // The call.
 ghost use Rattle.std.specs.Prelude.{◌≡◌, ◌&&◌, ◌≤◌, ◌<◌, length, leb, ltb};
 ghost use Rattle.model.specs.Given.{given, handed, was};
-ghost use Rattle.model.specs.Judge.{Tree};
+ghost use Rattle.model.specs.Judge.{first_of, Tree};
+ghost use Rattle.model.specs.Wear as Wear;
+ghost use Rattle.model.specs.Calls.Answers.{answer};
 ghost use Rattle.model.specs.Calls.Plans.{moves_of};
+ghost use Rattle.model.specs.Calls.Checks.{obey_tests};
 ghost use Rattle.model.specs.Calls.Wear.{wear_answer};
-ghost use Rattle.model.specs.Meaning.{answer_of_worn};
-ghost use Rattle.wear.specs.Wearing.{worn_at_end, WearPre};
+ghost use Rattle.model.specs.Paper.{paper_worn};
+ghost use Rattle.wear.specs.Wearing.{AskedWear};
 
 use crate::count::count_copy;
 use checker::check::test_plan;
@@ -14,8 +17,7 @@ use judge::totals::test_matched;
 use lists::find::first_below;
 use model::{Done, Refusal, Worn};
 
-// Obeys a whole plan on a copy of the pebbles of a tree, counting: refusals 10 to 13 move by move,
-// then 14.
+// Obeys a whole plan on a copy of the pebbles of a tree, counting: refusals 10 to 13 move by move, then 14.
 fn wear_to_end(
     parents: &[u8],
     pebbles: &[u8],
@@ -24,8 +26,8 @@ fn wear_to_end(
     plan: &[u8],
     width: usize,
 ) -> Worn
-    requires { Tree (handed parents pebbles targets depths) × WearPre plan.now width }
-    ensures { answer_of_worn result ≡ worn_at_end (given parents pebbles targets depths) (was plan) width }
+    requires { Tree (handed parents pebbles targets depths) × AskedWear plan.now width }
+    ensures { paper_worn result ≡ answer (first_of (obey_tests (given parents pebbles targets depths) (moves_of (was plan)))) (Wear.wear (given parents pebbles targets depths) width (moves_of (was plan))) }
 {
     let n = parents.len();
     let mut counts = [0u8; 256];
@@ -43,7 +45,7 @@ fn wear_to_end(
     }
     let empty = first_below(&counts[..n], targets);
     if empty < n {
-        return Worn::Refused(Refusal::TargetUnmet(empty));
+        return Worn::Refused(Refusal::TargetEmpty(empty));
     }
     worn
 }
@@ -58,7 +60,7 @@ fn wear_of_stretches(
     width: usize,
 ) -> Worn
     requires { (0 < width) × (width ≤ length (moves_of plan.now)) }
-    ensures { answer_of_worn result ≡ wear_answer (given parents pebbles targets depths) (was plan) width }
+    ensures { paper_worn result ≡ wear_answer (given parents pebbles targets depths) (was plan) width }
 {
     let tested = test_matched(parents, pebbles, targets, depths);
     if let Done::Refused(r) = tested {
@@ -70,7 +72,7 @@ fn wear_of_stretches(
     wear_to_end(parents, pebbles, targets, depths, plan, width)
 }
 
-// Whether a plan has a stretch of this width; else it is refused with `Width` (28).
+// Whether a plan has a stretch of this width: else refusal 28 meets it.
 fn has_stretch(plan: &[u8], width: usize) -> bool
     ensures { result ≡ (ltb 0 width) && (leb width (length (moves_of (was plan)))) }
 {
@@ -80,10 +82,8 @@ fn has_stretch(plan: &[u8], width: usize) -> bool
     width <= plan.len() / 2
 }
 
-// The most crossings of one edge within any `width` moves in a row of an accepted plan, the first
-// move of the first stretch that has them, and the lowest such edge in it. Refusal 28 if the width
-// is 0 or more than the number of moves; the checker's refusals come first. Linear in moves and
-// nodes, whatever the width is.
+// The most crossings of one edge within any `width` moves in a row of an accepted plan, the first move of the first stretch that has them, and the lowest such
+// edge in it. Refused as by the checker, then with 28 for a width of 0 or above the number of moves. Linear in moves and nodes, whatever the width is.
 pub fn wear(
     parents: &[u8],
     pebbles: &[u8],
@@ -92,7 +92,7 @@ pub fn wear(
     plan: &[u8],
     width: u32,
 ) -> Worn
-    ensures answer { answer_of_worn result ≡ wear_answer (given parents pebbles targets depths) (was plan) width }
+    ensures { paper_worn result ≡ wear_answer (given parents pebbles targets depths) (was plan) width }
 {
     if has_stretch(plan, width as usize) {
         return wear_of_stretches(parents, pebbles, targets, depths, plan, width as usize);

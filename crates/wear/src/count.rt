@@ -1,29 +1,31 @@
-// How often edges are crossed within a stretch of a plan's moves, counted while they are obeyed.
+// How often edges are crossed within a stretch of a plan's moves, counted while the moves are obeyed.
 ghost use Rattle.std.specs.Prelude.{◌≡◌, ◌+◌, ◌*◌, ◌≤◌, ◌<◌, length, get_or, eqb};
-ghost use Rattle.model.specs.Numbers as Numbers;
-ghost use Rattle.model.specs.Numbers.{lowest};
+ghost use Rattle.model.specs.Yard as Yard;
+ghost use Rattle.model.specs.Yard.{lowest};
 ghost use Rattle.model.specs.Given.{given, handed, was, became};
 ghost use Rattle.model.specs.Judge.{Tree};
-ghost use Rattle.model.specs.Push.{move_fault, shifted};
-ghost use Rattle.model.specs.Calls.Answers.{newUnlessRefused};
-ghost use Rattle.model.specs.Meaning.{fault_of_done, answer_of_worn};
+ghost use Rattle.model.specs.Push.{move_fault, shifted, after};
+ghost use Rattle.model.specs.Wear as Wear;
+ghost use Rattle.model.specs.Calls.Answers.{answer, lent};
+ghost use Rattle.model.specs.Calls.Plans.{moves_of};
+ghost use Rattle.model.specs.Calls.Checks.{moves_fault};
+ghost use Rattle.model.specs.Paper.{paper_done, paper_worn};
 ghost use Rattle.yard.specs.Given.{given_bare, Alike};
-ghost use Rattle.wear.specs.Wearing.{move_in, edge_in, taken, added, worn_of, pebbles_after};
-ghost use Rattle.wear.specs.Wearing.{WearPre, ShiftPre};
+ghost use Rattle.wear.specs.Wearing.{move_in, edge_in, taken, added, obeyed_of, AskedWear, AskedShift};
 
 use lists::copy::copy;
-use lists::numbers::index;
 use model::{Done, Worn};
+use serve::choose::wide;
 use yard::step::step;
 
 // Makes move i of a plan, or refuses it.
 fn obey_move(parents: &[u8], pebbles: &mut [u8], depths: &[u8], plan: &[u8], i: usize) -> Done
     requires { Alike parents pebbles depths × (2 * i + 1 < length plan.now) }
-    ensures result_value { fault_of_done result ≡ move_fault (given_bare parents pebbles depths) (move_in (was plan) i) i }
-    ensures pebbles_value { became pebbles ≡ newUnlessRefused (fault_of_done result) (shifted (was pebbles) (move_in (was plan) i)) (was pebbles) }
+    ensures result_value { paper_done result ≡ move_fault (given_bare parents pebbles depths) (move_in (was plan) i) i }
+    ensures pebbles_value { became pebbles ≡ lent (paper_done result) (shifted (was pebbles) (move_in (was plan) i)) (was pebbles) }
 {
-    let from = index(plan[2 * i]);
-    let to = index(plan[2 * i + 1]);
+    let from = wide(plan[2 * i]);
+    let to = wide(plan[2 * i + 1]);
     step(parents, pebbles, depths, from, to, i)
 }
 
@@ -32,18 +34,18 @@ fn edge_at(parents: &[u8], plan: &[u8], i: usize) -> usize
     requires { (2 * i + 1 < length plan.now) × (get_or plan.now (2 * i) 0 < length parents.now) }
     ensures { result ≡ edge_in (was parents) (was plan) i }
 {
-    let from = index(plan[2 * i]);
-    let to = index(plan[2 * i + 1]);
-    if index(parents[from]) == to {
+    let from = wide(plan[2 * i]);
+    let to = wide(plan[2 * i + 1]);
+    if wide(parents[from]) == to {
         return from;
     }
     to
 }
 
-// The greatest of the first n entries. Each is looked at, so that many can be looked at at once.
+// The greatest of the first n entries, each of which is looked at, so that many can be at once.
 fn most_crossings(counts: &[u32; 256], n: usize) -> u32
     requires { n ≤ 256 }
-    ensures { result ≡ Numbers.most n (λ v. get_or (was counts) v 0) }
+    ensures { result ≡ Yard.most n (λ v. get_or (was counts) v 0) }
 {
     let mut most = 0;
     let mut v = 0;
@@ -72,10 +74,9 @@ fn lowest_edge(counts: &[u32; 256], n: usize, crossings: u32) -> usize
     n
 }
 
-// How often the edge of the move that comes in is crossed, after one crossing less of the edge of
-// the move that goes.
+// One crossing less of the edge of the move that goes, and one more of that of the move that comes in. Answers how often the latter is crossed then.
 fn shift(counts: &mut [u32; 256], come: usize, gone: usize) -> u32
-    requires { ShiftPre counts.old come gone }
+    requires { AskedShift counts.old come gone }
     ensures { (became counts ≡ added (taken (was counts) gone) come) × (result ≡ get_or (taken (was counts) gone) come 0 + 1) }
 {
     counts[gone] -= 1;
@@ -84,10 +85,8 @@ fn shift(counts: &mut [u32; 256], come: usize, gone: usize) -> u32
     crossings
 }
 
-// The wear of a plan, which is obeyed on the pebbles of a tree: the crossings of the first stretch
-// are counted, then those of each next stretch to the end. Only the edge of the move that comes in
-// can be crossed more often than before, so it alone is compared with the most so far. The first
-// refused move ends the count; the moves before it are obeyed, so callers lend a copy.
+// Obeys a plan on the pebbles of a tree, and counts the crossings: those of the first stretch, then from stretch to stretch to the end of the plan. The edge of the move that
+// comes in alone can be crossed more often than before, so only that one is compared with the most so far, and the last move of the worst stretch tells its edge. A refusal is that of the first move that is refused; the moves before it are obeyed, so callers lend a copy.
 fn obey_and_count(
     parents: &[u8],
     pebbles: &mut [u8],
@@ -96,9 +95,9 @@ fn obey_and_count(
     plan: &[u8],
     width: usize,
 ) -> Worn
-    requires { Tree (handed parents pebbles targets depths) × WearPre plan.now width }
-    ensures result_value { answer_of_worn result ≡ worn_of (given parents pebbles targets depths) (was plan) width }
-    ensures pebbles_value { became pebbles ≡ pebbles_after (given parents pebbles targets depths) (was plan) }
+    requires { Tree (handed parents pebbles targets depths) × AskedWear plan.now width }
+    ensures result_value { paper_worn result ≡ answer (moves_fault 0 (given parents pebbles targets depths) (moves_of (was plan))) (Wear.wear (given parents pebbles targets depths) width (moves_of (was plan))) }
+    ensures pebbles_value { became pebbles ≡ after (given parents pebbles targets depths) (obeyed_of (moves_fault 0 (given parents pebbles targets depths) (moves_of (was plan))) (was plan)) }
 {
     let mut counts = [0u32; 256];
     let mut i = 0;
@@ -139,7 +138,7 @@ fn obey_and_count(
     )
 }
 
-// The same on a copy of the pebbles, which is written to `counts`.
+// The same, on a copy of the pebbles: `counts` is written, whatever it held.
 pub fn count_copy(
     parents: &[u8],
     pebbles: &[u8],
@@ -149,10 +148,10 @@ pub fn count_copy(
     plan: &[u8],
     width: usize,
 ) -> Worn
-    requires tree { Tree (handed parents pebbles targets depths) × WearPre plan.now width }
+    requires tree { Tree (handed parents pebbles targets depths) × AskedWear plan.now width }
     requires counts_len { length counts.old ≡ length pebbles.now }
-    ensures answer { answer_of_worn result ≡ worn_of (given parents pebbles targets depths) (was plan) width }
-    ensures counts { became counts ≡ pebbles_after (given parents pebbles targets depths) (was plan) }
+    ensures result_value { paper_worn result ≡ answer (moves_fault 0 (given parents pebbles targets depths) (moves_of (was plan))) (Wear.wear (given parents pebbles targets depths) width (moves_of (was plan))) }
+    ensures counts_value { became counts ≡ after (given parents pebbles targets depths) (obeyed_of (moves_fault 0 (given parents pebbles targets depths) (moves_of (was plan))) (was plan)) }
 {
     copy(pebbles, counts);
     obey_and_count(parents, counts, targets, depths, plan, width)

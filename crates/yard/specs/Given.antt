@@ -1,5 +1,4 @@
--- The yard of three lent lists, parents, pebbles and depths, in one word for contracts: refusals 10
--- to 13 read no targets.
+-- The yard of three lent lists, parents, pebbles and depths, in one word for contracts: refusals 10 to 13 read no targets.
 use Rattle.std.specs.Prelude.{◌≡◌, List, [], ℕ, length}
 use Rattle.std.specs.Borrow.{Bor}
 use denote.Triple.Both.{Both}

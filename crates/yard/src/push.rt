@@ -2,14 +2,13 @@
 ghost use Rattle.std.specs.Prelude.{◌≡◌};
 ghost use Rattle.model.specs.Given.{given, became};
 ghost use Rattle.model.specs.Push.{push, push_fault, pushed_pebbles};
-ghost use Rattle.model.specs.Meaning.{fault_of_done};
+ghost use Rattle.model.specs.Paper.{paper_done};
 
 use crate::step::step;
 use judge::test::test_yard;
 use model::Done;
 
-// The tests of the yard, then the step: refusals 1 to 6, then 10 to 13 with place 0. Refused, the
-// pebbles stay as they were.
+// The tests of the yard, then the step: refusals 1 to 6, then 10 to 13 with place 0. Refused, the pebbles stay as they were.
 pub fn push_lists(
     parents: &[u8],
     pebbles: &mut [u8],
@@ -18,8 +17,8 @@ pub fn push_lists(
     from: usize,
     to: usize,
 ) -> Done
-    ensures answer { fault_of_done result ≡ push_fault (given parents pebbles targets depths) (push from to) }
-    ensures list { became pebbles ≡ pushed_pebbles (given parents pebbles targets depths) (push from to) }
+    ensures result_value { paper_done result ≡ push_fault (given parents pebbles targets depths) (push from to) }
+    ensures pebbles_value { became pebbles ≡ pushed_pebbles (given parents pebbles targets depths) (push from to) }
 {
     let tested = test_yard(parents, pebbles, targets, depths);
     if let Done::Refused(r) = tested {

@@ -4,7 +4,7 @@ ghost use Rattle.model.specs.Yard.{max_size, fresh};
 ghost use Rattle.model.specs.Given.{given, was};
 ghost use Rattle.model.specs.Judge.{judge};
 ghost use Rattle.model.specs.Push.{push, push_fault, pushed};
-ghost use Rattle.model.specs.Meaning.{fault_of_done};
+ghost use Rattle.model.specs.Paper.{paper_done};
 ghost use Rattle.yard.specs.State as State;
 ghost use Rattle.yard.specs.State.{yard_in, state_of, or_fresh, state_after};
 
@@ -47,12 +47,12 @@ impl Yard {
     // The largest yard.
     pub const MAX: usize = 256;
 
-    // A fresh yard: one node, its own parent, of depth 1, with no pebble and no target. The last
-    // clause says that MAX is the definition's largest yard: so many entries the arrays have.
+    // A fresh yard: one node, its own parent, of depth 1, with no pebble and no target. The last clause says that MAX is the definition's largest yard: so
+    // many entries the arrays have.
     pub fn new() -> Yard
-        ensures yard { yard_in result ≡ fresh }
-        ensures state { result ≡ state_of fresh }
-        ensures longest { length result.parents ≡ max_size }
+        ensures result_value { yard_in result ≡ fresh }
+        ensures value { result ≡ state_of fresh }
+        ensures parents_len { length result.parents ≡ max_size }
     {
         let mut depths = [0u8; Yard::MAX];
         depths[0] = 1;
@@ -65,12 +65,11 @@ impl Yard {
         }
     }
 
-    // The yard of four lists; refused as they are (1 to 6), a fresh one. The last clause says what
-    // lies behind its nodes too: zeros.
+    // The yard of four lists; refused as they are (1 to 6), a fresh one. The last clause says what lies behind its nodes too: zeros.
     pub fn from_lists(parents: &[u8], pebbles: &[u8], targets: &[u8], depths: &[u8]) -> Answered
-        ensures answer { fault_of_done result.answer ≡ judge (given parents pebbles targets depths) }
-        ensures yard { yard_in result.yard ≡ or_fresh (given parents pebbles targets depths) }
-        ensures state { result.yard ≡ state_of (or_fresh (given parents pebbles targets depths)) }
+        ensures answer_value { paper_done result.answer ≡ judge (given parents pebbles targets depths) }
+        ensures yard_value { yard_in result.yard ≡ or_fresh (given parents pebbles targets depths) }
+        ensures yard_value_2 { result.yard ≡ state_of (or_fresh (given parents pebbles targets depths)) }
     {
         let answer = test_yard(parents, pebbles, targets, depths);
         if let Done::Refused(r) = answer {
@@ -91,13 +90,12 @@ impl Yard {
         }
     }
 
-    // One push: refusals 1, 26, 27, 4 to 6, then 10 to 13 with place 0; refused, the yard comes
-    // back unchanged. The yard is the definition's; what lies behind its nodes stays (the last
-    // clause). States pushed one by one: proofs/States.antt.
+    // One push: refusals 1, 26, 27, 4 to 6, then 10 to 13 with place 0; refused, the yard comes back unchanged. The yard is the definition's; what lies
+    // behind its nodes stays (the last clause). States pushed one by one: proofs/States.antt.
     pub fn push(self, from: usize, to: usize) -> Answered
-        ensures answer { fault_of_done result.answer ≡ push_fault (yard_in self) (push from to) }
-        ensures yard { yard_in result.yard ≡ pushed (yard_in self) (push from to) }
-        ensures state { result.yard ≡ state_after self (push from to) }
+        ensures answer_value { paper_done result.answer ≡ push_fault (yard_in self) (push from to) }
+        ensures yard_value { yard_in result.yard ≡ pushed (yard_in self) (push from to) }
+        ensures yard_value_2 { result.yard ≡ state_after self (push from to) }
     {
         let size = self.size;
         if size > Yard::MAX {

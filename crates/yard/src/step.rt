@@ -5,8 +5,8 @@ ghost use Rattle.model.specs.Yard.{yard_of};
 ghost use Rattle.model.specs.Given.{was, became};
 ghost use Rattle.model.specs.Push as Push;
 ghost use Rattle.model.specs.Push.{push, move_fault, is_none, shifted};
-ghost use Rattle.model.specs.Calls.Answers.{newUnlessRefused};
-ghost use Rattle.model.specs.Meaning.{fault_of, fault_of_done};
+ghost use Rattle.model.specs.Calls.Answers.{lent};
+ghost use Rattle.model.specs.Paper.{paper, paper_done};
 ghost use Rattle.yard.specs.Given.{given_bare, handed_bare, Alike};
 
 use model::{Done, Refusal};
@@ -60,14 +60,14 @@ fn fault(
 ) -> Refusal
     requires alike { Alike parents pebbles depths }
     requires place_value { is_none (move_fault (handed_bare parents pebbles depths) (push from to) place) ≡ false }
-    ensures { move_fault (given_bare parents pebbles depths) (push from to) place ≡ some (fault_of result) }
+    ensures { move_fault (given_bare parents pebbles depths) (push from to) place ≡ some (paper result) }
 {
     let n = parents.len();
     if n <= from {
-        return Refusal::MoveOutside(place);
+        return Refusal::NoSuchNode(place);
     }
     if n <= to {
-        return Refusal::MoveOutside(place);
+        return Refusal::NoSuchNode(place);
     }
     if !adjacent(parents, from, to) {
         return Refusal::NotAdjacent(place);
@@ -88,7 +88,7 @@ pub fn test_move(
     place: usize,
 ) -> Done
     requires { Alike parents pebbles depths }
-    ensures answer { fault_of_done result ≡ move_fault (given_bare parents pebbles depths) (push from to) place }
+    ensures { paper_done result ≡ move_fault (given_bare parents pebbles depths) (push from to) place }
 {
     if !free(parents, pebbles, depths, from, to) {
         return Done::Refused(fault(parents, pebbles, depths, from, to, place));
@@ -107,8 +107,8 @@ pub fn step(
     place: usize,
 ) -> Done
     requires { Alike parents pebbles depths }
-    ensures answer { fault_of_done result ≡ move_fault (given_bare parents pebbles depths) (push from to) place }
-    ensures list { became pebbles ≡ newUnlessRefused (fault_of_done result) (shifted (was pebbles) (push from to)) (was pebbles) }
+    ensures result_value { paper_done result ≡ move_fault (given_bare parents pebbles depths) (push from to) place }
+    ensures pebbles_value { became pebbles ≡ lent (paper_done result) (shifted (was pebbles) (push from to)) (was pebbles) }
 {
     if !free(parents, pebbles, depths, from, to) {
         return Done::Refused(fault(parents, pebbles, depths, from, to, place));

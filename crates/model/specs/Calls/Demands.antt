@@ -1,31 +1,27 @@
--- The account call ('Accounts'), the figures bound and displaced ('Checker, trial and three
--- figures', requests 2.2 and 2.4), and the longest plan of n nodes (request 2.2).
+-- The account call ('Accounts'), the figures bound and disturbed ('Checker, trial and three figures', requests 2.2 and 2.4), and the figure for n alone (request 2.2).
 use Rattle.std.specs.Prelude.{◌&&◌, List, [], ◌∷◌, map, ℕ, ◌*◌, ◌/◌, length, leb, ltb, eqb, ℤ}
 use Rattle.std.proofs.Math.Option.{Option}
 use Rattle.model.specs.Yard.{Yard, size, max_size, max_depth, demand}
 use Rattle.model.specs.Judge.{Fault, fault, first_of, unless, judge, matched_fault}
 use Rattle.model.specs.Plan.{plan}
 use Rattle.model.specs.Follow.{displaced}
-use Rattle.model.specs.Calls.Answers.{Answer, answer, newUnlessRefused}
-use Rattle.model.specs.Numbers.{range}
+use Rattle.model.specs.Calls.Answers.{Answer, answer, lent, range}
 
--- The account call writes the demands of all nodes. Its refusals are 1 to 6, then LIST_LENGTH (2)
--- if the lent list has not n entries.
+-- The account call ('Accounts'): refusals 1 to 6, then 2 for a list of another length than n; it writes the demands of all nodes.
 abbrev pub demands_tests : Yard → List ℤ → List (Option Fault)
 demands_tests y list = judge y ∷ unless (eqb (length list) (size y)) (fault 2 0) ∷ []
 
 unfoldable pub demands_fault : Yard → List ℤ → Option Fault
 demands_fault y list = first_of (demands_tests y list)
 
--- the demands of all nodes, in rising number of the node (equation 1)
+-- the demands of all nodes in rising number, as equation 1 has them
 abbrev pub demands_of : Yard → List ℤ
 demands_of y = map (demand y) (range 0 (size y))
 
 abbrev pub demands_list : Yard → List ℤ → List ℤ
-demands_list y list = newUnlessRefused (demands_fault y list) (demands_of y) list
+demands_list y list = lent (demands_fault y list) (demands_of y) list
 
--- The bound (request 2.2): how many moves the plan has, and how many bytes a list needs to hold it,
--- two a move. Both figures have refusals 1 to 7.
+-- The figures: refusals 1 to 7. The bound (request 2.2) is how long the plan is: its moves, and the bytes that a list needs to hold it, two a move
 pub record Length : Type 0 where
   pub moves : ℕ
   pub list_bytes : ℕ
@@ -36,13 +32,12 @@ length_of moves = record { moves = moves; list_bytes = 2 * moves }
 abbrev pub bound_answer : Yard → Answer Length
 bound_answer y = answer (matched_fault y) (length_of (length (plan y)))
 
--- the number of displaced (disturbed) pebbles (request 2.4): those that take part in a move of the
--- plan
+-- displaced (disturbed, request 2.4) are the pebbles that take part in a move of the plan
 abbrev pub displaced_answer : Yard → Answer ℕ
 displaced_answer y = answer (matched_fault y) (displaced y)
 
--- The most moves that any yard of n nodes can need (requests 2.2 and 2.10): for each of the eight
--- layers of depth, a quarter of n × n, rounded down. NODE_COUNT (1): n is 0 or above 256.
+-- The figure for n alone (requests 2.2 and 2.10): the most moves that a yard of n nodes can need, for each of eight layers a quarter of n × n, rounded down; 1, n is 0 or
+-- above 256
 abbrev pub longest : ℕ → ℕ
 longest n = max_depth * (n * n / 4)
 

@@ -4,14 +4,11 @@ use Rattle.std.proofs.Math.Option.{Option}
 use Rattle.model.specs.Yard.{Yard, size}
 use Rattle.model.specs.Judge.{Fault, fault, first_of, unless, judge, totals_fault}
 use Rattle.model.specs.Parts.{topmost, parts_plan}
-use Rattle.model.specs.Calls.Answers.{Answer, answer, newUnlessRefused, overwrite}
-use Rattle.model.specs.Numbers.{range}
+use Rattle.model.specs.Calls.Answers.{Answer, answer, lent, overwrite, range}
 use Rattle.model.specs.Calls.Plans.{bytes}
 
--- The refusals: 1 to 7, then LIST_LENGTH (2) if the part list has not n entries, then
--- LIST_TOO_SHORT (8) with the number of moves of all parts as place. An accepted call writes the
--- plans of the parts at the front of the plan list, leaves its other bytes unchanged, and answers
--- the number of moves. It writes the topmost node of each node's part into the part list.
+-- Refusals 1 to 7 as the planner gives them, then 2 for a part list of another length than n, then 8 with the moves of all parts as place. It writes the parts'
+-- plans at the front of the plan list, leaves the bytes behind them, and answers the number of moves; the part list receives each node's topmost node.
 abbrev pub parts_tests : Yard → List ℕ → List ℕ → List (Option Fault)
 parts_tests y list parts =
     judge y
@@ -27,7 +24,7 @@ abbrev pub parts_answer : Yard → List ℕ → List ℕ → Answer ℕ
 parts_answer y list parts = answer (parts_fault y list parts) (length (parts_plan y))
 
 abbrev pub parts_plan_list : Yard → List ℕ → List ℕ → List ℕ
-parts_plan_list y list parts = newUnlessRefused (parts_fault y list parts) (overwrite (bytes (parts_plan y)) list) list
+parts_plan_list y list parts = lent (parts_fault y list parts) (overwrite (bytes (parts_plan y)) list) list
 
 abbrev pub parts_list : Yard → List ℕ → List ℕ → List ℕ
-parts_list y list parts = newUnlessRefused (parts_fault y list parts) (map (topmost y) (range 0 (size y))) parts
+parts_list y list parts = lent (parts_fault y list parts) (map (topmost y) (range 0 (size y))) parts

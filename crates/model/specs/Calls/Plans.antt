@@ -5,10 +5,9 @@ use Rattle.model.specs.Yard.{Yard}
 use Rattle.model.specs.Judge.{Fault, fault, first_of, unless, judge, totals_fault}
 use Rattle.model.specs.Push.{Move, push}
 use Rattle.model.specs.Plan.{plan}
-use Rattle.model.specs.Calls.Answers.{Answer, answer, newUnlessRefused, overwrite}
+use Rattle.model.specs.Calls.Answers.{Answer, answer, lent, overwrite}
 
--- A plan as bytes (`bytes`): `from` and `to` of each move. And the moves of a list of bytes
--- (`moves_of`); a single byte at the end is left out.
+-- a plan as bytes, from and to of each move; and the moves of such a list
 unfoldable pub bytes : List Move → List ℕ
 bytes [] = []
 bytes (m ∷ ms) = m.from ∷ m.to ∷ bytes ms
@@ -18,9 +17,8 @@ moves_of [] = []
 moves_of (a ∷ []) = []
 moves_of (a ∷ b ∷ bs) = push a b ∷ moves_of bs
 
--- The planner's refusals: 1 to 6, TOTALS (7), then LIST_TOO_SHORT (8) if the lent list has fewer
--- than two bytes for each move, with the number of moves as place. An accepted call writes the plan
--- at the front of the list, leaves the other bytes unchanged, and answers the number of moves.
+-- The planner: refusals 1 to 6, 7, then 8 if the list has fewer than two bytes for each move, with the moves needed as place. It writes the
+-- plan at the front of the list, leaves the bytes behind it, and answers the number of moves.
 abbrev pub plan_tests : Yard → ℕ → List (Option Fault)
 plan_tests y room = judge y ∷ totals_fault y ∷ unless (leb (2 * length (plan y)) room) (fault 8 (length (plan y))) ∷ []
 
@@ -31,4 +29,4 @@ abbrev pub plan_answer : Yard → List ℕ → Answer ℕ
 plan_answer y list = answer (plan_fault y (length list)) (length (plan y))
 
 abbrev pub plan_list : Yard → List ℕ → List ℕ
-plan_list y list = newUnlessRefused (plan_fault y (length list)) (overwrite (bytes (plan y)) list) list
+plan_list y list = lent (plan_fault y (length list)) (overwrite (bytes (plan y)) list) list

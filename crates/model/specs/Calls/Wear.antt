@@ -8,8 +8,7 @@ use Rattle.model.specs.Calls.Answers.{Answer, answer}
 use Rattle.model.specs.Calls.Plans.{moves_of}
 use Rattle.model.specs.Calls.Checks.{check_fault}
 
--- The checker's refusals, then WIDTH (28) for a width of 0 or above the number of moves. The call
--- writes nothing.
+-- The checker's refusals, then 28 for a width of 0 or above the number of moves. It writes nothing.
 abbrev pub wear_tests : Yard → List ℕ → ℕ → List (Option Fault)
 wear_tests y bs w = check_fault y bs ∷ unless ((ltb 0 w) && (leb w (length (moves_of bs)))) (fault 28 0) ∷ []
 

@@ -1,28 +1,224 @@
--- `place` is the place of the row of `fault_of`: each arm of the match answers that of its variant.
+-- `place` goes by the case.
 use borrow.Author.Rules.{rules}
-use mathlib.Core.Path.{◌≡◌, sym, ap}
+use mathlib.Core.Path.{sym, ap}
+use Prim.Native.Nat.{ℕ}
 use Rattle.model.specs.declared.Refusal.{Refusal}
-use Rattle.model.specs.Meaning.{fault_of}
+use Rattle.model.specs.Paper.{paper}
 use Rattle.refusal.proofs.place.Statement.{statement}
 use Rattle.refusal.proofs.place.Tie as tie
 
--- the place of a refusal that is known to be a variant's
-variant : {r s : Refusal} → r ≡ s → (fault_of s).place ≡ (fault_of r).place
-variant e = sym (ap (λ (r : Refusal). (fault_of r).place) e)
+abbrev told : Refusal → ℕ
+told r = (paper r).place
+
+enum-known-r : tie.Need-enum-known-r
+enum-known-r c = search rules
+
+enum_told : tie.Need-enum-told
+enum_told c = search rules
+
+enum-known-r-2 : tie.Need-enum-known-r-2
+enum-known-r-2 c = search rules
+
+enum-known-r-3 : tie.Need-enum-known-r-3
+enum-known-r-3 c = search rules
+
+enum-known-r-4 : tie.Need-enum-known-r-4
+enum-known-r-4 c = search rules
+
+enum-told-2 : tie.Need-enum-told-2
+enum-told-2 c = search rules
+
+enum-known-r-5 : tie.Need-enum-known-r-5
+enum-known-r-5 c = search rules
+
+enum-told-3 : tie.Need-enum-told-3
+enum-told-3 c = search rules
+
+enum-known-r-6 : tie.Need-enum-known-r-6
+enum-known-r-6 c = search rules
+
+enum-known-r-7 : tie.Need-enum-known-r-7
+enum-known-r-7 c = search rules
+
+enum-known-r-8 : tie.Need-enum-known-r-8
+enum-known-r-8 c = search rules
+
+enum-known-r-9 : tie.Need-enum-known-r-9
+enum-known-r-9 c = search rules
+
+enum-known-r-10 : tie.Need-enum-known-r-10
+enum-known-r-10 c = search rules
+
+enum-known-r-11 : tie.Need-enum-known-r-11
+enum-known-r-11 c = search rules
+
+enum-known-r-12 : tie.Need-enum-known-r-12
+enum-known-r-12 c = search rules
+
+enum-known-r-13 : tie.Need-enum-known-r-13
+enum-known-r-13 c = search rules
+
+enum-told-4 : tie.Need-enum-told-4
+enum-told-4 c = search rules
+
+enum-told-5 : tie.Need-enum-told-5
+enum-told-5 c = search rules
+
+enum-told-6 : tie.Need-enum-told-6
+enum-told-6 c = search rules
+
+enum-told-7 : tie.Need-enum-told-7
+enum-told-7 c = search rules
+
+enum-known-r-14 : tie.Need-enum-known-r-14
+enum-known-r-14 c = search rules
+
+enum-known-r-15 : tie.Need-enum-known-r-15
+enum-known-r-15 c = search rules
+
+enum-told-8 : tie.Need-enum-told-8
+enum-told-8 c = search rules
+
+enum-known-r-16 : tie.Need-enum-known-r-16
+enum-known-r-16 c = search rules
+
+enum-known-r-17 : tie.Need-enum-known-r-17
+enum-known-r-17 c = search rules
+
+enum-told-9 : tie.Need-enum-told-9
+enum-told-9 c = search rules
+
+returns : tie.Need-returns
+returns c = sym (ap told c.before.r.given.1)
+
+returns-2 : tie.Need-returns-2
+returns-2 c = sym (ap told c.enum_told.given.1)
+
+returns-3 : tie.Need-returns-3
+returns-3 c = sym (ap told c.before.r2.given.1)
+
+returns-4 : tie.Need-returns-4
+returns-4 c = sym (ap told c.before.r3.given.1)
+
+returns-5 : tie.Need-returns-5
+returns-5 c = sym (ap told c.before.r4.given.1)
+
+returns-6 : tie.Need-returns-6
+returns-6 c = sym (ap told c.enum-told2.given.1)
+
+returns-7 : tie.Need-returns-7
+returns-7 c = sym (ap told c.before.r5.given.1)
+
+returns-8 : tie.Need-returns-8
+returns-8 c = sym (ap told c.enum-told3.given.1)
+
+returns-9 : tie.Need-returns-9
+returns-9 c = sym (ap told c.before.r6.given.1)
+
+returns-10 : tie.Need-returns-10
+returns-10 c = sym (ap told c.before.r7.given.1)
+
+returns-11 : tie.Need-returns-11
+returns-11 c = sym (ap told c.before.r8.given.1)
+
+returns-12 : tie.Need-returns-12
+returns-12 c = sym (ap told c.before.r9.given.1)
+
+returns-13 : tie.Need-returns-13
+returns-13 c = sym (ap told c.before.r10.given.1)
+
+returns-14 : tie.Need-returns-14
+returns-14 c = sym (ap told c.before.r11.given.1)
+
+returns-15 : tie.Need-returns-15
+returns-15 c = sym (ap told c.before.r12.given.1)
+
+returns-16 : tie.Need-returns-16
+returns-16 c = sym (ap told c.before.r13.given.1)
+
+returns-17 : tie.Need-returns-17
+returns-17 c = sym (ap told c.enum-told4.given.1)
+
+returns-18 : tie.Need-returns-18
+returns-18 c = sym (ap told c.enum-told5.given.1)
+
+returns-19 : tie.Need-returns-19
+returns-19 c = sym (ap told c.enum-told6.given.1)
+
+returns-20 : tie.Need-returns-20
+returns-20 c = sym (ap told c.enum-told7.given.1)
+
+returns-21 : tie.Need-returns-21
+returns-21 c = sym (ap told c.before.r14.given.1)
+
+returns-22 : tie.Need-returns-22
+returns-22 c = sym (ap told c.before.r15.given.1)
+
+returns-23 : tie.Need-returns-23
+returns-23 c = sym (ap told c.enum-told8.given.1)
+
+returns-24 : tie.Need-returns-24
+returns-24 c = sym (ap told c.before.r16.given.1)
+
+returns-25 : tie.Need-returns-25
+returns-25 c = sym (ap told c.before.r17.given.1)
+
+returns-26 : tie.Need-returns-26
+returns-26 c = sym (ap told c.enum-told9.given.1)
 
 pub place-spec : {M : Type 1} → statement M
 place-spec =
     tie.close
-    (tie.spec (λ c. search rules) (λ c. search rules) (λ c. search rules) (λ c. search rules) (λ c. search rules) (λ c. search rules)
-    (λ c. search rules) (λ c. search rules) (λ c. search rules) (λ c. search rules) (λ c. search rules) (λ c. search rules)
-    (λ c. search rules) (λ c. search rules) (λ c. search rules) (λ c. search rules) (λ c. search rules) (λ c. search rules)
-    (λ c. search rules) (λ c. search rules) (λ c. search rules) (λ c. search rules) (λ c. search rules) (λ c. search rules)
-    (λ c. search rules) (λ c. search rules) (λ c. variant c.before.r.given.1) (λ c. variant c.enum_told.given.1)
-    (λ c. variant c.before.r2.given.1) (λ c. variant c.before.r3.given.1) (λ c. variant c.before.r4.given.1)
-    (λ c. variant c.enum-told2.given.1) (λ c. variant c.before.r5.given.1) (λ c. variant c.enum-told3.given.1)
-    (λ c. variant c.before.r6.given.1) (λ c. variant c.before.r7.given.1) (λ c. variant c.before.r8.given.1)
-    (λ c. variant c.before.r9.given.1) (λ c. variant c.before.r10.given.1) (λ c. variant c.before.r11.given.1)
-    (λ c. variant c.before.r12.given.1) (λ c. variant c.before.r13.given.1) (λ c. variant c.enum-told4.given.1)
-    (λ c. variant c.enum-told5.given.1) (λ c. variant c.enum-told6.given.1) (λ c. variant c.enum-told7.given.1)
-    (λ c. variant c.before.r14.given.1) (λ c. variant c.before.r15.given.1) (λ c. variant c.enum-told8.given.1)
-    (λ c. variant c.before.r16.given.1) (λ c. variant c.before.r17.given.1) (λ c. variant c.enum-told9.given.1))
+    (tie.spec
+    enum-known-r
+    enum_told
+    enum-known-r-2
+    enum-known-r-3
+    enum-known-r-4
+    enum-told-2
+    enum-known-r-5
+    enum-told-3
+    enum-known-r-6
+    enum-known-r-7
+    enum-known-r-8
+    enum-known-r-9
+    enum-known-r-10
+    enum-known-r-11
+    enum-known-r-12
+    enum-known-r-13
+    enum-told-4
+    enum-told-5
+    enum-told-6
+    enum-told-7
+    enum-known-r-14
+    enum-known-r-15
+    enum-told-8
+    enum-known-r-16
+    enum-known-r-17
+    enum-told-9
+    returns
+    returns-2
+    returns-3
+    returns-4
+    returns-5
+    returns-6
+    returns-7
+    returns-8
+    returns-9
+    returns-10
+    returns-11
+    returns-12
+    returns-13
+    returns-14
+    returns-15
+    returns-16
+    returns-17
+    returns-18
+    returns-19
+    returns-20
+    returns-21
+    returns-22
+    returns-23
+    returns-24
+    returns-25
+    returns-26)

@@ -1,4 +1,4 @@
--- `acknowledged` is the definition of the same name, whether the status is stalled or not.
+-- `acknowledged` goes by whether it is stalled.
 use borrow.Author.Tests.{ne_eqb}
 use Rattle.cabinet.proofs.registers.acknowledged.Statement.{statement}
 use Rattle.cabinet.proofs.registers.acknowledged.Tie as tie

@@ -1,4 +1,4 @@
--- `both_odd` tests both remainders by 2, which are bit 0 of the numbers.
+-- `both_odd` asks both remainders.
 use borrow.Author.Tests.{ne_eqb}
 use Rattle.model.specs.Calls.Registers.{bit}
 use Rattle.cabinet.proofs.registers.both_odd.Statement.{statement}

@@ -1,11 +1,10 @@
--- `test_task` tests what `task_fault` tests for the command and the status. A running cabinet has a
--- move left, as `test_next` requires.
+-- `test_task` goes by the command and the status.
 use borrow.Author.Rules.{rules}
 use mathlib.Core.Path.{sym, ◌∙◌}
 use borrow.Author.Tests.{ne_eqb}
 use Rattle.model.specs.Calls.Registers.{whole_moves, task_fault}
-use Rattle.laws.proofs.Base.Lists.{single}
-use Rattle.laws.proofs.Cabinet.Registers.{register_fault_none, running_left}
+use Rattle.laws.proofs.Basics.{single}
+use Rattle.laws.proofs.Blocks.{register_fault_none, running_left}
 use Rattle.cabinet.proofs.test.test_task.Statement.{statement}
 use Rattle.cabinet.proofs.test.test_task.Tie as tie
 
@@ -15,6 +14,9 @@ start c = c.before.before.before.before.before.before.before.before.before.befor
 returns : tie.Need-returns
 unfolding task_fault
 returns c = rw (c.before.before.if1.true, ne_eqb _ 0 c.if2.true)
+
+test-plan-requires : tie.Need-test-plan-requires
+test-plan-requires c κs = search rules
 
 returns-2 : tie.Need-returns-2
 unfolding task_fault
@@ -39,4 +41,13 @@ unfolding task_fault
 returns-5 c = let o = c.before in c.test-next.ensures ∙ rw (o.before.before.if3.false, o.if4.false)
 
 pub test-task-spec : {M : Type 1} → statement M
-test-task-spec = tie.close (tie.spec returns (λ c κs. search rules) returns-2 returns-3 returns-4 test-next-requires returns-5)
+test-task-spec =
+    tie.close
+    (tie.spec
+    returns
+    test-plan-requires
+    returns-2
+    returns-3
+    returns-4
+    test-next-requires
+    returns-5)

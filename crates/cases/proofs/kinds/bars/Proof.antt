@@ -1,4 +1,4 @@
--- The count of `bars` fits: in the loop it is at most i. The measure is the bytes left.
+-- The loop's invariant: the count is at most `i`. The measure is what is left of the line.
 use Prim.Native.Nat.{◌≤◌, ◌-◌}
 use mathlib.Core.Logic.{⊎_elim}
 use lib.ListN.{length}
@@ -13,11 +13,37 @@ invariant-loop line count₀ i₀ count i = (count ≤ i) × (i ≤ length line)
 abbrev decreases-loop : tie.decreases-loop
 decreases-loop line count₀ i₀ count i = length line - i
 
+loop-holds : tie.Need-loop-init invariant-loop decreases-loop
+loop-holds c = search rules
+
+shared-slice-read-if1 : tie.Need-shared-slice-read-if1 invariant-loop decreases-loop
+shared-slice-read-if1 c = search rules
+
+add-count : tie.Need-overflow-add-count invariant-loop decreases-loop
+add-count c = search rules
+
+add-i : tie.Need-overflow-add-i invariant-loop decreases-loop
+add-i c = search rules
+
+loop-less : tie.Need-loop-smaller invariant-loop decreases-loop
+loop-less c = search rules
+
 loop-again : tie.Need-loop-preserved invariant-loop decreases-loop
 loop-again c = ⊎_elim (λ w. omega arith) (λ w. omega arith) c.if1.branch
+
+returns : tie.Need-returns invariant-loop decreases-loop
+returns c = search rules
 
 pub bars-spec : {M : Type 1} → statement M
 bars-spec =
     tie.close
-    (tie.spec invariant-loop decreases-loop (λ c. search rules) (λ c. search rules) (λ c. search rules) (λ c. search rules) (λ c. search rules)
-    loop-again (λ c. search rules))
+    (tie.spec
+    invariant-loop
+    decreases-loop
+    loop-holds
+    shared-slice-read-if1
+    add-count
+    add-i
+    loop-less
+    loop-again
+    returns)

@@ -1,5 +1,4 @@
--- `find` gives a place from `from` on, within the bytes: so is i in the loop. The measure is the
--- bytes left.
+-- The loop's invariant: `i` stands from `from` on, within the bytes. The measure is what is left of them.
 use Prim.Native.Nat.{◌≤◌, ◌-◌}
 use mathlib.Core.Path.{sym}
 use lib.ListN.{length}
@@ -15,8 +14,23 @@ invariant-loop bytes from byte i₀ i = (from ≤ i) × (i ≤ length bytes)
 abbrev decreases-loop : tie.decreases-loop
 decreases-loop bytes from byte i₀ i = length bytes - i
 
+loop-holds : tie.Need-loop-init invariant-loop decreases-loop
+loop-holds c = search rules
+
+shared-slice-read-if1 : tie.Need-shared-slice-read-if1 invariant-loop decreases-loop
+shared-slice-read-if1 c = search rules
+
 returns : tie.Need-returns invariant-loop decreases-loop
 returns c = (search rules, (search rules, sym (length-take-le _ _ (omega arith))))
+
+add-i : tie.Need-overflow-add-i invariant-loop decreases-loop
+add-i c = search rules
+
+loop-less : tie.Need-loop-smaller invariant-loop decreases-loop
+loop-less c = search rules
+
+loop-again : tie.Need-loop-preserved invariant-loop decreases-loop
+loop-again c = search rules
 
 returns-2 : tie.Need-returns-2 invariant-loop decreases-loop
 returns-2 c = (search rules, (search rules, sym (length-take-le _ _ (omega arith))))
@@ -24,5 +38,13 @@ returns-2 c = (search rules, (search rules, sym (length-take-le _ _ (omega arith
 pub find_spec : {M : Type 1} → statement M
 find_spec =
     tie.close
-    (tie.spec invariant-loop decreases-loop (λ c. search rules) (λ c. search rules) returns (λ c. search rules) (λ c. search rules) (λ c. search rules)
+    (tie.spec
+    invariant-loop
+    decreases-loop
+    loop-holds
+    shared-slice-read-if1
+    returns
+    add-i
+    loop-less
+    loop-again
     returns-2)

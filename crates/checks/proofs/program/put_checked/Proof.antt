@@ -1,5 +1,4 @@
--- `put_checked` prints what the checker answers for the plan that was read, or the refusal of its
--- sheet.
+-- `put_checked` prints what the checker answers of the plan that was read, or what refuses its sheet.
 use mathlib.Core.Path.{◌≡◌, sym}
 use mathlib.Core.List.{List}
 use Prim.Native.Nat.{ℕ, ◌+◌, ◌*◌, ◌≤◌}
@@ -10,8 +9,8 @@ use borrow.Author.Rules.{rules}
 use Rattle.model.specs.Yard.{Yard, yard_of, size}
 use Rattle.model.specs.Calls.Answers.{Answer, answered, refused}
 use Rattle.model.specs.CheckSheets.{moves_read, readPlan}
-use Rattle.model.specs.Meaning.{fault_of}
-use Rattle.laws.proofs.Sheets.CheckProgram.{plan_row}
+use Rattle.model.specs.Paper.{paper}
+use Rattle.laws.proofs.CheckSheets.{plan_row}
 use Rattle.sheet.proofs.Writing.{printed_as}
 use Rattle.checks.specs.Reading.{plan_room}
 use Rattle.checks.proofs.Printed.{planned, unplanned}
@@ -21,7 +20,7 @@ use Rattle.checks.proofs.program.put_checked.Tie as tie
 abbrev yard : tie.Start → Yard
 yard s = yard_of s.args.parents.now s.args.pebbles.now s.args.targets.now s.args.depths.now
 
--- the bytes after the yard sheet, and what they say as a move sheet
+-- the bytes after the yard sheet, and what the move sheet says
 abbrev rest : tie.Start → List ℕ
 rest s = drop s.args.at s.args.input.now
 
@@ -34,20 +33,29 @@ start c = c.before.before.before.before.before.before.before.before.before.befor
 abbrev start-r : tie.After-r → tie.Start
 start-r c = c.before.before.before.before.before.before.before.before.before.before.before
 
--- the plan that is read, that it fits the array, and the refusal
-number : (c : tie.After-count)
-    → answered (take (2 * c.count.given.0.0) c.before.before.before.read-plan.new.1.1.1.0) ≡ sheet (start c)
+number : (c : tie.After-count) → answered (take (2 * c.count.given.0.0) c.before.before.before.read-plan.new.1.1.1.0) ≡ sheet (start c)
 number c = rw c.count.given.1 at c.before.before.before.read-plan.ensures.0
 
-fits : (c : tie.After-count)
-    → (c.count.given.0.0 ≤ moves_read) × (2 * c.count.given.0.0 ≤ length c.before.before.before.read-plan.new.1.1.1.0)
+fits : (c : tie.After-count) → (c.count.given.0.0 ≤ moves_read) × (2 * c.count.given.0.0 ≤ length c.before.before.before.read-plan.new.1.1.1.0)
 fits c =
     let p = c.before.before.before.read-plan in
     let f = rw c.count.given.1 at p.ensures.1 in
     (f, omega (arith, p.auto.1.1.1.0, length-replicate {A = ℕ} plan_room 0))
 
-refusal : (c : tie.After-r) → refused (fault_of c.r.given.0.0) ≡ sheet (start-r c)
+refusal : (c : tie.After-r) → refused (paper c.r.given.0.0) ≡ sheet (start-r c)
 refusal c = rw c.r.given.1 at c.before.before.before.read-plan.ensures.0
+
+add-read-plan : tie.Need-overflow-add-read-plan
+add-read-plan c = search rules
+
+slice-aggregate-read-plan : tie.Need-slice-aggregate-read-plan
+slice-aggregate-read-plan c = search rules
+
+read-plan-requires : tie.Need-read-plan-requires
+read-plan-requires c κs = search rules
+
+enum-known-count : tie.Need-enum-known-count
+enum-known-count c = search rules
 
 mul-plan : tie.Need-overflow-mul-plan
 mul-plan c = omega (arith, (fits c.before).0)
@@ -58,17 +66,28 @@ array-share-prefix-plan c = (fits c.before).1
 slice-aggregate-put-verdict : tie.Need-slice-aggregate-put-verdict
 slice-aggregate-put-verdict c = sym (length-take-le _ _ (fits c.before.before).1)
 
+put-verdict-requires : tie.Need-put-verdict-requires
+put-verdict-requires c κs = search rules
+
+enum-known-r : tie.Need-enum-known-r
+enum-known-r c = search rules
+
 put-refused-requires : tie.Need-put-refused-requires
 put-refused-requires c κs =
     let r = c.before.before in
-    let s = start-r r in
-    (plan_row (size (yard s) + 2) _ (omega (arith, s.pre.0)) (sym (refusal r)), omega (arith, s.pre.2))
+    (plan_row (size (yard (start-r r)) + 2) _ (omega (arith, (start-r r).requires.0)) (sym (refusal r)), omega (arith, (start-r r).requires.2))
+
+same_length : tie.Need-same-length
+same_length c = search rules
 
 returns : tie.Need-returns
 returns c =
     let v = c.before.before in
     let n = v.before.before.before.before in
     printed_as (start n).args.out.now (planned (yard (start n)) (rest (start n)) (number n)) v.put-verdict.ensures
+
+same-length-2 : tie.Need-same-length-2
+same-length-2 c = search rules
 
 returns-2 : tie.Need-returns-2
 returns-2 c =
@@ -79,6 +98,18 @@ returns-2 c =
 pub put-checked-spec : {M : Type 1} → statement M
 put-checked-spec =
     tie.close
-    (tie.spec (λ c. search rules) (λ c. search rules) (λ c κs. search rules) (λ c. search rules) mul-plan array-share-prefix-plan
-    slice-aggregate-put-verdict (λ c κs. search rules) (λ c. search rules) put-refused-requires (λ c. search rules) returns
-    (λ c. search rules) returns-2)
+    (tie.spec
+    add-read-plan
+    slice-aggregate-read-plan
+    read-plan-requires
+    enum-known-count
+    mul-plan
+    array-share-prefix-plan
+    slice-aggregate-put-verdict
+    put-verdict-requires
+    enum-known-r
+    put-refused-requires
+    same_length
+    returns
+    same-length-2
+    returns-2)

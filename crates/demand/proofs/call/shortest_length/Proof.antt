@@ -1,5 +1,4 @@
--- `shortest_length` sums the sizes of what `fill` has written: the demands of all nodes, in the
--- first n entries of an array of 256.
+-- `shortest_length` sums the sizes of what `fill` has written: the demands of all nodes, in the first n entries of an array of 256.
 use native.Mathlib.Omega.{arith}
 use mathlib.Core.Path.{sym, ◌∙◌}
 use lib.ListN.{length-append}
@@ -19,9 +18,7 @@ slice-aggregate-fill : tie.Need-slice-aggregate-fill
 slice-aggregate-fill c = sym (length-take-le _ _ (array-borrow-prefix-list c.before))
 
 fill-requires : tie.Need-fill-requires
-fill-requires c κs =
-    let s = c.before.before.before.before.before in
-    (s.requires, length-take-le _ _ (array-borrow-prefix-list c.before))
+fill-requires c κs = (c.before.before.before.before.before.requires, length-take-le _ _ (array-borrow-prefix-list c.before))
 
 abbrev start : tie.After-fill → tie.Start
 start c = c.before.before.before.before.before.before
@@ -45,5 +42,11 @@ returns c =
 pub shortest-length-spec : {M : Type 1} → statement M
 shortest-length-spec =
     tie.close
-    (tie.spec array-borrow-prefix-list slice-aggregate-fill fill-requires array-share-prefix-list slice-aggregate-sizes sizes-requires
+    (tie.spec
+    array-borrow-prefix-list
+    slice-aggregate-fill
+    fill-requires
+    array-share-prefix-list
+    slice-aggregate-sizes
+    sizes-requires
     returns)

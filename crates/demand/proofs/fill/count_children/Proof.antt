@@ -1,7 +1,5 @@
--- `count_children` counts. After v turns each count is the number of the first v nodes that have
--- their place there: a turn adds 1 at one place. The count is 256 at most and fits. A node's place
--- is its parent's in one of the halves, so both counts of u together are the nodes whose parent is
--- u.
+-- `count_children` counts: after v turns each count is how many of the first v nodes have their place there, since a turn adds 1 at one place. That is
+-- 256 at most and fits. A node's place is its parent's in one of the halves, so both counts of u together are how many nodes have parent u.
 use native.Mathlib.Omega.{arith}
 use native.Mathlib.Numerals.{add-one}
 use native.Mathlib.Decide.{ℕ_discrete}
@@ -11,10 +9,9 @@ use mathlib.Core.Path.{◌≡◌, refl, sym, ap, ◌∙◌}
 use lib.ListN.{length, get_or, length-set, get_or-replicate}
 use lib.Dec.{eqb}
 use borrow.Author.Tests.{eq-eqb, ne_eqb}
-use Rattle.model.specs.Yard.{up}
-use Rattle.model.specs.Numbers.{one, sum}
-use Rattle.laws.proofs.Base.Lists.{one_le, eqb_sym}
-use Rattle.laws.proofs.Base.Sums.{sum_le, sum_add, sum_cong}
+use Rattle.model.specs.Yard.{up, one, sum}
+use Rattle.laws.proofs.Basics.{one_le, eqb_sym}
+use Rattle.laws.proofs.Sums.{sum_le, sum_add, sum_cong}
 use Rattle.demand.proofs.Lists.{stored}
 use Rattle.demand.proofs.fill.count_children.Statement.{statement}
 use Rattle.demand.proofs.fill.count_children.Tie as tie
@@ -45,26 +42,40 @@ decreases-loop parents counts₀ v₀ counts v = length parents - v
 abbrev parents : tie.At-loop invariant-loop decreases-loop → List ℕ
 parents c = c.before.before.args.parents.now
 
--- both counts of u together
-both : (c : tie.At-loop invariant-loop decreases-loop) (u : ℕ) → u < 256
-    → get_or c.loop.counts u 0 + get_or c.loop.counts (256 + u) 0 ≡ sum c.loop.v (λ v. one (eqb (up (parents c) v) u))
+both : (c : tie.At-loop invariant-loop decreases-loop) (u : ℕ) → u < 256 → get_or c.loop.counts u 0 + get_or c.loop.counts (256 + u) 0 ≡ sum c.loop.v (λ v. one (eqb (up (parents c) v) u))
 both c u l =
-    let byte = c.before.shared-slice-known.given in
     rw (c.loop.invariant.2 u (omega arith), c.loop.invariant.2 (256 + u) (omega arith))
-    (sym (sum_add c.loop.v _ _)
-    ∙ sum_cong c.loop.v _ _ (λ v _. in-half (up (parents c) v) (v % 2) u _ (byte v).fits (omega arith) l refl))
+    (sym (sum_add c.loop.v _ _) ∙ sum_cong c.loop.v _ _ (λ v _. in-half (up (parents c) v) (v % 2) u _ (c.before.shared-slice-known.given v).fits (omega arith) l refl))
 
 loop-holds : tie.Need-loop-init invariant-loop decreases-loop
 unfolding sum
 loop-holds c = (omega arith, refl, λ i l. get_or-replicate 512 i _ 0 l)
 
+shared-slice-read-place : tie.Need-shared-slice-read-place invariant-loop decreases-loop
+shared-slice-read-place c = omega arith
+
 place-requires : tie.Need-place-requires invariant-loop decreases-loop
 place-requires c κs = tt
+
+mul-counts : tie.Need-overflow-mul-counts invariant-loop decreases-loop
+mul-counts c = omega arith
+
+array-read-counts : tie.Need-array-read-counts invariant-loop decreases-loop
+array-read-counts c = omega arith
 
 add-counts : tie.Need-overflow-add-counts invariant-loop decreases-loop
 add-counts c =
     let loop = c.before.before.before in
     omega (arith, loop.loop.invariant.2 c.place.result (omega arith), few loop.loop.v (at (parents loop)) c.place.result)
+
+array-write-counts : tie.Need-array-write-counts invariant-loop decreases-loop
+array-write-counts c = omega arith
+
+add-v : tie.Need-overflow-add-v invariant-loop decreases-loop
+add-v c = omega arith
+
+loop-less : tie.Need-loop-smaller invariant-loop decreases-loop
+loop-less c = omega arith
 
 loop-again : tie.Need-loop-preserved invariant-loop decreases-loop
 unfolding sum
@@ -73,9 +84,7 @@ loop-again c =
     let p = c.place.result in (
       omega arith,
       simp length-set loop.invariant.1,
-      λ i l. rw (add-one loop.v, ← c.place.ensures.0)
-          (let one_more = stored loop.counts p i (get_or loop.counts p 0 + 1) 1 0 (omega arith) (omega arith) in
-          omega (arith, loop.invariant.2 i l, ap one (eqb_sym i p), one_more)),
+      λ i l. rw (add-one loop.v, ← c.place.ensures.0) (omega (arith, loop.invariant.2 i l, ap one (eqb_sym i p), stored loop.counts p i (get_or loop.counts p 0 + 1) 1 0 (omega arith) (omega arith))),
     )
 
 add-halves-requires : tie.Need-add-halves-requires invariant-loop decreases-loop
@@ -85,11 +94,23 @@ returns : tie.Need-returns invariant-loop decreases-loop
 returns c =
     let loop = c.before.before.before in
     let all : loop.loop.v ≡ length (parents loop) = omega arith in
-    let total : (u : ℕ) → ℕ → ℕ = λ u n. sum n (λ v. one (eqb (up (parents loop) v) u)) in
-    (c.add-halves.ensures.0, λ u l. omega (arith, c.add-halves.ensures.1 u l, both loop u l, ap (total u) all))
+    (c.add-halves.ensures.0, λ u l. omega (arith, c.add-halves.ensures.1 u l, both loop u l, ap (λ (n : ℕ). sum n (λ v. one (eqb (up (parents loop) v) u))) all))
 
 pub count-children-spec : {M : Type 1} → statement M
 count-children-spec =
     tie.close
-    (tie.spec invariant-loop decreases-loop loop-holds (λ c. omega arith) place-requires (λ c. omega arith) (λ c. omega arith) add-counts
-    (λ c. omega arith) (λ c. omega arith) (λ c. omega arith) loop-again add-halves-requires returns)
+    (tie.spec
+    invariant-loop
+    decreases-loop
+    loop-holds
+    shared-slice-read-place
+    place-requires
+    mul-counts
+    array-read-counts
+    add-counts
+    array-write-counts
+    add-v
+    loop-less
+    loop-again
+    add-halves-requires
+    returns)

@@ -1,12 +1,11 @@
--- `clear` writes zeros. After i turns the first i entries are 0: a turn writes entry i and no
--- other.
+-- `clear` writes zeros: after i turns the first i entries are 0, since a turn writes entry i and no other.
+use borrow.Author.Count.{below_more}
 use native.Mathlib.Omega.{arith}
 use Prim.Native.Nat.{ℕ, ◌-◌, ◌≤◌, ◌<◌}
 use mathlib.Core.Path.{◌≡◌, refl, sym, ◌∙◌}
 use lib.IntN.{ℤ, pos}
 use lib.ListN.{length, get_or, length-set, length-replicate, get_or-replicate}
-use lib.Seq.{ext_get_or}
-use Rattle.demand.proofs.Lists.{stored_next}
+use lib.Seq.{get_or-set_same, get_or-set_other, ext_get_or}
 use Rattle.demand.proofs.matched.clear.Statement.{statement}
 use Rattle.demand.proofs.matched.clear.Tie as tie
 
@@ -19,6 +18,15 @@ decreases-loop list₀ i₀ list i = length list - i
 loop-holds : tie.Need-loop-init invariant-loop decreases-loop
 loop-holds c = (omega arith, refl, λ u l. absurd (omega arith))
 
+mul-list : tie.Need-overflow-mul-list invariant-loop decreases-loop
+mul-list c = omega arith
+
+slice-set-of-list : tie.Need-slice-set-of-list invariant-loop decreases-loop
+slice-set-of-list c = omega arith
+
+add-i : tie.Need-overflow-add-i invariant-loop decreases-loop
+add-i c = omega arith
+
 loop-less : tie.Need-loop-smaller invariant-loop decreases-loop
 loop-less c = simp length-set (omega arith)
 
@@ -27,7 +35,7 @@ loop-again c =
     let l = c.before.loop in (
       simp length-set (omega arith),
       simp length-set l.invariant.1,
-      stored_next (pos 0) (λ _. pos 0) l.list l.i _ (omega arith) l.invariant.2 refl,
+      below_more _ _ (λ u h. get_or-set_other l.list l.i u _ _ (omega arith) ∙ l.invariant.2 u h) (get_or-set_same l.list l.i _ _ (omega arith)),
     )
 
 same_length : tie.Need-same-length invariant-loop decreases-loop
@@ -43,4 +51,14 @@ returns c =
 pub clear_spec : {M : Type 1} → statement M
 clear_spec =
     tie.close
-    (tie.spec invariant-loop decreases-loop loop-holds (λ c. omega arith) (λ c. omega arith) (λ c. omega arith) loop-less loop-again same_length returns)
+    (tie.spec
+    invariant-loop
+    decreases-loop
+    loop-holds
+    mul-list
+    slice-set-of-list
+    add-i
+    loop-less
+    loop-again
+    same_length
+    returns)

@@ -1,5 +1,5 @@
--- `difference` is exact: both counts are bytes, so as i16 they are themselves. Their difference, of
--- a size below 256, fits.
+-- `difference` is exact: both marks are bytes, so as i16 they are themselves, and their difference,
+-- of a size below 256, fits.
 use borrow.Author.Rules.{rules}
 use native.Mathlib.Omega.{arith}
 use mathlib.Core.Path.{◌∙◌}
@@ -19,9 +19,7 @@ sub-result : tie.Need-overflow-sub-result
 sub-result c = search (bytes_fit, arith)
 
 returns : tie.Need-returns
-returns c =
-    to_z-of_z w16 _ (sub-result c)
-    ∙ held_minus c.args.target c.args.pebble (cast-result c) (cast-result-2 c) (omega arith) (omega arith)
+returns c = to_z-of_z w16 _ (sub-result c) ∙ held_minus c.args.target c.args.pebble (cast-result c) (cast-result-2 c) (omega arith) (omega arith)
 
 pub difference-spec : {M : Type 1} → statement M
 difference-spec = tie.close (tie.spec cast-result cast-result-2 sub-result returns)

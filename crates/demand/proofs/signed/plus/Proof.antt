@@ -1,4 +1,4 @@
--- `plus` is exact: both numbers are what their bits give back. Their sum, of size 2,048 at most,
+-- `plus` is exact: both numbers are what their bits give back, and their sum, of a size of 2,048 at most,
 -- fits.
 use mathlib.Core.Path.{◌∙◌}
 use mir.Syntax.{w16}

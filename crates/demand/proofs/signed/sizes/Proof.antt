@@ -1,5 +1,5 @@
--- `sizes` is the sum. After i turns the total is the sum of the sizes of the first i demands. Each
--- is at most 2,048, and there are at most 256, so the total fits.
+-- `sizes` is the sum: after i turns the total is the sum of the sizes of the first i demands. Each is at most 2,048, and there are at most 256,
+-- so it fits.
 use borrow.Author.Rules.{rules}
 use native.Mathlib.Omega.{arith}
 use native.Mathlib.Numerals.{add-one}
@@ -10,8 +10,7 @@ use lib.ListN.{length, get_or}
 use mir.Syntax.{w16}
 use mir.Val.{to_z, of_z}
 use mir.ValLaws.{to_z-of_z}
-use Rattle.model.specs.Numbers.{sum}
-use Rattle.model.specs.Yard.{max_demand}
+use Rattle.model.specs.Yard.{sum, max_demand}
 use Rattle.demand.proofs.Numbers.{small_fits}
 use Rattle.demand.proofs.signed.sizes.Statement.{statement}
 use Rattle.demand.proofs.signed.sizes.Tie as tie
@@ -36,6 +35,12 @@ loop-holds : tie.Need-loop-init invariant-loop decreases-loop
 unfolding sum
 loop-holds c = search rules
 
+mul-size : tie.Need-overflow-mul-size invariant-loop decreases-loop
+mul-size c = omega arith
+
+shared-slice-copy-out-size : tie.Need-shared-slice-copy-out-size invariant-loop decreases-loop
+shared-slice-copy-out-size c = omega arith
+
 size-requires : tie.Need-size-requires invariant-loop decreases-loop
 size-requires c κs = rw (held c.before.before) (small c.before.before)
 
@@ -45,6 +50,12 @@ found c = c.size.ensures ∙ ap nat_abs (held c.before.before.before)
 
 add_total : tie.Need-overflow-add-total invariant-loop decreases-loop
 add_total c = omega (arith, found c, small c.before.before.before)
+
+add-i : tie.Need-overflow-add-i invariant-loop decreases-loop
+add-i c = omega arith
+
+loop-less : tie.Need-loop-smaller invariant-loop decreases-loop
+loop-less c = omega arith
 
 loop-again : tie.Need-loop-preserved invariant-loop decreases-loop
 unfolding sum
@@ -59,5 +70,15 @@ returns c =
 pub sizes-spec : {M : Type 1} → statement M
 sizes-spec =
     tie.close
-    (tie.spec invariant-loop decreases-loop loop-holds (λ c. omega arith) (λ c. omega arith) size-requires add_total (λ c. omega arith)
-    (λ c. omega arith) loop-again returns)
+    (tie.spec
+    invariant-loop
+    decreases-loop
+    loop-holds
+    mul-size
+    shared-slice-copy-out-size
+    size-requires
+    add_total
+    add-i
+    loop-less
+    loop-again
+    returns)

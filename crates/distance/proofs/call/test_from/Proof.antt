@@ -1,5 +1,4 @@
--- `test_from` is refused as the lists are, then as the shape is. The distances of a tree are from
--- the node itself, if it is one.
+-- `distance::call::test_from` meets its contract: refused as the lists are, then as the shape is; of a tree the distances are from the node itself, if it is one.
 use borrow.Author.Rules.{rules}
 use native.Mathlib.Omega.{arith}
 use Prim.Native.Nat.{ℕ}
@@ -7,10 +6,9 @@ use mathlib.Core.Path.{◌≡◌, refl, sym, ◌∙◌}
 use mathlib.Core.Option.{none}
 use Rattle.model.specs.Yard.{Yard, yard_of}
 use Rattle.model.specs.Judge.{first_of, list_tests}
-use Rattle.laws.proofs.Tree.Tests.{judge_lists, judge_shape}
-use Rattle.laws.proofs.Tree.Judge.{ListsPass, flat}
-use Rattle.laws.proofs.Calls.Answers.{known-fault}
-use Rattle.distance.specs.Far.{From}
+use Rattle.laws.proofs.Tests.{judge_lists, judge_shape}
+use Rattle.laws.proofs.Judged.{Flat, flat}
+use Rattle.laws.proofs.Calls.{sees}
 use Rattle.distance.proofs.call.test_from.Statement.{statement}
 use Rattle.distance.proofs.call.test_from.Tie as tie
 
@@ -22,18 +20,26 @@ start e = e.before.before.before.before.before.before.before.before
 
 -- where the lists pass
 passed : (e : tie.After-enum-told) → first_of (list_tests (yard (start e))) ≡ none
-passed e = known-fault e.before.before.test-lists.ensures e.enum_told.given.1
+passed e = sees e.before.before.test-lists.ensures e.enum_told.given.1
 
-lists : (e : tie.After-enum-told) → ListsPass (yard (start e))
+lists : (e : tie.After-enum-told) → Flat (yard (start e))
 lists e = flat (yard (start e)) (passed e)
+
+test-lists-requires : tie.Need-test-lists-requires
+test-lists-requires c κs = search rules
+
+enum-known-lists : tie.Need-enum-known-lists
+enum-known-lists c = search rules
 
 returns : tie.Need-returns
 returns c =
     let t = c.before.before.before in
-    let s = t.before.before.before.before.before.before in
-    let y = yard s in
-    let j = judge_lists y _ (sym (known-fault t.test-lists.ensures c.before.lists.given.1)) in
+    let y = yard t.before.before.before.before.before.before in
+    let j = judge_lists y _ (sym (sees t.test-lists.ensures c.before.lists.given.1)) in
     (j, λ m. let no : ◌≡◌ {A = ℕ} 0 1 = cc (j ∙ m) in absurd (omega arith))
+
+enum_told : tie.Need-enum-told
+enum_told c = search rules
 
 or-first-requires : tie.Need-or-first-requires
 or-first-requires c κs = (lists c.before).few.0
@@ -44,6 +50,9 @@ measure-requires c κs =
     let f = lists e in
     (record { few = f.few.1; node = f.parent_lt }, (start e).requires.0, (start e).requires.1, c.or-first.ensures.0)
 
+same_length : tie.Need-same-length
+same_length c = search rules
+
 returns-2 : tie.Need-returns-2
 returns-2 c =
     let m = c.before.before in
@@ -51,14 +60,18 @@ returns-2 c =
     let e = o.before.before in
     let y = yard (start e) in (
       m.measure.ensures.0 ∙ judge_shape y (sym (passed e)),
-      λ t l. (
-          let from : From y y.parents _ = record { tree = t; same = refl; node = o.or-first.ensures.0 } in
-          rw (o.or-first.ensures.1 l) at (m.measure.ensures.1.0 y from)
-          ),
+      λ t l. rw (o.or-first.ensures.1 l) at (m.measure.ensures.1.0 y (record { tree = t; same = refl; node = o.or-first.ensures.0 })),
     )
 
 pub test-from-spec : {M : Type 1} → statement M
 test-from-spec =
     tie.close
-    (tie.spec (λ c κs. search rules) (λ c. search rules) returns (λ c. search rules) or-first-requires measure-requires (λ c. search rules)
+    (tie.spec
+    test-lists-requires
+    enum-known-lists
+    returns
+    enum_told
+    or-first-requires
+    measure-requires
+    same_length
     returns-2)

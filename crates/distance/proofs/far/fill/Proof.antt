@@ -1,4 +1,4 @@
--- `fill` makes node after node known. If all are known, the parents form a tree (the laws are in
+-- `distance::far::fill` meets its contract: node by node what is not known yet is climbed for and written; where all are known the parents are a tree's (the laws are in
 -- Climbing and Marking).
 use mathlib.Core.Path.{refl, sym, ◌∙◌}
 use mathlib.Core.Bool.{false≢true}
@@ -15,17 +15,16 @@ use Rattle.distance.proofs.far.fill.Statement.{statement}
 use Rattle.distance.proofs.far.fill.Tie as tie
 
 abbrev invariant-loop : tie.invariant-loop
-invariant-loop parents marked node v₀ list v =
-    Filled parents list v × ((y : Yard) → From y parents node → Partly y node marked → Partly y node list)
+invariant-loop parents marked node v₀ list v = Filled parents list v × ((y : Yard) → From y parents node → Partly y node marked → Partly y node list)
 
 abbrev decreases-loop : tie.decreases-loop
 decreases-loop parents marked node v₀ list v = length parents - v
 
+mark-way-requires : tie.Need-mark-way-requires invariant-loop decreases-loop
+mark-way-requires c κs = search rules
+
 same_length : tie.Need-same-length invariant-loop decreases-loop
-same_length c =
-    let m = c.before.before.before in
-    let s = m.before.before.before.before in
-    m.mark-way.ensures.0.0.long ∙ sym s.requires.1.long
+same_length c = let m = c.before.before.before in m.mark-way.ensures.0.0.long ∙ sym m.before.before.before.before.requires.1.long
 
 returns : tie.Need-returns invariant-loop decreases-loop
 returns c =
@@ -43,12 +42,8 @@ abbrev call : tie.At-loop invariant-loop decreases-loop → tie.Start invariant-
 call c = c.before.before.before.before.before.before.before.before
 
 -- what is known at the head, in a tree
-here : (c : tie.At-loop invariant-loop decreases-loop) (y : Yard)
-    → let s = (call c).args in
-    From y s.parents.now s.node → Partly y s.node c.loop.list
-here c y f =
-    let m = c.before.before.before.before in
-    c.loop.invariant.1 y f (m.mark-way.ensures.1 y f).1
+here : (c : tie.At-loop invariant-loop decreases-loop) (y : Yard) → From y (call c).args.parents.now (call c).args.node → Partly y (call c).args.node c.loop.list
+here c y f = c.loop.invariant.1 y f (c.before.before.before.before.mark-way.ensures.1 y f).1
 
 know-requires : tie.Need-know-requires invariant-loop decreases-loop
 know-requires c κs = let i = c.before in let l = i.before in ((call l).requires.0, l.loop.invariant.0.entries, i.loop-test.true)
@@ -62,15 +57,19 @@ returns-2 : tie.Need-returns-2 invariant-loop decreases-loop
 returns-2 c =
     let k = c.before.before.before in
     let l = k.before.before.before in
-    let no = sym (not-true _ c.if2.true) in
-    ((λ q. absurd (false≢true q)), λ y f. absurd (false≢true (no ∙ (k.know.ensures.1 y _ f (here l y f)).0)))
+    ((λ q. absurd (false≢true q)), λ y f. absurd (false≢true (sym (not-true _ c.if2.true) ∙ (k.know.ensures.1 y _ f (here l y f)).0)))
+
+add-v : tie.Need-overflow-add-v invariant-loop decreases-loop
+add-v c = omega arith
+
+loop-less : tie.Need-loop-smaller invariant-loop decreases-loop
+loop-less c = omega arith
 
 loop-again : tie.Need-loop-preserved invariant-loop decreases-loop
 loop-again c =
     let k = c.before.before.before in
     let l = k.before.before.before in
-    let written = k.know.ensures.0.1 (not-false _ c.if2.false) in
-    (filled_next l.loop.invariant.0 written, λ y f p. (k.know.ensures.1 y _ f (l.loop.invariant.1 y f p)).1)
+    (filled_next l.loop.invariant.0 (k.know.ensures.0.1 (not-false _ c.if2.false)), λ y f p. (k.know.ensures.1 y _ f (l.loop.invariant.1 y f p)).1)
 
 same-length-3 : tie.Need-same-length-3 invariant-loop decreases-loop
 same-length-3 c = let l = c.before in l.loop.invariant.0.entries.long ∙ sym (call l).requires.1.long
@@ -86,5 +85,18 @@ returns-3 c =
 pub fill_spec : {M : Type 1} → statement M
 fill_spec =
     tie.close
-    (tie.spec invariant-loop decreases-loop (λ c κs. search rules) same_length returns loop-holds know-requires same-length-2 returns-2
-    (λ c. omega arith) (λ c. omega arith) loop-again same-length-3 returns-3)
+    (tie.spec
+    invariant-loop
+    decreases-loop
+    mark-way-requires
+    same_length
+    returns
+    loop-holds
+    know-requires
+    same-length-2
+    returns-2
+    add-v
+    loop-less
+    loop-again
+    same-length-3
+    returns-3)

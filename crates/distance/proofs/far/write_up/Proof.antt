@@ -1,5 +1,4 @@
--- `write_up`: each node that it writes leads to a node that was known (the laws are in Climbing),
--- in a tree by its distance (Marking).
+-- `distance::far::write_up` meets its contract: what it writes leads to a node that was known (the laws are in Climbing), in a tree by its distance (Marking).
 use mathlib.Core.Path.{◌≡◌, sym, ◌∙◌}
 use Prim.Native.Nat.{ℕ, ◌<◌}
 use native.Mathlib.Omega.{arith}
@@ -13,21 +12,17 @@ use Rattle.distance.proofs.far.write_up.Statement.{statement}
 use Rattle.distance.proofs.far.write_up.Tie as tie
 
 abbrev invariant-loop : tie.invariant-loop
-invariant-loop parents before v far w₀ steps₀ list w steps =
-    Writes parents v before list w steps
-    × ((y : Yard) (a : ℕ) (f : From y parents a) → Partly y a before → far ≡ distance y a v → Writing f list w steps)
+invariant-loop parents before v far w₀ steps₀ list w steps = Writes parents v before list w steps × ((y : Yard) (a : ℕ) (f : From y parents a) → Partly y a before → far ≡ distance y a v → Writing f list w steps)
 
 abbrev decreases-loop : tie.decreases-loop
 decreases-loop parents before v far w₀ steps₀ list w steps = steps
 
 loop-holds : tie.Need-loop-init invariant-loop decreases-loop
-loop-holds c = (writes_first c.requires, λ y a f q e. record { partly = q; node = omega (arith, c.requires.node, as_long f); far = e })
+loop-holds c = let p = c.requires in (writes_first p.1 p.2 p.3 p.4, λ y a f q e. record { partly = q; node = omega (arith, p.2, as_long f); far = e })
 
 -- the node at hand, of at most 256
-node : (c : tie.At-loop invariant-loop decreases-loop)
-    → let w = c.loop.w in
-    (w < 256) × (w < length c.loop.list) × (w < length c.before.args.parents.now)
-node c = let h = c.loop.invariant.0 in omega (arith, h.node, h.entries.long, c.before.requires.parents_ok.few)
+node : (c : tie.At-loop invariant-loop decreases-loop) → (c.loop.w < 256) × (c.loop.w < length c.loop.list) × (c.loop.w < length c.before.args.parents.now)
+node c = let h = c.loop.invariant.0 in omega (arith, h.node, h.entries.long, c.before.requires.0.few)
 
 mul-if1 : tie.Need-overflow-mul-if1 invariant-loop decreases-loop
 mul-if1 c = omega (arith, node c)
@@ -57,11 +52,11 @@ loop-again : tie.Need-loop-preserved invariant-loop decreases-loop
 loop-again c =
     let l = c.before.before.before in
     let i = l.loop.invariant in
-    let off = c.before.if1.true in
-    (writes_next i.0 off l.before.requires.parents_ok, λ y a f q e. rw (up_is f l.loop.w) (write_next f (i.1 y a f q e) off))
+    let p = l.before.requires in
+    (writes_next i.0 c.before.if1.true p.0, λ y a f q e. rw (up_is f l.loop.w) (write_next f (i.1 y a f q e) c.before.if1.true))
 
 same_length : tie.Need-same-length invariant-loop decreases-loop
-same_length c = let l = c.before.before in l.loop.invariant.0.entries.long ∙ sym l.before.requires.entries.long
+same_length c = let l = c.before.before in l.loop.invariant.0.entries.long ∙ sym l.before.requires.1.long
 
 returns : tie.Need-returns invariant-loop decreases-loop
 returns c =
@@ -71,5 +66,18 @@ returns c =
 pub write-up-spec : {M : Type 1} → statement M
 write-up-spec =
     tie.close
-    (tie.spec invariant-loop decreases-loop loop-holds mul-if1 slice-read-if1 mul-list slice-write-list sub-steps shared-slice-read-w cast-w loop-less
-    loop-again same_length returns)
+    (tie.spec
+    invariant-loop
+    decreases-loop
+    loop-holds
+    mul-if1
+    slice-read-if1
+    mul-list
+    slice-write-list
+    sub-steps
+    shared-slice-read-w
+    cast-w
+    loop-less
+    loop-again
+    same_length
+    returns)

@@ -1,4 +1,4 @@
--- `first_within`: no node that it passes holds a pebble within reach.
+-- `distance::look::first_within` meets its contract: no node passed holds a pebble within reach.
 use mathlib.Core.Path.{◌≡◌, refl, sym, ◌∙◌}
 use mathlib.Core.Logic.{◌≢◌}
 use mathlib.Core.Bool.{Bool, true, false}
@@ -6,8 +6,8 @@ use Prim.Native.Nat.{ℕ, ◌-◌, ◌≤◌, ◌<◌}
 use native.Mathlib.Omega.{arith}
 use lib.ListN.{length}
 use borrow.Author.Rules.{rules}
-use Rattle.model.specs.Numbers.{one}
-use Rattle.laws.proofs.Base.Search.{found, missed, none_next}
+use Rattle.model.specs.Yard.{one}
+use Rattle.laws.proofs.Found.{found, missed, none_next}
 use Rattle.distance.specs.Far.{is_within}
 use Rattle.distance.proofs.look.first_within.Statement.{statement}
 use Rattle.distance.proofs.look.first_within.Tie as tie
@@ -21,11 +21,17 @@ decreases-loop pebbles far reach v₀ v = length pebbles - v
 loop-holds : tie.Need-loop-init invariant-loop decreases-loop
 loop-holds c = (omega arith, λ w l. absurd (omega arith))
 
+shared-slice-read-in-reach : tie.Need-shared-slice-read-in-reach invariant-loop decreases-loop
+shared-slice-read-in-reach c = omega arith
+
 mul-in-reach : tie.Need-overflow-mul-in-reach invariant-loop decreases-loop
-mul-in-reach c = let s = c.before.before.before.before in omega (arith, s.requires)
+mul-in-reach c = omega (arith, c.before.before.before.before.requires)
 
 element-copy-out-in-reach : tie.Need-element-copy-out-in-reach invariant-loop decreases-loop
-element-copy-out-in-reach c = let s = c.before.before.before.before in omega (arith, s.requires)
+element-copy-out-in-reach c = omega (arith, c.before.before.before.before.requires)
+
+in-reach-requires : tie.Need-in-reach-requires invariant-loop decreases-loop
+in-reach-requires c κs = search rules
 
 is_one : (b : Bool) → one b ≡ 1 → b ≡ true
 is_one true e = refl
@@ -40,8 +46,13 @@ returns c =
     let a = c.before in
     let i = a.before.before.before in
     let s = i.before.before.before.args in
-    found _ _ _ (is_within s.pebbles.now s.far.now s.reach) i.loop-test.true i.before.loop.invariant.1
-    (is_one _ (sym a.in_reach.ensures ∙ c.if1.true))
+    found _ _ _ (is_within s.pebbles.now s.far.now s.reach) i.loop-test.true i.before.loop.invariant.1 (is_one _ (sym a.in_reach.ensures ∙ c.if1.true))
+
+add-v : tie.Need-overflow-add-v invariant-loop decreases-loop
+add-v c = omega arith
+
+loop-less : tie.Need-loop-smaller invariant-loop decreases-loop
+loop-less c = omega arith
 
 loop-again : tie.Need-loop-preserved invariant-loop decreases-loop
 loop-again c =
@@ -59,5 +70,16 @@ returns-2 c =
 pub first-within-spec : {M : Type 1} → statement M
 first-within-spec =
     tie.close
-    (tie.spec invariant-loop decreases-loop loop-holds (λ c. omega arith) mul-in-reach element-copy-out-in-reach (λ c κs. search rules) returns
-    (λ c. omega arith) (λ c. omega arith) loop-again returns-2)
+    (tie.spec
+    invariant-loop
+    decreases-loop
+    loop-holds
+    shared-slice-read-in-reach
+    mul-in-reach
+    element-copy-out-in-reach
+    in-reach-requires
+    returns
+    add-v
+    loop-less
+    loop-again
+    returns-2)

@@ -1,4 +1,4 @@
--- `in_reach`: no pebble, one too far away, one within reach.
+-- `distance::look::in_reach` meets its contract: no pebble, one too far away, one within reach.
 use mathlib.Core.Path.{◌≡◌, refl}
 use mathlib.Core.Bool.{true}
 use native.Mathlib.Omega.{arith}

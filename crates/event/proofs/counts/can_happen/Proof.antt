@@ -6,22 +6,29 @@ use Rattle.event.specs.Change.{can}
 use Rattle.event.proofs.counts.can_happen.Statement.{statement}
 use Rattle.event.proofs.counts.can_happen.Tie as tie
 
+enum_told : tie.Need-enum-told
+enum_told c = search rules
+
+enum-told-2 : tie.Need-enum-told-2
+enum-told-2 c = search rules
+
+enum-told-3 : tie.Need-enum-told-3
+enum-told-3 c = search rules
+
+enum-told-4 : tie.Need-enum-told-4
+enum-told-4 c = search rules
+
 returns : tie.Need-returns
 returns c = let a = c.before.before.args in sym (ap (λ (e : Event). can e a.pebble a.target a.depth) c.enum_told.given.1)
 
 returns-2 : tie.Need-returns-2
-returns-2 c =
-    let a = c.before.before.args in sym (ap (λ (e : Event). can e a.pebble a.target a.depth) c.enum-told2.given.1)
+returns-2 c = let a = c.before.before.args in sym (ap (λ (e : Event). can e a.pebble a.target a.depth) c.enum-told2.given.1)
 
 returns-3 : tie.Need-returns-3
-returns-3 c =
-    let a = c.before.before.args in sym (ap (λ (e : Event). can e a.pebble a.target a.depth) c.enum-told3.given.1)
+returns-3 c = let a = c.before.before.args in sym (ap (λ (e : Event). can e a.pebble a.target a.depth) c.enum-told3.given.1)
 
 returns-4 : tie.Need-returns-4
-returns-4 c =
-    let a = c.before.before.args in sym (ap (λ (e : Event). can e a.pebble a.target a.depth) c.enum-told4.given.1)
+returns-4 c = let a = c.before.before.args in sym (ap (λ (e : Event). can e a.pebble a.target a.depth) c.enum-told4.given.1)
 
 pub can-happen-spec : {M : Type 1} → statement M
-can-happen-spec =
-    tie.close
-    (tie.spec (λ c. search rules) (λ c. search rules) (λ c. search rules) (λ c. search rules) returns returns-2 returns-3 returns-4)
+can-happen-spec = tie.close (tie.spec enum_told enum-told-2 enum-told-3 enum-told-4 returns returns-2 returns-3 returns-4)

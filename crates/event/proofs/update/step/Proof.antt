@@ -5,6 +5,18 @@ use Rattle.event.specs.Change.{step_of}
 use Rattle.event.proofs.update.step.Statement.{statement}
 use Rattle.event.proofs.update.step.Tie as tie
 
+enum_told : tie.Need-enum-told
+enum_told c = search rules
+
+enum-told-2 : tie.Need-enum-told-2
+enum-told-2 c = search rules
+
+enum-told-3 : tie.Need-enum-told-3
+enum-told-3 c = search rules
+
+enum-told-4 : tie.Need-enum-told-4
+enum-told-4 c = search rules
+
 returns : tie.Need-returns
 returns c = sym (ap step_of c.enum_told.given.1)
 
@@ -18,6 +30,4 @@ returns-4 : tie.Need-returns-4
 returns-4 c = sym (ap step_of c.enum-told4.given.1)
 
 pub step_spec : {M : Type 1} → statement M
-step_spec =
-    tie.close
-    (tie.spec (λ c. search rules) (λ c. search rules) (λ c. search rules) (λ c. search rules) returns returns-2 returns-3 returns-4)
+step_spec = tie.close (tie.spec enum_told enum-told-2 enum-told-3 enum-told-4 returns returns-2 returns-3 returns-4)

@@ -1,5 +1,4 @@
--- `longest_plan` refuses an n outside 1 to 256, and else gives eight times a quarter of n × n,
--- which is at most 131,072.
+-- `longest_plan` refuses an n outside 1 to 256, and else gives eight times a quarter of n × n, which is at most 65,536.
 use Prim.Native.Nat.{◌*◌, ◌≤◌, ◌<◌}
 use native.Mathlib.Nat.{mul-le-mul, div-mul-le_self}
 use native.Mathlib.Omega.{arith}

@@ -1,5 +1,5 @@
--- `mark` marks only nodes of the climb: in the loop u is node i of it, so each store is at one of
--- the first `steps` nodes, and a store leaves every other entry as it was.
+-- `mark` changes nothing but marks, and those only at the nodes of the climb. In the loop u is the i-th of them, so each store is at one
+-- of the first `steps`; a store leaves every other entry as it was.
 use native.Mathlib.Omega.{arith}
 use native.Mathlib.Numerals.{add-one}
 use Prim.Native.Nat.{◌<◌, ◌-◌}
@@ -14,8 +14,7 @@ use Rattle.judge.proofs.circle.mark.Statement.{statement}
 use Rattle.judge.proofs.circle.mark.Tie as tie
 
 abbrev invariant-loop : tie.invariant-loop
-invariant-loop parents known₀ v steps u₀ i₀ known u i =
-    (above i parents v ≡ u) × (u < length parents) × Marked parents v steps known₀ known
+invariant-loop parents known₀ v steps u₀ i₀ known u i = (above i parents v ≡ u) × (u < length parents) × Marked parents v steps known₀ known
 
 abbrev decreases-loop : tie.decreases-loop
 decreases-loop parents known₀ v steps u₀ i₀ known u i = steps - i
@@ -24,8 +23,20 @@ loop-holds : tie.Need-loop-init invariant-loop decreases-loop
 unfolding above
 loop-holds c = (refl, c.requires.1, λ w. inl refl)
 
+element-write-known : tie.Need-element-write-known invariant-loop decreases-loop
+element-write-known c = omega arith
+
+shared-slice-read-u : tie.Need-shared-slice-read-u invariant-loop decreases-loop
+shared-slice-read-u c = omega arith
+
 cast-u : tie.Need-overflow-cast-u invariant-loop decreases-loop
 cast-u c = omega (arith, c.shared-slice-known.given c.before.before.loop.u)
+
+add-i : tie.Need-overflow-add-i invariant-loop decreases-loop
+add-i c = omega arith
+
+loop-less : tie.Need-loop-smaller invariant-loop decreases-loop
+loop-less c = omega arith
 
 loop-again : tie.Need-loop-preserved invariant-loop decreases-loop
 loop-again c =
@@ -46,5 +57,14 @@ returns c = c.before.loop.invariant.2
 pub mark_spec : {M : Type 1} → statement M
 mark_spec =
     tie.close
-    (tie.spec invariant-loop decreases-loop loop-holds (λ c. omega arith) (λ c. omega arith) cast-u (λ c. omega arith) (λ c. omega arith) loop-again
+    (tie.spec
+    invariant-loop
+    decreases-loop
+    loop-holds
+    element-write-known
+    shared-slice-read-u
+    cast-u
+    add-i
+    loop-less
+    loop-again
     returns)

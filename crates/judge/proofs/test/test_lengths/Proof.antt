@@ -1,7 +1,6 @@
--- `test_lengths` makes the tests of `length_tests` in their order: at each return the tests so far
--- are passed, and the next test refuses, or all are passed.
+-- `judge::test::test_lengths` meets its contract: at each return the tests so far are passed, and the next refuses or all are.
 use native.Mathlib.Omega.{arith}
-use Rattle.laws.proofs.Tree.Tests.{size_zero, size_large, pebbles_length, targets_length, depths_length, lengths_pass}
+use Rattle.laws.proofs.Tests.{size_zero, size_large, pebbles_length, targets_length, depths_length, lengths_pass}
 use Rattle.judge.proofs.test.test_lengths.Statement.{statement}
 use Rattle.judge.proofs.test.test_lengths.Tie as tie
 
@@ -23,20 +22,17 @@ returns-3 c =
 returns-4 : tie.Need-returns-4
 returns-4 c =
     let a = c.before.before.before.before.args in
-    targets_length a.parents.now a.pebbles.now a.targets.now a.depths.now (omega arith) (omega arith) (omega arith)
-    c.if4.true
+    targets_length a.parents.now a.pebbles.now a.targets.now a.depths.now (omega arith) (omega arith) (omega arith) c.if4.true
 
 returns-5 : tie.Need-returns-5
 returns-5 c =
     let a = c.before.before.before.before.before.args in
-    depths_length a.parents.now a.pebbles.now a.targets.now a.depths.now (omega arith) (omega arith) (omega arith)
-    (omega arith) c.if5.true
+    depths_length a.parents.now a.pebbles.now a.targets.now a.depths.now (omega arith) (omega arith) (omega arith) (omega arith) c.if5.true
 
 returns-6 : tie.Need-returns-6
 returns-6 c =
     let a = c.before.before.before.before.before.args in
-    lengths_pass a.parents.now a.pebbles.now a.targets.now a.depths.now (omega arith) (omega arith) (omega arith)
-    (omega arith) (omega arith)
+    lengths_pass a.parents.now a.pebbles.now a.targets.now a.depths.now (omega arith) (omega arith) (omega arith) (omega arith) (omega arith)
 
 pub test-lengths-spec : {M : Type 1} → statement M
 test-lengths-spec = tie.close (tie.spec returns returns-2 returns-3 returns-4 returns-5 returns-6)

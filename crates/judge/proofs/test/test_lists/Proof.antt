@@ -1,38 +1,48 @@
--- `test_lists` makes the tests of `list_tests` in their order: lists that have passed the test of
--- the lengths have one length, as the test of the entries requires.
-use mathlib.Core.Path.{sym, ◌∙◌}
+-- `judge::test::test_lists` meets its contract: the lengths are tested first, and what they have passed is what the test of the entries requires.
+use mathlib.Core.Path.{sym, ap, ◌∙◌}
 use borrow.Author.Rules.{rules}
 use Rattle.model.specs.Yard.{Yard, yard_of}
-use Rattle.laws.proofs.Calls.Answers.{known-fault}
-use Rattle.laws.proofs.Tree.Tests.{passed_lengths, lists_lengths, lists_entries}
+use Rattle.model.specs.Paper.{paper_done}
+use Rattle.laws.proofs.Tests.{passed_lengths, lists_lengths, lists_entries}
 use Rattle.judge.proofs.test.test_lists.Statement.{statement}
 use Rattle.judge.proofs.test.test_lists.Tie as tie
 
-abbrev start : tie.After-test-lengths → tie.Start
-start t = t.before.before.before.before.before
+abbrev yard : tie.Start → Yard
+yard s = yard_of s.args.parents.now s.args.pebbles.now s.args.targets.now s.args.depths.now
 
-abbrev yard : tie.After-test-lengths → Yard
-yard t = let a = (start t).args in yard_of a.parents.now a.pebbles.now a.targets.now a.depths.now
+test-lengths-requires : tie.Need-test-lengths-requires
+test-lengths-requires c κs = search rules
+
+enum-known-lengths : tie.Need-enum-known-lengths
+enum-known-lengths c = search rules
 
 returns : tie.Need-returns
 returns c =
     let t = c.before.before.before in
-    lists_lengths (yard t) _ (sym (known-fault t.test-lengths.ensures c.before.lengths.given.1))
+    lists_lengths (yard t.before.before.before.before.before) _ (sym (ap paper_done c.before.lengths.given.1) ∙ t.test-lengths.ensures)
+
+enum_told : tie.Need-enum-told
+enum_told c = search rules
 
 test-entries-requires : tie.Need-test-entries-requires
 test-entries-requires c κs =
     let t = c.before.before in
-    let a = (start t).args in
-    let passed = sym (known-fault t.test-lengths.ensures c.enum_told.given.1) in
-    let p = passed_lengths a.parents.now a.pebbles.now a.targets.now a.depths.now passed in
+    let a = t.before.before.before.before.before.args in
+    let p = passed_lengths a.parents.now a.pebbles.now a.targets.now a.depths.now (sym (ap paper_done c.enum_told.given.1) ∙ t.test-lengths.ensures) in
     (p.2, p.3, p.4)
 
 returns-2 : tie.Need-returns-2
 returns-2 c =
     let t = c.before.before.before in
-    c.test-entries.ensures ∙ lists_entries (yard t) (sym (known-fault t.test-lengths.ensures c.before.enum_told.given.1))
+    c.test-entries.ensures ∙ lists_entries (yard t.before.before.before.before.before) (sym (ap paper_done c.before.enum_told.given.1) ∙ t.test-lengths.ensures)
 
 pub test-lists-spec : {M : Type 1} → statement M
 test-lists-spec =
     tie.close
-    (tie.spec (λ c κs. search rules) (λ c. search rules) returns (λ c. search rules) test-entries-requires returns-2)
+    (tie.spec
+    test-lengths-requires
+    enum-known-lengths
+    returns
+    enum_told
+    test-entries-requires
+    returns-2)

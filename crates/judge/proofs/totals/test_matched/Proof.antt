@@ -1,14 +1,12 @@
--- `test_matched` refuses what `test_yard` refuses. The lists of a tree have one length, so the
--- totals of the two lists are those that `Totals` (7) compares.
+-- `test_matched` is refused as the lists are. Of a tree the lists have one length, so their totals are those that refusal 7 compares.
 use borrow.Author.Rules.{rules}
 use native.Mathlib.Omega.{arith}
 use Prim.Native.Nat.{ℕ}
 use mathlib.Core.Path.{◌≡◌, sym, ap, ◌∙◌}
-use Rattle.model.specs.Yard.{Yard, yard_of, pebble, target, pebbleCount, targetCount}
-use Rattle.model.specs.Numbers.{sum}
+use Rattle.model.specs.Yard.{Yard, yard_of, pebble, target, sum, pebbleCount, targetCount}
 use Rattle.model.specs.Judge.{Tree}
-use Rattle.laws.proofs.Tree.Judge.{facts}
-use Rattle.laws.proofs.Calls.Answers.{known-fault, matched-refused, matched-totals, matched-none}
+use Rattle.laws.proofs.Judged.{facts}
+use Rattle.laws.proofs.Calls.{sees, matched_refused, matched_totals, matched_none}
 use Rattle.judge.proofs.totals.test_matched.Statement.{statement}
 use Rattle.judge.proofs.totals.test_matched.Tie as tie
 
@@ -18,10 +16,19 @@ yard c =
     yard_of a.parents.now a.pebbles.now a.targets.now a.depths.now
 
 tree : (c : tie.After-enum-told) → Tree (yard c)
-tree c = known-fault c.before.before.test-yard.ensures c.enum_told.given.1
+tree c = sees c.before.before.test-yard.ensures c.enum_told.given.1
+
+test-yard-requires : tie.Need-test-yard-requires
+test-yard-requires c κs = search rules
+
+enum-known-tested : tie.Need-enum-known-tested
+enum-known-tested c = search rules
 
 returns : tie.Need-returns
-returns c = sym (matched-refused _ (known-fault c.before.before.before.test-yard.ensures c.before.tested.given.1))
+returns c = sym (matched_refused _ (sees c.before.before.before.test-yard.ensures c.before.tested.given.1))
+
+enum_told : tie.Need-enum-told
+enum_told c = search rules
 
 total-requires : tie.Need-total-requires
 total-requires c κs = let f = facts (yard c) (tree c) in omega (arith, f.few, f.pebbles_size)
@@ -43,14 +50,22 @@ targets c =
 returns-2 : tie.Need-returns-2
 returns-2 c =
     let e = c.before.before.before in
-    sym (matched-totals (yard e) (tree e) (λ m. omega (arith, pebbles c.before, targets c.before)))
+    sym (matched_totals (yard e) (tree e) (λ m. omega (arith, pebbles c.before, targets c.before)))
 
 returns-3 : tie.Need-returns-3
 returns-3 c =
     let e = c.before.before.before in
-    sym (matched-none (yard e) (tree e) (omega (arith, pebbles c.before, targets c.before)))
+    sym (matched_none (yard e) (tree e) (omega (arith, pebbles c.before, targets c.before)))
 
 pub test-matched-spec : {M : Type 1} → statement M
 test-matched-spec =
     tie.close
-    (tie.spec (λ c κs. search rules) (λ c. search rules) returns (λ c. search rules) total-requires total-requires-2 returns-2 returns-3)
+    (tie.spec
+    test-yard-requires
+    enum-known-tested
+    returns
+    enum_told
+    total-requires
+    total-requires-2
+    returns-2
+    returns-3)

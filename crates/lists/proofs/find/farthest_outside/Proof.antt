@@ -5,42 +5,68 @@ use native.Mathlib.Omega.{arith}
 use native.Mathlib.Numerals.{add-one}
 use lib.ListN.{length, get_or}
 use borrow.Author.Rules.{rules}
-use Rattle.model.specs.Numbers as Numbers
+use Rattle.model.specs.Yard as Yard
 use Rattle.lists.proofs.find.farthest_outside.Statement.{statement}
 use Rattle.lists.proofs.find.farthest_outside.Tie as tie
 
 abbrev invariant-loop : tie.invariant-loop
-invariant-loop list low high most₀ i₀ most i = (i ≤ length list) × (most ≡ Numbers.most i (λ v. max (low - get_or list v 0) (get_or list v 0 - high)))
+invariant-loop list low high most₀ i₀ most i = (i ≤ length list) × (most ≡ Yard.most i (λ v. max (low - get_or list v 0) (get_or list v 0 - high)))
 
 abbrev decreases-loop : tie.decreases-loop
 decreases-loop list low high most₀ i₀ most i = length list - i
 
 loop-holds : tie.Need-loop-init invariant-loop decreases-loop
-unfolding Numbers.most
+unfolding Yard.most
 loop-holds c = search rules
 
+shared-slice-read-above : tie.Need-shared-slice-read-above invariant-loop decreases-loop
+shared-slice-read-above c = omega arith
+
+above-requires : tie.Need-above-requires invariant-loop decreases-loop
+above-requires c κs = search rules
+
+shared-slice-read-above-2 : tie.Need-shared-slice-read-above-2 invariant-loop decreases-loop
+shared-slice-read-above-2 c = omega arith
+
+above-requires-2 : tie.Need-above-requires-2 invariant-loop decreases-loop
+above-requires-2 c κs = search rules
+
+larger-requires : tie.Need-larger-requires invariant-loop decreases-loop
+larger-requires c κs = search rules
+
+larger-requires-2 : tie.Need-larger-requires-2 invariant-loop decreases-loop
+larger-requires-2 c κs = search rules
+
+add-i : tie.Need-overflow-add-i invariant-loop decreases-loop
+add-i c = omega arith
+
+loop-less : tie.Need-loop-smaller invariant-loop decreases-loop
+loop-less c = omega arith
+
 loop-again : tie.Need-loop-preserved invariant-loop decreases-loop
-unfolding Numbers.most
-loop-again c = (
-  omega arith,
-  rw add-one (omega (
-    arith,
-    c.larger2.ensures,
-    c.before.larger.ensures,
-    c.before.before.above2.ensures,
-    c.before.before.before.before.above.ensures,
-  )),
-)
+unfolding Yard.most
+loop-again c = (omega arith, rw add-one (omega (arith, c.larger2.ensures, c.before.larger.ensures, c.before.before.above2.ensures, c.before.before.before.before.above.ensures)))
 
 returns : tie.Need-returns invariant-loop decreases-loop
 returns c =
     let a = c.before.before.before.args in
     let all : c.before.loop.i ≡ length a.list.now = omega arith in
-    c.before.loop.invariant.1
-    ∙ ap (λ (n : ℕ). Numbers.most n (λ v. max (a.low - get_or a.list.now v 0) (get_or a.list.now v 0 - a.high))) all
+    c.before.loop.invariant.1 ∙ ap (λ (n : ℕ). Yard.most n (λ v. max (a.low - get_or a.list.now v 0) (get_or a.list.now v 0 - a.high))) all
 
 pub farthest-outside-spec : {M : Type 1} → statement M
 farthest-outside-spec =
     tie.close
-    (tie.spec invariant-loop decreases-loop loop-holds (λ c. omega arith) (λ c κs. search rules) (λ c. omega arith) (λ c κs. search rules)
-    (λ c κs. search rules) (λ c κs. search rules) (λ c. omega arith) (λ c. omega arith) loop-again returns)
+    (tie.spec
+    invariant-loop
+    decreases-loop
+    loop-holds
+    shared-slice-read-above
+    above-requires
+    shared-slice-read-above-2
+    above-requires-2
+    larger-requires
+    larger-requires-2
+    add-i
+    loop-less
+    loop-again
+    returns)

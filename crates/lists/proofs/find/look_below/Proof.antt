@@ -1,5 +1,4 @@
--- `look_below`: no entry before the index is below the other's, so the first one met is the lowest,
--- and past the end there is none.
+-- `look_below`: no entry before the index is below the other's, so the first one met is the lowest, and past the end there is none.
 use Prim.Native.Nat.{ℕ, ◌-◌, ◌<◌, ◌≤◌}
 use mathlib.Core.Path.{◌≡◌, ◌∙◌}
 use mathlib.Core.Bool.{false}
@@ -8,7 +7,7 @@ use lib.ListN.{length, get_or}
 use lib.Dec.{ltb}
 use borrow.Author.Rules.{rules}
 use borrow.Author.Tests.{lt-ltb, le-ltb}
-use Rattle.laws.proofs.Base.Search.{found, missed, none_next}
+use Rattle.laws.proofs.Found.{found, missed, none_next}
 use Rattle.lists.proofs.find.look_below.Statement.{statement}
 use Rattle.lists.proofs.find.look_below.Tie as tie
 
@@ -21,8 +20,20 @@ decreases-loop list other i₀ i = length list - i
 loop-holds : tie.Need-loop-init invariant-loop decreases-loop
 loop-holds c = (omega arith, λ v l. absurd (omega arith))
 
+shared-slice-read-if1 : tie.Need-shared-slice-read-if1 invariant-loop decreases-loop
+shared-slice-read-if1 c = search rules
+
+shared-slice-read-if1-2 : tie.Need-shared-slice-read-if1-2 invariant-loop decreases-loop
+shared-slice-read-if1-2 c = omega arith
+
 returns : tie.Need-returns invariant-loop decreases-loop
 returns c = found _ _ _ _ (omega arith) c.before.before.before.before.loop.invariant.1 (lt-ltb _ _ c.if1.true)
+
+add-i : tie.Need-overflow-add-i invariant-loop decreases-loop
+add-i c = search rules
+
+loop-less : tie.Need-loop-smaller invariant-loop decreases-loop
+loop-less c = search rules
 
 loop-again : tie.Need-loop-preserved invariant-loop decreases-loop
 loop-again c = (omega arith, none_next _ _ c.before.before.before.before.loop.invariant.1 (le-ltb _ _ c.if1.false))
@@ -35,5 +46,14 @@ returns-2 c =
 pub look-below-spec : {M : Type 1} → statement M
 look-below-spec =
     tie.close
-    (tie.spec invariant-loop decreases-loop loop-holds (λ c. search rules) (λ c. omega arith) returns (λ c. search rules) (λ c. search rules) loop-again
+    (tie.spec
+    invariant-loop
+    decreases-loop
+    loop-holds
+    shared-slice-read-if1
+    shared-slice-read-if1-2
+    returns
+    add-i
+    loop-less
+    loop-again
     returns-2)

@@ -1,5 +1,4 @@
--- `look_outside`: no entry before the index is outside, so the first one met is the lowest, and
--- past the end there is none.
+-- `look_outside`: no entry before the index is outside, so the first one met is the lowest, and past the end there is none.
 use Prim.Native.Nat.{ℕ, ◌-◌, ◌<◌, ◌≤◌}
 use mathlib.Core.Path.{◌≡◌, ◌∙◌}
 use mathlib.Core.Bool.{Bool, true, false, not, ◌&&◌}
@@ -9,7 +8,7 @@ use lib.ListN.{length, get_or}
 use lib.Dec.{leb}
 use borrow.Author.Rules.{rules}
 use borrow.Author.Tests.{le-leb, lt-leb}
-use Rattle.laws.proofs.Base.Search.{found, missed, none_next}
+use Rattle.laws.proofs.Found.{found, missed, none_next}
 use Rattle.lists.proofs.find.look_outside.Statement.{statement}
 use Rattle.lists.proofs.find.look_outside.Tie as tie
 
@@ -34,19 +33,26 @@ decreases-loop list low high i₀ i = length list - i
 loop-holds : tie.Need-loop-init invariant-loop decreases-loop
 loop-holds c = (omega arith, λ v l. absurd (omega arith))
 
+shared-slice-read-if1 : tie.Need-shared-slice-read-if1 invariant-loop decreases-loop
+shared-slice-read-if1 c = search rules
+
 returns : tie.Need-returns invariant-loop decreases-loop
 returns c = found _ _ _ _ (omega arith) c.before.before.before.loop.invariant.1 (too-low _ _ _ c.if1.true)
 
+shared-slice-read-if2 : tie.Need-shared-slice-read-if2 invariant-loop decreases-loop
+shared-slice-read-if2 c = search rules
+
 returns-2 : tie.Need-returns-2 invariant-loop decreases-loop
-returns-2 c =
-    found _ _ _ _ (omega arith) c.before.before.before.before.before.loop.invariant.1
-    (too-high _ _ _ c.before.before.if1.false c.if2.true)
+returns-2 c = found _ _ _ _ (omega arith) c.before.before.before.before.before.loop.invariant.1 (too-high _ _ _ c.before.before.if1.false c.if2.true)
+
+add-i : tie.Need-overflow-add-i invariant-loop decreases-loop
+add-i c = search rules
+
+loop-less : tie.Need-loop-smaller invariant-loop decreases-loop
+loop-less c = search rules
 
 loop-again : tie.Need-loop-preserved invariant-loop decreases-loop
-loop-again c = (
-  omega arith,
-  none_next _ _ c.before.before.before.before.before.loop.invariant.1 (within _ _ _ c.before.before.if1.false c.if2.false),
-)
+loop-again c = (omega arith, none_next _ _ c.before.before.before.before.before.loop.invariant.1 (within _ _ _ c.before.before.if1.false c.if2.false))
 
 returns-3 : tie.Need-returns-3 invariant-loop decreases-loop
 returns-3 c =
@@ -56,5 +62,15 @@ returns-3 c =
 pub look-outside-spec : {M : Type 1} → statement M
 look-outside-spec =
     tie.close
-    (tie.spec invariant-loop decreases-loop loop-holds (λ c. search rules) returns (λ c. search rules) returns-2 (λ c. search rules) (λ c. search rules)
-    loop-again returns-3)
+    (tie.spec
+    invariant-loop
+    decreases-loop
+    loop-holds
+    shared-slice-read-if1
+    returns
+    shared-slice-read-if2
+    returns-2
+    add-i
+    loop-less
+    loop-again
+    returns-3)

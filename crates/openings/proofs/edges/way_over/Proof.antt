@@ -38,9 +38,7 @@ spares : (c : tie.Then4) → lt_z c.before.before.args.demand (pos 0) ≡ true
 spares c = rw (held c.before.before) at c.if4.true
 
 returns-4 : tie.Need-returns-4
-returns-4 c =
-    rw
-    (lacks-none c.before.before, spares c.before, le-ltb 0 c.before.before.before.args.pebbles (omega (arith, c.if5.true)))
+returns-4 c = rw (lacks-none c.before.before, spares c.before, le-ltb 0 c.before.before.before.args.pebbles (omega (arith, c.if5.true)))
 
 -- a pebble is held
 here : (c : tie.Else5) → ltb 0 c.before.before.before.args.pebbles ≡ true
@@ -56,4 +54,5 @@ returns-7 : tie.Need-returns-7
 returns-7 c = let s = c.before.before in rw (lacks-none c.before, rw (held s) at c.if4.false)
 
 pub way-over-spec : {M : Type 1} → statement M
-way-over-spec = tie.close (tie.spec returns returns-2 returns-3 returns-4 returns-5 returns-6 returns-7)
+way-over-spec =
+    tie.close (tie.spec returns returns-2 returns-3 returns-4 returns-5 returns-6 returns-7)

@@ -1,11 +1,10 @@
--- `name_parts`: cut at the edges of demand 0, the list leads up each part; then node by node is
--- named (the laws are in Naming).
+-- `parts::name::name_parts` meets its contract: cut at the edges of demand 0, the list leads up each part; then node by node is named (the laws are in Naming).
 use mathlib.Core.Path.{sym, ◌∙◌}
 use Prim.Native.Nat.{◌-◌}
 use native.Mathlib.Omega.{arith}
 use lib.ListN.{length}
 use Rattle.model.specs.Yard.{Yard}
-use Rattle.parts.specs.Naming.{Leads, NamePre, NamesPre}
+use Rattle.parts.specs.Naming.{Leads, AskedName, AskedNames}
 use Rattle.parts.proofs.Naming.{asked_cut, cut_leads, Names, names_none, names_next, names_all}
 use Rattle.parts.proofs.name.name_parts.Statement.{statement}
 use Rattle.parts.proofs.name.name_parts.Tie as tie
@@ -29,15 +28,14 @@ call c = c.before.before.before.before.before.before.before
 -- what is named at the head
 named : (c : tie.At-loop invariant-loop decreases-loop) (y : Yard)
     → let a = (call c).args in
-    NamesPre y a.parents.now a.demands.now a.parts.now → Names y c.loop.parts c.loop.v
+    AskedNames y a.parents.now a.demands.now a.parts.now → Names y c.loop.parts c.loop.v
 named c y a = c.loop.invariant y (cut_leads a c.before.before.before.cut-edges.ensures)
 
 -- what naming the node at hand asks
-asked : (c : tie.In-loop invariant-loop decreases-loop) (y : Yard) → Names y c.before.loop.parts c.before.loop.v
-    → NamePre y c.before.loop.parts c.before.loop.v
+asked : (c : tie.In-loop invariant-loop decreases-loop) (y : Yard) → Names y c.before.loop.parts c.before.loop.v → AskedName y c.before.loop.parts c.before.loop.v
 asked c y n = record { leads = n.leads; node = omega (arith, c.loop-test.true, n.leads.long) }
 
-here : (c : tie.In-loop invariant-loop decreases-loop) → NamePre (call c.before).pre.0 c.before.loop.parts c.before.loop.v
+here : (c : tie.In-loop invariant-loop decreases-loop) → AskedName (call c.before).pre.0 c.before.loop.parts c.before.loop.v
 here c = let p = (call c.before).pre in asked c p.0 (named c.before p.0 p.1)
 
 name-node-requires : tie.Need-name-node-requires invariant-loop decreases-loop
@@ -65,4 +63,14 @@ returns c y a = names_all (named c.before y a) c.loop-test.false
 pub name-parts-spec : {M : Type 1} → statement M
 name-parts-spec =
     tie.close
-    (tie.spec invariant-loop decreases-loop cut-edges-requires loop-holds name-node-requires add-v loop-less loop-again same_length returns)
+    (tie.spec
+    invariant-loop
+    decreases-loop
+    cut-edges-requires
+    loop-holds
+    name-node-requires
+    add-v
+    loop-less
+    loop-again
+    same_length
+    returns)

@@ -1,11 +1,11 @@
--- `inject_turn`: it fills the child that is chosen, if one is (the laws are in Settle).
+-- `planner::balance::inject_turn` meets its contract: it fills the child that is chosen, if one is (the laws are in Settle).
 use Rattle.laws.specs.Algorithms.{need}
 use borrow.Author.Rules.{rules}
 use mathlib.Core.Bool.{true}
 use mathlib.Core.Path.{◌≡◌}
 use Rattle.model.specs.Yard.{Yard}
 use Rattle.model.specs.Plan.{choice}
-use Rattle.planner.specs.Balancing.{TurnPre}
+use Rattle.planner.specs.Balancing.{AskedTurn}
 use Rattle.serve.proofs.Serving.{half_first, half_sees}
 use Rattle.planner.proofs.Settle.{taken_none, turn_asked, taken_some}
 use Rattle.planner.proofs.balance.inject_turn.Statement.{statement}
@@ -17,7 +17,7 @@ pick-requires c κs = let p = c.before.before.requires in (p.0, half_sees (half_
 -- the child that is chosen
 chosen : (c : tie.After-pick) (y : Yard)
     → let s = c.before.before.before.args in
-    TurnPre true y s.tree.now s.state.now s.plan.now s.u → c.pick.result ≡ choice (need y true) y s.u
+    AskedTurn true y s.t.now s.s.now s.plan.now s.u → c.pick.result ≡ choice (need y true) y s.u
 chosen c y a = c.pick.ensures.0 y (half_sees (half_first _ a.asked.described) a.asked.node)
 
 returns : tie.Need-returns
@@ -29,6 +29,9 @@ fill-child-requires c κs =
     let p = e.before.before.before.before.requires in
     (p.0, _, turn_asked p.1 (chosen e.before p.0 p.1) e.before.pick.ensures.1 e.if1.false)
 
+same_length : tie.Need-same-length
+same_length c = search rules
+
 returns-2 : tie.Need-returns-2
 returns-2 c y a =
     let m = c.before.before in
@@ -38,4 +41,11 @@ returns-2 c y a =
     taken_some a q p e.if1.false (m.fill-child.ensures y _ (turn_asked a q p e.if1.false))
 
 pub inject-turn-spec : {M : Type 1} → statement M
-inject-turn-spec = tie.close (tie.spec pick-requires returns fill-child-requires (λ c. search rules) returns-2)
+inject-turn-spec =
+    tie.close
+    (tie.spec
+    pick-requires
+    returns
+    fill-child-requires
+    same_length
+    returns-2)

@@ -1,5 +1,4 @@
--- `turn`: where u is empty, or no child lacks a pebble, it is a turn that draws; else one that
--- fills (the laws are in Settle).
+-- `planner::balance::turn` meets its contract: where u is empty, or no child lacks a pebble, it is a turn that draws; else one that fills (the laws are in Settle).
 use borrow.Author.Rules.{rules}
 use mathlib.Core.Path.{◌∙◌}
 use native.Mathlib.Omega.{arith}
@@ -23,6 +22,9 @@ extract-turn-requires c κs =
     let p = o.before.before.before.requires in
     (p.0, draws p.1 (side_empty p.1 o.if1.true))
 
+same_length : tie.Need-same-length
+same_length c = search rules
+
 returns : tie.Need-returns
 returns c y a =
     let m = c.before.before in
@@ -34,6 +36,9 @@ inject-turn-requires c κs =
     let o = c.before.before.before in
     let p = o.before.before.before.requires in
     (p.0, fills_held p.1 o.if1.false)
+
+same-length-2 : tie.Need-same-length-2
+same-length-2 c = search rules
 
 returns-2 : tie.Need-returns-2
 returns-2 c y a =
@@ -50,9 +55,7 @@ extract-turn-requires-2 c κs =
     (p.0, none_filled p.1 (m.inject-turn.ensures p.0 (fills_held p.1 n.if1.false)) o.if2.false)
 
 same-length-3 : tie.Need-same-length-3
-same-length-3 c =
-    let m = c.before.before in
-    m.extract-turn2.auto.1.1.0 ∙ m.before.before.before.before.before.before.before.inject-turn.auto.1.1.0
+same-length-3 c = let m = c.before.before in m.extract-turn2.auto.1.1.0 ∙ m.before.before.before.before.before.before.before.inject-turn.auto.1.1.0
 
 returns-3 : tie.Need-returns-3
 returns-3 c y a =
@@ -65,5 +68,16 @@ returns-3 c y a =
 pub turn_spec : {M : Type 1} → statement M
 turn_spec =
     tie.close
-    (tie.spec add-if1 mul-if1 element-copy-out-if1 extract-turn-requires (λ c. search rules) returns inject-turn-requires
-    (λ c. search rules) returns-2 extract-turn-requires-2 same-length-3 returns-3)
+    (tie.spec
+    add-if1
+    mul-if1
+    element-copy-out-if1
+    extract-turn-requires
+    same_length
+    returns
+    inject-turn-requires
+    same-length-2
+    returns-2
+    extract-turn-requires-2
+    same-length-3
+    returns-3)

@@ -1,5 +1,4 @@
--- `begins` compares byte by byte: the first i bytes of list and head agree. The measure is the
--- bytes of the head that are left.
+-- `begins` compares byte by byte: the first `i` are the same. The measure is what is left of the head.
 use mathlib.Core.Path.{◌≡◌, refl, ◌∙◌}
 use Prim.Native.Nat.{◌-◌, ◌≤◌}
 use native.Mathlib.Numerals.{add-one}
@@ -22,19 +21,29 @@ returns c = begins_short c.before.args.list.now c.before.args.head.now c.if1.tru
 loop-holds : tie.Need-loop-init invariant-loop decreases-loop
 loop-holds c = (omega arith, refl)
 
+shared-slice-read-if2 : tie.Need-shared-slice-read-if2 invariant-loop decreases-loop
+shared-slice-read-if2 c = omega arith
+
+shared-slice-read-if2-2 : tie.Need-shared-slice-read-if2-2 invariant-loop decreases-loop
+shared-slice-read-if2-2 c = omega arith
+
 returns-2 : tie.Need-returns-2 invariant-loop decreases-loop
 returns-2 c =
     let l = c.before.before.before.before in
     let a = l.before.before.args in
     begins_not a.list.now a.head.now l.loop.i (omega arith) c.if2.true
 
+add-i : tie.Need-overflow-add-i invariant-loop decreases-loop
+add-i c = omega arith
+
+loop-less : tie.Need-loop-smaller invariant-loop decreases-loop
+loop-less c = omega arith
+
 loop-again : tie.Need-loop-preserved invariant-loop decreases-loop
 loop-again c =
     let l = c.before.before.before.before in
     let a = l.before.before.args in
-    let list = take-suc a.list.now l.loop.i 0 (omega arith) in
-    let head = take-suc a.head.now l.loop.i 0 (omega arith) in
-    (omega arith, rw (add-one l.loop.i, list, head, l.loop.invariant.1, c.if2.false))
+    (omega arith, rw (add-one l.loop.i, take-suc a.list.now l.loop.i 0 (omega arith), take-suc a.head.now l.loop.i 0 (omega arith), l.loop.invariant.1, c.if2.false))
 
 returns-3 : tie.Need-returns-3 invariant-loop decreases-loop
 returns-3 c =
@@ -45,5 +54,15 @@ returns-3 c =
 pub begins-spec : {M : Type 1} → statement M
 begins-spec =
     tie.close
-    (tie.spec invariant-loop decreases-loop returns loop-holds (λ c. omega arith) (λ c. omega arith) returns-2 (λ c. omega arith) (λ c. omega arith)
-    loop-again returns-3)
+    (tie.spec
+    invariant-loop
+    decreases-loop
+    returns
+    loop-holds
+    shared-slice-read-if2
+    shared-slice-read-if2-2
+    returns-2
+    add-i
+    loop-less
+    loop-again
+    returns-3)

@@ -1,5 +1,4 @@
--- `read_lines` is `read_yard`: it compares the header, refuses a sheet without lines, and reads the
--- lines after the header.
+-- `read_lines` compares the header, tells a sheet of the header alone, and reads the lines behind it.
 use mathlib.Core.Path.{sym, ◌∙◌}
 use native.Mathlib.Omega.{arith}
 use borrow.Author.Rules.{rules}
@@ -9,18 +8,24 @@ use Rattle.reader.proofs.ReadCall.{other_header, no_line, some_line}
 use Rattle.reader.proofs.read.read_lines.Statement.{statement}
 use Rattle.reader.proofs.read.read_lines.Tie as tie
 
+slice-aggregate-begins : tie.Need-slice-aggregate-begins
+slice-aggregate-begins c = search rules
+
+begins-requires : tie.Need-begins-requires
+begins-requires c κs = search rules
+
 returns : tie.Need-returns
 unfolding header text
-returns c =
-    let b = c.before in
-    (other_header _ (sym b.begins.ensures ∙ not-true _ c.if1.true), (omega arith, b.before.before.before.requires))
+returns c = (other_header _ (sym c.before.begins.ensures ∙ not-true _ c.if1.true), (omega arith, c.before.before.before.before.requires))
 
 returns-2 : tie.Need-returns-2
 unfolding header text
 returns-2 c =
     let e = c.before in
-    let b = e.before in
-    (no_line _ (sym b.begins.ensures ∙ not-false _ e.if1.false) c.if2.true, (omega arith, b.before.before.before.requires))
+    (no_line _ (sym e.before.begins.ensures ∙ not-false _ e.if1.false) c.if2.true, (omega arith, c.before.before.before.before.before.requires))
+
+read-nodes-requires : tie.Need-read-nodes-requires
+read-nodes-requires c κs = search rules
 
 returns-3 : tie.Need-returns-3
 unfolding header text
@@ -30,4 +35,12 @@ returns-3 c =
     (r.0 ∙ some_line _ (sym e.before.before.begins.ensures ∙ not-false _ e.before.if1.false) e.if2.false, r.1)
 
 pub read-lines-spec : {M : Type 1} → statement M
-read-lines-spec = tie.close (tie.spec (λ c. search rules) (λ c κs. search rules) returns returns-2 (λ c κs. search rules) returns-3)
+read-lines-spec =
+    tie.close
+    (tie.spec
+    slice-aggregate-begins
+    begins-requires
+    returns
+    returns-2
+    read-nodes-requires
+    returns-3)

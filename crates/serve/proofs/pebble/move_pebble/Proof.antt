@@ -1,4 +1,4 @@
--- `move_pebble`: the two counts are at different places.
+-- `serve::pebble::move_pebble` meets its contract: the two counts are at different places.
 use native.Mathlib.Omega.{arith}
 use Prim.Native.Nat.{◌+◌}
 use lib.IntN.{pos}
@@ -6,20 +6,20 @@ use lib.Seq.{get_or-set_other}
 use borrow.Author.Rules.{rules}
 use Rattle.serve.proofs.pebble.move_pebble.Statement.{statement}
 use Rattle.serve.proofs.pebble.move_pebble.Tie as tie
-use Rattle.serve.specs.Serving.{pebbles_at}
+
+count-pebble-requires : tie.Need-count-pebble-requires
+count-pebble-requires c κs = search rules
 
 count-pebble-requires-2 : tie.Need-count-pebble-requires-2
 count-pebble-requires-2 c κs =
     let s = c.before.before.before.before in
-    let a = s.args in
-    let p = s.requires in (
-      p.0.1,
-      rw (
-        c.before.count-pebble.ensures,
-        get_or-set_other a.state.now (pebbles_at a.from) (pebbles_at a.to) _ (pos 0) (λ e. p.0.2 (omega arith)),
-      )
-          p.1.1,
-    )
+    (s.requires.1, rw (c.before.count-pebble.ensures, get_or-set_other s.args.s.now (256 + s.args.u) (256 + s.args.v) _ (pos 0) (λ e. s.requires.2 (omega arith))) s.requires.4)
+
+record-move-requires : tie.Need-record-move-requires
+record-move-requires c κs = search rules
+
+same_length : tie.Need-same-length
+same_length c = search rules
 
 returns : tie.Need-returns
 returns c =
@@ -28,4 +28,11 @@ returns c =
     (rw (k.count-pebble2.ensures, k.before.before.count-pebble.ensures), m.record-move.ensures)
 
 pub move-pebble-spec : {M : Type 1} → statement M
-move-pebble-spec = tie.close (tie.spec (λ c κs. search rules) count-pebble-requires-2 (λ c κs. search rules) (λ c. search rules) returns)
+move-pebble-spec =
+    tie.close
+    (tie.spec
+    count-pebble-requires
+    count-pebble-requires-2
+    record-move-requires
+    same_length
+    returns)

@@ -1,5 +1,5 @@
--- `put_decimal` writes the digits of a number from the last to the first: writing the rest in the
--- present list gives what writing the number in the first list gives. The measure is the rest.
+-- `put_decimal` writes the digits of a number from the last to the first: what is left to write, written over the list so far, is the number
+-- written over the list as it was. The measure is what is left of the number.
 use mathlib.Core.Path.{◌≡◌, refl, ◌∙◌}
 use Prim.Native.Nat.{◌+◌, ◌/◌, ◌<◌}
 use native.Mathlib.Omega.{arith}
@@ -13,12 +13,16 @@ use Rattle.sheet.proofs.decimal.put_decimal.Statement.{statement}
 use Rattle.sheet.proofs.decimal.put_decimal.Tie as tie
 
 abbrev invariant-loop : tie.invariant-loop
-invariant-loop out₀ at n end i₀ rest₀ out i rest =
-    (i + 1 ≡ at + length (decimal rest)) × (i < length out) × (length out ≡ length out₀)
-    × (sets out at (decimal rest) ≡ sets out₀ at (decimal n))
+invariant-loop out₀ at n end i₀ rest₀ out i rest = (i + 1 ≡ at + length (decimal rest)) × (i < length out) × (length out ≡ length out₀) × (sets out at (decimal rest) ≡ sets out₀ at (decimal n))
 
 abbrev decreases-loop : tie.decreases-loop
 decreases-loop out₀ at n end i₀ rest₀ out i rest = rest
+
+width-requires : tie.Need-width-requires invariant-loop decreases-loop
+width-requires c κs = search rules
+
+add-end : tie.Need-overflow-add-end invariant-loop decreases-loop
+add-end c = omega arith
 
 sub-i : tie.Need-overflow-sub-i invariant-loop decreases-loop
 sub-i c = omega (arith, length_some c.before.before.args.n)
@@ -28,8 +32,20 @@ loop-holds c =
     let h = length_some c.before.before.args.n in
     (omega arith, omega arith, refl, refl)
 
+cast-out : tie.Need-overflow-cast-out invariant-loop decreases-loop
+cast-out c = omega arith
+
+add-out : tie.Need-overflow-add-out invariant-loop decreases-loop
+add-out c = omega arith
+
+slice-write-out : tie.Need-slice-write-out invariant-loop decreases-loop
+slice-write-out c = omega arith
+
 sub-i-2 : tie.Need-overflow-sub-i-2 invariant-loop decreases-loop
 sub-i-2 c = omega (arith, length_high c.before.loop.rest c.loop-test.true, length_some (c.before.loop.rest / 10))
+
+loop-less : tie.Need-loop-smaller invariant-loop decreases-loop
+loop-less c = omega arith
 
 loop-again : tie.Need-loop-preserved invariant-loop decreases-loop
 loop-again c =
@@ -38,6 +54,15 @@ loop-again c =
     let s = length_some (l.rest / 10) in
     let d = put_digit _ l.i l.rest l.out l.invariant.0 c.loop-test.true in
     (omega arith, simp length-set (omega arith), simp length-set (omega arith), d ∙ l.invariant.3)
+
+cast-out-2 : tie.Need-overflow-cast-out-2 invariant-loop decreases-loop
+cast-out-2 c = omega arith
+
+add-out-2 : tie.Need-overflow-add-out-2 invariant-loop decreases-loop
+add-out-2 c = omega arith
+
+slice-write-out-2 : tie.Need-slice-write-out-2 invariant-loop decreases-loop
+slice-write-out-2 c = omega arith
 
 same_length : tie.Need-same-length invariant-loop decreases-loop
 same_length c = simp length-set c.before.loop.invariant.2
@@ -50,5 +75,21 @@ returns c =
 pub put-decimal-spec : {M : Type 1} → statement M
 put-decimal-spec =
     tie.close
-    (tie.spec invariant-loop decreases-loop (λ c κs. search rules) (λ c. omega arith) sub-i loop-holds (λ c. omega arith) (λ c. omega arith)
-    (λ c. omega arith) sub-i-2 (λ c. omega arith) loop-again (λ c. omega arith) (λ c. omega arith) (λ c. omega arith) same_length returns)
+    (tie.spec
+    invariant-loop
+    decreases-loop
+    width-requires
+    add-end
+    sub-i
+    loop-holds
+    cast-out
+    add-out
+    slice-write-out
+    sub-i-2
+    loop-less
+    loop-again
+    cast-out-2
+    add-out-2
+    slice-write-out-2
+    same_length
+    returns)

@@ -1,5 +1,4 @@
--- `width` counts the digits of a number: a tenth has one digit less, and a number below 10 has one
--- digit. The measure is the rest of the number.
+-- `width` counts the digits of a number: each tenth has one fewer, and a number below 10 has one. The measure is what is left of the number.
 use mathlib.Core.Path.{◌≡◌}
 use Prim.Native.Nat.{◌+◌, ◌≤◌}
 use native.Mathlib.Omega.{arith}
@@ -15,6 +14,15 @@ invariant-loop n rest₀ count₀ rest count = (count + length (decimal rest) �
 abbrev decreases-loop : tie.decreases-loop
 decreases-loop n rest₀ count₀ rest count = rest
 
+loop-holds : tie.Need-loop-init invariant-loop decreases-loop
+loop-holds c = omega arith
+
+add-count : tie.Need-overflow-add-count invariant-loop decreases-loop
+add-count c = omega arith
+
+loop-less : tie.Need-loop-smaller invariant-loop decreases-loop
+loop-less c = omega arith
+
 loop-again : tie.Need-loop-preserved invariant-loop decreases-loop
 loop-again c = omega (arith, length_high c.before.loop.rest c.loop-test.true)
 
@@ -22,4 +30,4 @@ returns : tie.Need-returns invariant-loop decreases-loop
 returns c = omega (arith, length_low c.before.loop.rest c.loop-test.false)
 
 pub width_spec : {M : Type 1} → statement M
-width_spec = tie.close (tie.spec invariant-loop decreases-loop (λ c. omega arith) (λ c. omega arith) (λ c. omega arith) loop-again returns)
+width_spec = tie.close (tie.spec invariant-loop decreases-loop loop-holds add-count loop-less loop-again returns)

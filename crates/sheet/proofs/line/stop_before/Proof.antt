@@ -1,5 +1,4 @@
--- `stop_before` is `stopBefore`: a line feed after the last value of a line, a space after the
--- others.
+-- `stop_before` tells the last value of a line from the others.
 use Rattle.sheet.proofs.Rows.{stop_last, stop_inner}
 use Rattle.sheet.proofs.line.stop_before.Statement.{statement}
 use Rattle.sheet.proofs.line.stop_before.Tie as tie

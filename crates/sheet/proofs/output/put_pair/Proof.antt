@@ -1,4 +1,4 @@
--- `put_pair` writes the head and then a line of two values, which has at most 14 bytes.
+-- `put_pair` writes the head and a line of two values, which takes at most 14 bytes.
 use native.Mathlib.Omega.{arith}
 use borrow.Author.Rules.{rules}
 use Rattle.sheet.proofs.Rows.{length_pair}
@@ -6,24 +6,35 @@ use Rattle.sheet.proofs.Writing.{written_append, written_front}
 use Rattle.sheet.proofs.output.put_pair.Statement.{statement}
 use Rattle.sheet.proofs.output.put_pair.Tie as tie
 
--- the start, from the place after the head
-abbrev start : tie.After-put-text → tie.Start
-start t = t.before.before.before.before
+put-text-requires : tie.Need-put-text-requires
+put-text-requires c κs = search rules
+
+slice-aggregate-put-line : tie.Need-slice-aggregate-put-line
+slice-aggregate-put-line c = search rules
 
 put-line-requires : tie.Need-put-line-requires
 put-line-requires c κs =
-    let t = c.before.before.before.before in
-    let s = start t in
-    omega (arith, length_pair s.args.first s.args.second s.pre.0 s.pre.1)
+    let s = c.before.before.before.before.before.before.before.before in
+    omega (arith, length_pair s.args.first s.args.second s.requires.0 s.requires.1)
+
+same_length : tie.Need-same-length
+same_length c = search rules
 
 returns : tie.Need-returns
 returns c =
     let l = c.before.before in
     let t = l.before.before.before.before.before in
-    let s = start t in
+    let s = t.before.before.before.before in
     let p = t.put-text.ensures in
-    let short = length_pair s.args.first s.args.second s.pre.0 s.pre.1 in
-    written_front (written_append p l.put-line.ensures) (omega (arith, l.put-line.ensures.end, p.end, s.pre.2, short))
+    written_front (written_append p l.put-line.ensures)
+    (omega (arith, l.put-line.ensures.end, p.end, s.requires.2, length_pair s.args.first s.args.second s.requires.0 s.requires.1))
 
 pub put-pair-spec : {M : Type 1} → statement M
-put-pair-spec = tie.close (tie.spec (λ c κs. search rules) (λ c. search rules) put-line-requires (λ c. search rules) returns)
+put-pair-spec =
+    tie.close
+    (tie.spec
+    put-text-requires
+    slice-aggregate-put-line
+    put-line-requires
+    same_length
+    returns)

@@ -1,5 +1,4 @@
--- `put_edges` has written the lines of the edges below v before each turn. The measure is the nodes
--- left.
+-- `put_edges` has written, before each turn, the lines of the edges below v. The measure is the nodes left.
 use mathlib.Core.Path.{◌≡◌, sym, ap}
 use Prim.Native.Nat.{◌-◌, ◌≤◌}
 use native.Mathlib.Omega.{arith}
@@ -20,23 +19,24 @@ decreases-loop ups downs root out₀ at end₀ v₀ out end v = length ups - v
 abbrev start : tie.At-loop invariant-loop decreases-loop → tie.Start invariant-loop decreases-loop
 start l = l.before.before.before.before
 
--- the list keeps its length
+-- the list is as long as it was
 long : (l : tie.At-loop invariant-loop decreases-loop) → length l.loop.out ≡ length (start l).args.out.now
 long l = written_length l.loop.invariant.1
 
 loop-holds : tie.Need-loop-init invariant-loop decreases-loop
-loop-holds c =
-    let a = c.before.before.before.args in
-    (omega arith, written_as (sym (edges_none a.ups.now a.downs.now a.root)) (written_none _ _))
+loop-holds c = let a = c.before.before.before.args in (omega arith, written_as (sym (edges_none a.ups.now a.downs.now a.root)) (written_none _ _))
 
 mul-put-edge : tie.Need-overflow-mul-put-edge invariant-loop decreases-loop
 mul-put-edge c = omega (arith, (start c.before.before).pre.0.few)
+
+shared-slice-read-put-edge : tie.Need-shared-slice-read-put-edge invariant-loop decreases-loop
+shared-slice-read-put-edge c = omega arith
 
 mul-put-edge-2 : tie.Need-overflow-mul-put-edge-2 invariant-loop decreases-loop
 mul-put-edge-2 c = omega (arith, (start c.before.before.before).pre.0.few)
 
 shared-slice-read-put-edge-2 : tie.Need-shared-slice-read-put-edge-2 invariant-loop decreases-loop
-shared-slice-read-put-edge-2 c = let l = c.before.before.before.before in omega (arith, (start l).requires.0.same)
+shared-slice-read-put-edge-2 c = omega (arith, (start c.before.before.before.before).pre.0.same)
 
 put-edge-requires : tie.Need-put-edge-requires invariant-loop decreases-loop
 put-edge-requires c κs =
@@ -50,13 +50,18 @@ put-edge-requires c κs =
       omega (arith, p.1, long l, l.loop.invariant.1.end, edges_short a.ups.now a.downs.now a.root p.0 v (omega arith)),
     )
 
+add-v : tie.Need-overflow-add-v invariant-loop decreases-loop
+add-v c = omega arith
+
+loop-less : tie.Need-loop-smaller invariant-loop decreases-loop
+loop-less c = omega arith
+
 loop-again : tie.Need-loop-preserved invariant-loop decreases-loop
 loop-again c =
     let p = c.before.before in
     let l = p.before.before.before.before.before in
     let a = (start l).args in
-    let next = edges_next a.ups.now a.downs.now a.root l.loop.v in
-    (omega arith, written_as (sym next) (written_append l.loop.invariant.1 p.put-edge.ensures))
+    (omega arith, written_as (sym (edges_next a.ups.now a.downs.now a.root l.loop.v)) (written_append l.loop.invariant.1 p.put-edge.ensures))
 
 same_length : tie.Need-same-length invariant-loop decreases-loop
 same_length c = long c.before
@@ -71,5 +76,17 @@ returns c =
 pub put-edges-spec : {M : Type 1} → statement M
 put-edges-spec =
     tie.close
-    (tie.spec invariant-loop decreases-loop loop-holds mul-put-edge (λ c. omega arith) mul-put-edge-2 shared-slice-read-put-edge-2 put-edge-requires
-    (λ c. omega arith) (λ c. omega arith) loop-again same_length returns)
+    (tie.spec
+    invariant-loop
+    decreases-loop
+    loop-holds
+    mul-put-edge
+    shared-slice-read-put-edge
+    mul-put-edge-2
+    shared-slice-read-put-edge-2
+    put-edge-requires
+    add-v
+    loop-less
+    loop-again
+    same_length
+    returns)

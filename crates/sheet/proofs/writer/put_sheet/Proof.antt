@@ -1,5 +1,4 @@
--- `put_sheet` writes the header and then line after line: the lines from node v on are left. The
--- measure is the nodes left.
+-- `put_sheet` writes the header and then line by line: the lines from node v on are left. The measure is the nodes left.
 use mathlib.Core.Path.{refl, ◌∙◌}
 use Prim.Native.Nat.{◌-◌, ◌≤◌, ◌<◌}
 use native.Mathlib.Omega.{arith}
@@ -22,25 +21,23 @@ decreases-loop parents pebbles targets depths sheet₀ at₀ v₀ sheet at v = l
 abbrev yard : tie.Start invariant-loop decreases-loop → Yard
 yard s = yard_of s.args.parents.now s.args.pebbles.now s.args.targets.now s.args.depths.now
 
--- the place after the header, and the start, from the loop
-abbrev headed : tie.At-loop invariant-loop decreases-loop → tie.After-put-text invariant-loop decreases-loop
-headed l = l.before.before.before
-
 abbrev start : tie.At-loop invariant-loop decreases-loop → tie.Start invariant-loop decreases-loop
-start l = (headed l).before.before.before.before.before.before.before.before
+start l = l.before.before.before.before.before.before.before.before.before.before.before
 
-inside : (l : tie.At-loop invariant-loop decreases-loop) → let a = (start l).args in l.loop.v < length a.parents.now
-    → (l.loop.v < length a.pebbles.now) × (l.loop.v < length a.targets.now) × (l.loop.v < length a.depths.now)
+inside : (l : tie.At-loop invariant-loop decreases-loop) → let a = (start l).args in l.loop.v < length a.parents.now → (l.loop.v < length a.pebbles.now) × (l.loop.v < length a.targets.now) × (l.loop.v < length a.depths.now)
 inside l h = omega (arith, (start l).requires)
 
 slice-aggregate-put-text : tie.Need-slice-aggregate-put-text invariant-loop decreases-loop
 slice-aggregate-put-text c = refl
 
 put-text-requires : tie.Need-put-text-requires invariant-loop decreases-loop
-put-text-requires c κs = let s = c.before.before.before.before.before.before.before in omega (arith, length_yard_sheet (yard s))
+put-text-requires c κs = omega (arith, length_yard_sheet (yard c.before.before.before.before.before.before.before))
 
 loop-holds : tie.Need-loop-init invariant-loop decreases-loop
 loop-holds c = (omega arith, left_all _ _ _)
+
+shared-slice-read-parent : tie.Need-shared-slice-read-parent invariant-loop decreases-loop
+shared-slice-read-parent c = omega arith
 
 cast-parent : tie.Need-overflow-cast-parent invariant-loop decreases-loop
 cast-parent c = omega (arith, c.shared-slice-known5.given c.before.before.loop.v)
@@ -52,16 +49,16 @@ cast-pebble : tie.Need-overflow-cast-pebble invariant-loop decreases-loop
 cast-pebble c = omega (arith, c.shared-slice-known6.given c.before.before.before.loop.v)
 
 shared-slice-read-target : tie.Need-shared-slice-read-target invariant-loop decreases-loop
-shared-slice-read-target c = let l = c.before.before.before.before in (inside l (omega arith)).1
+shared-slice-read-target c = (inside c.before.before.before.before (omega arith)).1
 
 cast-target : tie.Need-overflow-cast-target invariant-loop decreases-loop
-cast-target c = let l = c.before.before.before.before in omega (arith, c.shared-slice-known7.given l.loop.v)
+cast-target c = omega (arith, c.shared-slice-known7.given c.before.before.before.before.loop.v)
 
 shared-slice-read-depth : tie.Need-shared-slice-read-depth invariant-loop decreases-loop
-shared-slice-read-depth c = let l = c.before.before.before.before.before in (inside l (omega arith)).2
+shared-slice-read-depth c = (inside c.before.before.before.before.before (omega arith)).2
 
 cast-depth : tie.Need-overflow-cast-depth invariant-loop decreases-loop
-cast-depth c = let l = c.before.before.before.before.before in omega (arith, c.shared-slice-known8.given l.loop.v)
+cast-depth c = omega (arith, c.shared-slice-known8.given c.before.before.before.before.before.loop.v)
 
 slice-aggregate-put-line : tie.Need-slice-aggregate-put-line invariant-loop decreases-loop
 slice-aggregate-put-line c = refl
@@ -69,33 +66,52 @@ slice-aggregate-put-line c = refl
 put-line-requires : tie.Need-put-line-requires invariant-loop decreases-loop
 put-line-requires c κs =
     let l = c.before.before.before.before.before.before.before in
-    let p = (headed l).put-text in
+    let p = l.before.before.before.put-text in
     let s = start l in
-    let left = l.loop.invariant.1 in
-    let next = length_rows_next (yard s) l.loop.v (omega arith) in
-    omega (arith, s.pre.1, p.kept.0, p.ensures.end, left.end, left_length left, length_yard_sheet (yard s), next)
+    omega (arith, s.pre.1, p.auto.0, p.ensures.end, l.loop.invariant.1.end, left_length l.loop.invariant.1, length_yard_sheet (yard s), length_rows_next (yard s) l.loop.v (omega arith))
+
+add-v : tie.Need-overflow-add-v invariant-loop decreases-loop
+add-v c = omega arith
+
+loop-less : tie.Need-loop-smaller invariant-loop decreases-loop
+loop-less c = omega arith
 
 loop-again : tie.Need-loop-preserved invariant-loop decreases-loop
 loop-again c =
     let l = c.before.before.before.before.before.before.before.before.before.before in
-    let next = rows_next (yard (start l)) l.loop.v (omega arith) in
-    (omega arith, left_next l.loop.invariant.1 next c.before.before.put-line.ensures)
+    (omega arith, left_next l.loop.invariant.1 (rows_next (yard (start l)) l.loop.v (omega arith)) c.before.before.put-line.ensures)
 
 same_length : tie.Need-same-length invariant-loop decreases-loop
-same_length c = let l = c.before in left_length l.loop.invariant.1 ∙ (headed l).put-text.auto.0
+same_length c = left_length c.before.loop.invariant.1 ∙ c.before.before.before.before.put-text.auto.0
 
 returns : tie.Need-returns invariant-loop decreases-loop
 unfolding header text
 returns c =
-    let l = c.before in
-    let s = start l in
-    let p : Written header 0 s.args.sheet.now _ _ = (headed l).put-text.ensures in
-    let rest = left_none l.loop.invariant.1 (rows_end (yard s) l.loop.v c.loop-test.false) in
-    written_as (rows_all (yard s)) (written_append p rest)
+    let s = start c.before in
+    let p : Written header 0 s.args.sheet.now _ _ = c.before.before.before.before.put-text.ensures in
+    written_as (rows_all (yard s)) (written_append p (left_none c.before.loop.invariant.1 (rows_end (yard s) c.before.loop.v c.loop-test.false)))
 
 pub put-sheet-spec : {M : Type 1} → statement M
 put-sheet-spec =
     tie.close
-    (tie.spec invariant-loop decreases-loop slice-aggregate-put-text put-text-requires loop-holds (λ c. omega arith) cast-parent shared-slice-read-pebble
-    cast-pebble shared-slice-read-target cast-target shared-slice-read-depth cast-depth slice-aggregate-put-line put-line-requires
-    (λ c. omega arith) (λ c. omega arith) loop-again same_length returns)
+    (tie.spec
+    invariant-loop
+    decreases-loop
+    slice-aggregate-put-text
+    put-text-requires
+    loop-holds
+    shared-slice-read-parent
+    cast-parent
+    shared-slice-read-pebble
+    cast-pebble
+    shared-slice-read-target
+    cast-target
+    shared-slice-read-depth
+    cast-depth
+    slice-aggregate-put-line
+    put-line-requires
+    add-v
+    loop-less
+    loop-again
+    same_length
+    returns)

@@ -1,5 +1,4 @@
--- `lowest_edge`: no entry before has so many, so the first one met is the lowest, and past the end
--- there is none.
+-- `lowest_edge`: no entry before has so many, so the first one met is the lowest, and past the end there is none.
 use mathlib.Core.Path.{◌≡◌}
 use mathlib.Core.Bool.{false}
 use Prim.Native.Nat.{ℕ, ◌-◌, ◌≤◌, ◌<◌}
@@ -7,7 +6,7 @@ use native.Mathlib.Omega.{arith}
 use lib.ListN.{get_or}
 use lib.Dec.{eqb}
 use borrow.Author.Tests.{eq-eqb, ne_eqb}
-use Rattle.laws.proofs.Base.Search.{found, missed, none_next}
+use Rattle.laws.proofs.Found.{found, missed, none_next}
 use Rattle.wear.proofs.count.lowest_edge.Statement.{statement}
 use Rattle.wear.proofs.count.lowest_edge.Tie as tie
 
@@ -46,4 +45,16 @@ returns-2 : tie.Need-returns-2 invariant-loop decreases-loop
 returns-2 c = missed _ _ _ (λ u l. c.before.loop.invariant.1 u (omega (arith, c.loop-test.false)))
 
 pub lowest-edge-spec : {M : Type 1} → statement M
-lowest-edge-spec = tie.close (tie.spec invariant-loop decreases-loop loop-holds mul-if1 element-copy-out-if1 returns add-v loop-less loop-again returns-2)
+lowest-edge-spec =
+    tie.close
+    (tie.spec
+    invariant-loop
+    decreases-loop
+    loop-holds
+    mul-if1
+    element-copy-out-if1
+    returns
+    add-v
+    loop-less
+    loop-again
+    returns-2)

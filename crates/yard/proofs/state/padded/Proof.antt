@@ -1,6 +1,5 @@
--- `padded` copies a list into an array of zeros. The loop's invariant: the first `i` entries are
--- the list's and the others are as they were; at the list's end those are the zeros behind it. The
--- measure is what is left of the list.
+-- `padded` copies a list into an array of zeros. The loop's invariant: the first `i` entries are the list's and the others are as they were;
+-- at the list's end those are the zeros behind it. The measure is what is left of the list.
 use mathlib.Core.Path.{◌≡◌, refl, sym, ◌∙◌}
 use mathlib.Core.List.{◌++◌}
 use Prim.Native.Nat.{◌≤◌, ◌-◌}
@@ -23,12 +22,20 @@ decreases-loop list array₀ i₀ array i = length list - i
 loop-holds : tie.Need-loop-init invariant-loop decreases-loop
 loop-holds c = (omega arith, refl)
 
+shared-slice-read-array : tie.Need-shared-slice-read-array invariant-loop decreases-loop
+shared-slice-read-array c = search rules
+
+array-write-array : tie.Need-array-write-array invariant-loop decreases-loop
+array-write-array c = search rules
+
+add-i : tie.Need-overflow-add-i invariant-loop decreases-loop
+add-i c = search rules
+
+loop-less : tie.Need-loop-smaller invariant-loop decreases-loop
+loop-less c = search rules
+
 loop-again : tie.Need-loop-preserved invariant-loop decreases-loop
-loop-again c = (
-  omega arith,
-  rw c.before.before.loop.invariant.1
-      (copied _ c.before.before.before.args.list.now c.before.before.loop.i (omega arith) (omega arith)),
-)
+loop-again c = (omega arith, rw c.before.before.loop.invariant.1 (copied _ c.before.before.before.args.list.now c.before.before.loop.i (omega arith) (omega arith)))
 
 returns : tie.Need-returns invariant-loop decreases-loop
 returns c =
@@ -39,4 +46,13 @@ returns c =
 pub padded-spec : {M : Type 1} → statement M
 padded-spec =
     tie.close
-    (tie.spec invariant-loop decreases-loop loop-holds (λ c. search rules) (λ c. search rules) (λ c. search rules) (λ c. search rules) loop-again returns)
+    (tie.spec
+    invariant-loop
+    decreases-loop
+    loop-holds
+    shared-slice-read-array
+    array-write-array
+    add-i
+    loop-less
+    loop-again
+    returns)

@@ -2,9 +2,12 @@
 use mathlib.Core.Path.{sym, ◌∙◌}
 use borrow.Author.Rules.{rules}
 use borrow.Author.Tests.{not-true, not-false}
-use Rattle.laws.proofs.Push.Step.{none_is}
+use Rattle.laws.proofs.Step.{none_is}
 use Rattle.yard.proofs.step.test_move.Statement.{statement}
 use Rattle.yard.proofs.step.test_move.Tie as tie
+
+free-requires : tie.Need-free-requires
+free-requires c κs = search rules
 
 fault-requires : tie.Need-fault-requires
 fault-requires c κs = (c.before.before.before.before.before.requires, sym (c.before.free.ensures _) ∙ not-true _ c.if1.true)
@@ -16,4 +19,4 @@ returns-2 : tie.Need-returns-2
 returns-2 c = sym (none_is _ (sym (c.before.free.ensures _) ∙ not-false _ c.if1.false))
 
 pub test-move-spec : {M : Type 1} → statement M
-test-move-spec = tie.close (tie.spec (λ c κs. search rules) fault-requires returns returns-2)
+test-move-spec = tie.close (tie.spec free-requires fault-requires returns returns-2)

@@ -1,5 +1,5 @@
--- `push` of a state of more than 256 nodes is refused, as its yard is. Of a smaller one the first
--- entries of the arrays are its yard, and what a push leaves there is what `state_after` holds.
+-- `push` of a state of more than 256 nodes is refused, as its yard is. Of a smaller one the first entries of the arrays are its yard, and what
+-- a push leaves there is what `state_after` holds.
 use mathlib.Core.Path.{◌≡◌, sym, ap, ◌∙◌}
 use native.Mathlib.Omega.{arith}
 use lib.ListN.{length}
@@ -13,8 +13,7 @@ use Rattle.yard.proofs.state.Yard.push.Statement.{statement}
 use Rattle.yard.proofs.state.Yard.push.Tie as tie
 
 -- the arrays have 256 entries, so the first `size` of them are there
-long : (s : tie.Start) → (length s.args.self.parents ≡ 256) × (length s.args.self.pebbles ≡ 256)
-    × (length s.args.self.targets ≡ 256) × (length s.args.self.depths ≡ 256)
+long : (s : tie.Start) → (length s.args.self.parents ≡ 256) × (length s.args.self.pebbles ≡ 256) × (length s.args.self.targets ≡ 256) × (length s.args.self.depths ≡ 256)
 long s = search rules
 
 within : (c : tie.Else1) → Roomy c.before.args.self
@@ -50,6 +49,9 @@ array-share-prefix-depths c = (within c.before.before.before.before.before.befor
 slice-aggregate-push-lists-4 : tie.Need-slice-aggregate-push-lists-4
 slice-aggregate-push-lists-4 c = sym (length-take-le _ _ (within c.before.before.before.before.before.before.before.before).3)
 
+push-lists-requires : tie.Need-push-lists-requires
+push-lists-requires c κs = search rules
+
 returns-2 : tie.Need-returns-2
 returns-2 c =
     let e = c.before.before.before.before.before.before.before.before.before.before in
@@ -60,6 +62,15 @@ returns-2 c =
 pub push_spec : {M : Type 1} → statement M
 push_spec =
     tie.close
-    (tie.spec returns array-share-prefix-parents slice-aggregate-push-lists array-borrow-prefix-pebbles slice-aggregate-push-lists-2
-    array-share-prefix-targets slice-aggregate-push-lists-3 array-share-prefix-depths slice-aggregate-push-lists-4 (λ c κs. search rules)
+    (tie.spec
+    returns
+    array-share-prefix-parents
+    slice-aggregate-push-lists
+    array-borrow-prefix-pebbles
+    slice-aggregate-push-lists-2
+    array-share-prefix-targets
+    slice-aggregate-push-lists-3
+    array-share-prefix-depths
+    slice-aggregate-push-lists-4
+    push-lists-requires
     returns-2)

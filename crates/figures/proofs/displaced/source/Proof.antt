@@ -1,0 +1,47 @@
+-- `source` goes by the demand's sign.
+use mathlib.Core.Path.{◌≡◌, refl}
+use mathlib.Core.Bool.{true, false}
+use Prim.Native.Nat.{ℕ, zero, suc}
+use native.Mathlib.Omega.{arith}
+use lib.IntN.{ℤ, pos, negsuc}
+use lib.Signed.{lt_z}
+use borrow.Author.Tests.{ltb-true, ltb-false}
+use mir.Syntax.{w16}
+use mir.Val.{to_z, of_z}
+use mir.ValLaws.{to_z-of_z}
+use Rattle.figures.specs.Leaving.{source_or}
+use Rattle.figures.proofs.displaced.source.Statement.{statement}
+use Rattle.figures.proofs.displaced.source.Tie as tie
+
+-- the number as it is held is the number
+held : (c : tie.Start) → to_z w16 (of_z w16 c.args.demand) ≡ c.args.demand
+held c = to_z-of_z w16 c.args.demand c.ranges.demand
+
+below : (z : ℤ) (v p : ℕ) → lt_z z (pos 0) ≡ true → v ≡ source_or 256 z v p
+unfolding source_or
+below (negsuc n) v p h = refl
+below (pos n) v p h = absurd (omega (arith, ltb-true n 0 h))
+
+above : (z : ℤ) (v p : ℕ) → lt_z (pos 0) z ≡ true → p ≡ source_or 256 z v p
+unfolding source_or
+above (negsuc n) v p h = let no : ◌≡◌ {A = ℕ} 0 1 = cc in absurd (omega arith)
+above (pos zero) v p h = absurd (omega (arith, ltb-true 0 0 h))
+above (pos (suc n)) v p h = refl
+
+neither : (z : ℤ) (v p : ℕ) → lt_z z (pos 0) ≡ false → lt_z (pos 0) z ≡ false → 256 ≡ source_or 256 z v p
+unfolding source_or
+neither (negsuc n) v p h k = let no : ◌≡◌ {A = ℕ} 0 1 = cc in absurd (omega arith)
+neither (pos zero) v p h k = refl
+neither (pos (suc n)) v p h k = absurd (omega (arith, ltb-false 0 (suc n) k))
+
+returns : tie.Need-returns
+returns c = below _ _ _ (rw (held c.before) at c.if1.true)
+
+returns-2 : tie.Need-returns-2
+returns-2 c = above _ _ _ (rw (held c.before.before) at c.if2.true)
+
+returns-3 : tie.Need-returns-3
+returns-3 c = neither _ _ _ (rw (held c.before.before) at c.before.if1.false) (rw (held c.before.before) at c.if2.false)
+
+pub source-spec : {M : Type 1} → statement M
+source-spec = tie.close (tie.spec returns returns-2 returns-3)

@@ -1,2 +1,0 @@
--- What the tables of a tree's children hold.
-pub mod Children
