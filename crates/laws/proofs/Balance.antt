@@ -1,7 +1,7 @@
 -- Algorithm 1. Each turn of the loop at u lowers the shortest length, so the loop ends with the children's demands at 0; what has its
 -- demand at 0 keeps it, so balancing the children one after another brings every demand below u to 0. The moves are determined by the yard,
 -- so the plan is the same whatever bounds its recursions and loops, if only these do not run out.
-use mathlib.Core.Path.{◌≡◌, refl, subst}
+use mathlib.Core.Path.{◌≡◌, refl, sym, subst}
 use mathlib.Core.Bool.{Bool, true, false, ◌&&◌}
 use mathlib.Core.List.{List, [], ◌∷◌, ◌++◌, append-nil}
 use Prim.Native.Nat.{ℕ, zero, suc, ◌+◌, ◌≤◌, ◌<◌}
@@ -155,7 +155,8 @@ module _ (side : Side) (rule : Rule) (sound : Sound rule) where
       let rest = balances_good r z st (fit_run y t (ms ++ ns) g us a.1) in
       let done : Done (run y (ms ++ ns)) u = done_node y t u (ms ++ ns) (omega (arith, a.0.1, keeps y t (ms ++ ns) g u a.0.0)) (rw (after_append ms ns y) kids.1) in (
         good_append y (ms ++ ns) ps g rest.0,
-        rw (after_append (ms ++ ns) ps y) ((λ v l i. omega (arith, done v l i, keeps (run y (ms ++ ns)) z ps rest.0 v l)), rest.1),
+        subst (λ (ks : List ℕ). All (Done (holding y ks)) (u ∷ us)) (sym (after_append (ms ++ ns) ps y))
+        ((λ v l i. omega (arith, done v l i, keeps (run y (ms ++ ns)) z ps rest.0 v l)), rest.1),
       )
 
   -- bounds that do not run out: two calls for each node on the way down, and a turn for each move of the shortest length

@@ -179,14 +179,22 @@ Sides y ms is i s v =
     (crossings y (route i ms is) v ≤ one (inside y.parents v s) + 2 * count (is_down y v) ms)
     × (crossings y (route i ms is) v + one (inside y.parents v s) ≤ 1 + 2 * count (is_up y v) ms)
 
+route_next : (i j : ℕ) (m : Move) (ms : List Move) (is : List ℕ) → route i (m ∷ ms) (j ∷ is) ≡ cond (eqb i j) (m ∷ route i ms is) (route i ms is)
+unfolding route
+route_next i j m ms is = refl
+
+route_done : (i : ℕ) → route i [] [] ≡ []
+unfolding route
+route_done i = refl
+
 pub route_sides : {y z : Yard} {ms : List Move} {ps is qs : List ℕ} → Obeys y ms z → Follows ps ms is qs → (i v : ℕ) → Sides y ms is i (get_or ps i 0) v
-unfolding count route
-route_sides (Obeys.done {y}) (Follows.done {ps}) i v = omega (arith, one_le (inside y.parents v (get_or ps i 0)))
+unfolding count
+route_sides (Obeys.done {y}) (Follows.done {ps}) i v = rw (route_done i) (omega (arith, one_le (inside y.parents v (get_or ps i 0))))
 route_sides (Obeys.next {y} {m = m} {ms = ms} s o) (Follows.next {ps = ps} {is = is} {i = j} a f) i v = go (ℕ_discrete i j) (route_sides o f i v)
   where
     go : Dec (i ≡ j) → Sides y ms is i (get_or (set ps j m.to) i 0) v → Sides y (m ∷ ms) (j ∷ is) i (get_or ps i 0) v
-    go (yes e) ih = rw (e, a.1, eq-eqb j j refl) (omega (arith, inside_ends y m s v, rw (e, get_or-set_same ps j m.to 0 a.0) at ih))
-    go (no n) ih = rw (ne_eqb i j n) (omega (arith, rw (get_or-set_other ps j i m.to 0 n) at ih))
+    go (yes e) ih = rw (route_next i j m ms is, e, a.1, eq-eqb j j refl) (omega (arith, inside_ends y m s v, rw (e, get_or-set_same ps j m.to 0 a.0) at ih))
+    go (no n) ih = rw (route_next i j m ms is, ne_eqb i j n) (omega (arith, rw (get_or-set_other ps j i m.to 0 n) at ih))
 
 module _ (y : Yard) (t : Tree y) (ms : List Move) {is qs : List ℕ} (f : Follows (starts y) (accepted y ms) is qs) where
   -- at the end as many pebbles at each node as the yard holds there; and its targets, if the list solves the yard

@@ -1,5 +1,5 @@
 -- The last in leaves first: the computed way is one such, and follows every list of pushes.
-use mathlib.Core.Path.{◌≡◌, refl, sym, ap, ◌∙◌}
+use mathlib.Core.Path.{◌≡◌, refl, sym, ap, subst, ◌∙◌}
 use mathlib.Core.Logic.{◌≢◌, ◌↔◌}
 use mathlib.Core.Bool.{Bool, true, false, cond}
 use mathlib.Core.List.{List, [], ◌∷◌, ◌++◌}
@@ -84,7 +84,7 @@ module _ (ps : List ℕ) (a : ℕ) where
     where
       go : Dec (get_or ps j 0 ≡ a) → came i js ≤ came (first_at ps a (js ++ order)) js → came i (j ∷ js) ≤ came (first_at ps a (j ∷ js ++ order)) (j ∷ js)
       go (yes q) ih = rw (first_at_here j (js ++ order) q, eq-eqb j j refl) (came_le i (j ∷ js))
-      go (no n) ih = rw (first_at_behind j (js ++ order) n) (omega (arith, came_behind i j js (λ q. n (ap (λ (x : ℕ). get_or ps x 0) (sym q) ∙ e)), came_mono (first_at ps a (js ++ order)) j js, ih))
+      go (no n) ih = subst (λ (x : ℕ). came i (j ∷ js) ≤ came x (j ∷ js)) (sym (first_at_behind j (js ++ order) n)) (omega (arith, came_behind i j js (λ q. n (ap (λ (x : ℕ). get_or ps x 0) (sym q) ∙ e)), came_mono (first_at ps a (js ++ order)) j js, ih))
 
 -- last_in
 module _ (y : Yard) (m : Move) (s : Step y m) (ps came : List ℕ) (h : Counts y ps) (l : Lists (length ps) came) where
@@ -95,7 +95,9 @@ module _ (y : Yard) (m : Move) (s : Step y m) (ps came : List ℕ) (h : Counts y
 
   lists_next : Lists (length (set ps (first_at ps m.from came) m.to)) (first_at ps m.from came ∷ came)
   unfolding occurs
-  lists_next = rw length-set ((λ i k. omega (arith, l.0 i k)), (first_at_law.0, l.1))
+  lists_next =
+      subst (λ (n : ℕ). Lists n (first_at ps m.from came ∷ came)) (sym (length-set ps (first_at ps m.from came) m.to))
+      ((λ i k. omega (arith, l.0 i k)), (first_at_law.0, l.1))
 
 pub last_in_last : (ms : List Move) (taken order ps : List ℕ) → LastFirst taken ps ms (last_in (taken ++ order) ps ms)
 unfolding last_in

@@ -139,13 +139,20 @@ node_values_law : (vs : List ℕ) (rows : List (List ℕ)) → length vs ≡ lin
 unfolding range
 node_values_law vs rows n = rw add-zero (rw n at (range_get_d vs))
 
+map_each : {A : Type 0} (f g : ℕ → A) (is : List ℕ) → ((i : ℕ) → f i ≡ g i) → map f is ≡ map g is
+map_each f g [] e = refl
+map_each {A} f g (i ∷ is) e = ap (λ (x : A). x ∷ map f is) (e i) ∙ ap (λ (l : List A). g i ∷ l) (map_each f g is e)
+
 reads_columns : {k v : ℕ} {bs : List ℕ} {rows : List (List ℕ)} → Reads k v bs rows
     → map (λ i. values_from v (columns rows) i) (range 0 (length rows)) ≡ rows
 unfolding range
 reads_columns end = refl
 reads_columns (next {v = v} {l = l} {rows = rows} b e r) =
-    rw (← e, map_range (values_from (node_of l) (columns (l.values ∷ rows))) 0 (length rows), node_values_law l.values rows b.count)
-    (ap (◌∷◌ l.values) (simp add-suc (simp suc-add at (rw (← e) at (reads_columns r)))))
+    let C = columns (l.values ∷ rows) in
+    let first : values_from v C 0 ≡ l.values = subst (λ w. values_from w C 0 ≡ l.values) e (node_values_law l.values rows b.count) in
+    let each : (i : ℕ) → values_from v C (suc i) ≡ values_from (suc v) (columns rows) i = λ i. simp (add-suc, suc-add) in
+    ap (λ (x : List ℕ). x ∷ map (values_from v C) (range 1 (length rows))) first
+    ∙ ap (◌∷◌ l.values) (map_range (values_from v C) 0 (length rows) ∙ map_each _ _ (range 0 (length rows)) each ∙ reads_columns r)
 
 yard_sheet_columns : {bs : List ℕ} {rows : List (List ℕ)} → Reads max_size 0 bs rows → yard_sheet (columns rows) ≡ header ++ bs
 unfolding yard_sheet
