@@ -1,13 +1,12 @@
 // The block: nine bytes that hold the registers. The moves left are three of them, the lowest byte first.
 ghost use Rattle.std.specs.Prelude.{◌≡◌, ◌<◌, length};
-ghost use Rattle.model.specs.Given.{was, became};
 ghost use Rattle.model.specs.Calls.Registers.{block_length, block_of, registers_of};
 
 use model::Registers;
 
 pub fn load(block: &[u8]) -> Registers
     requires { length block.now ≡ block_length }
-    ensures { result ≡ registers_of (was block) }
+    ensures { result ≡ registers_of block.now }
 {
     Registers {
         command: block[0],
@@ -22,7 +21,7 @@ pub fn load(block: &[u8]) -> Registers
 
 pub fn store(block: &mut [u8], r: Registers)
     requires { (length block.old ≡ block_length) × (r.left < 16_777_216) }
-    ensures { became block ≡ block_of r }
+    ensures { block.new ≡ block_of r }
 {
     block[0] = r.command;
     block[1] = r.status;

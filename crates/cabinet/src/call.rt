@@ -1,6 +1,6 @@
 // The cabinet's call.
 ghost use Rattle.std.specs.Prelude.{◌≡◌, ◌≤◌};
-ghost use Rattle.model.specs.Given.{given, handed, was, became};
+ghost use Rattle.model.specs.Given.{given, handed};
 ghost use Rattle.model.specs.Judge.{Tree};
 ghost use Rattle.model.specs.Push.{push};
 ghost use Rattle.model.specs.Calls.Registers as Call;
@@ -19,7 +19,7 @@ use yard::step::step;
 // What a step is told of the plan: its whole moves and the next of them, of which one is left at least; else any.
 fn tell(plan: &[u8], r: Registers, failed: bool) -> Told
     requires { r.left ≤ whole_moves plan.now }
-    ensures { result ≡ told_of (was plan) r failed }
+    ensures { result ≡ told_of plan.now r failed }
 {
     let moves = plan.len() / 2;
     if r.left == 0 {
@@ -48,8 +48,8 @@ fn push_next(
     r: Registers,
     told: Told,
 )
-    requires { Tree (handed parents pebbles targets depths) }
-    ensures { became pebbles ≡ pebbles_then (given parents pebbles targets depths) (push told.from told.to) told.failed r }
+    requires { Tree (handed parents.now pebbles.old targets.now depths.now) }
+    ensures { pebbles.new ≡ pebbles_then (given parents.now pebbles.old targets.now depths.now) (push told.from told.to) told.failed r }
 {
     if r.command != 0 {
         return;
@@ -88,7 +88,7 @@ fn stepped(
     r: Registers,
     failed: bool,
 ) -> Left
-    ensures { LeftBy (Call.stepped (given parents pebbles targets depths) (was plan) (block_of r) failed) result.line result.next (became pebbles) }
+    ensures { LeftBy (Call.stepped (given parents.now pebbles.old targets.now depths.now) plan.now (block_of r) failed) result.line result.next pebbles.new }
 {
     let tested = test_step(parents, pebbles, targets, depths, plan, r);
     if let Done::Refused(fault) = tested {
@@ -122,7 +122,7 @@ pub fn step_registers(
     registers: &mut Registers,
     failed: bool,
 ) -> Signalled
-    ensures { LeftBy (Call.stepped (given parents pebbles targets depths) (was plan) (block_of (was registers)) failed) result (became registers) (became pebbles) }
+    ensures { LeftBy (Call.stepped (given parents.now pebbles.old targets.now depths.now) plan.now (block_of registers.old) failed) result registers.new pebbles.new }
 {
     let s = stepped(parents, pebbles, targets, depths, plan, *registers, failed);
     *registers = s.next;
@@ -139,7 +139,7 @@ fn lend(
     r: Registers,
     failed: bool,
 ) -> Left
-    ensures { LeftBy (Call.stepped (given parents pebbles targets depths) (was plan) (block_of r) failed) result.line result.next (became pebbles) }
+    ensures { LeftBy (Call.stepped (given parents.now pebbles.old targets.now depths.now) plan.now (block_of r) failed) result.line result.next pebbles.new }
 {
     let mut next = r;
     let line = step_registers(parents, pebbles, targets, depths, plan, &mut next, failed);
@@ -158,10 +158,10 @@ pub fn step_block(
     block: &mut [u8],
     failed: bool,
 ) -> Signalled
-    ensures result_value { paper_signalled result ≡ (Call.stepped (given parents pebbles targets depths) (was plan) (was block) failed).line }
-    ensures block_value { became block ≡ (Call.stepped (given parents pebbles targets depths) (was plan) (was block) failed).block }
-    ensures pebbles_value { became pebbles ≡ (Call.stepped (given parents pebbles targets depths) (was plan) (was block) failed).pebbles }
-    ensures each_step { EachStep (given parents pebbles targets depths) (was plan) (was block) failed (stepped_to (paper_signalled result) (became block) (became pebbles)) }
+    ensures result_value { paper_signalled result ≡ (Call.stepped (given parents.now pebbles.old targets.now depths.now) plan.now block.old failed).line }
+    ensures block_value { block.new ≡ (Call.stepped (given parents.now pebbles.old targets.now depths.now) plan.now block.old failed).block }
+    ensures pebbles_value { pebbles.new ≡ (Call.stepped (given parents.now pebbles.old targets.now depths.now) plan.now block.old failed).pebbles }
+    ensures each_step { EachStep (given parents.now pebbles.old targets.now depths.now) plan.now block.old failed (stepped_to (paper_signalled result) block.new pebbles.new) }
 {
     if block.len() != 9 {
         let tested = test_yard(parents, pebbles, targets, depths);

@@ -1,7 +1,7 @@
 // The refusals of a step.
 ghost use Rattle.std.specs.Prelude.{◌≡◌, not, ◌&&◌, ◌||◌, ◌≤◌, ◌<◌, leb, ltb, eqb};
 ghost use Rattle.std.proofs.Math.Option.{none};
-ghost use Rattle.model.specs.Given.{given, handed, was};
+ghost use Rattle.model.specs.Given.{given, handed};
 ghost use Rattle.model.specs.Judge.{first_of, Tree};
 ghost use Rattle.model.specs.Calls.Registers.{idle, block_of, whole_moves, register_fault, next_tests, task_fault, step_fault};
 ghost use Rattle.model.specs.Paper.{paper_done};
@@ -53,8 +53,8 @@ fn test_next(
     plan: &[u8],
     r: Registers,
 ) -> Done
-    requires { Tree (handed parents pebbles targets depths) × (0 < r.left) × (r.left ≤ whole_moves plan.now) }
-    ensures { paper_done result ≡ first_of (next_tests (given parents pebbles targets depths) (was plan) r) }
+    requires { Tree (handed parents.now pebbles.now targets.now depths.now) × (0 < r.left) × (r.left ≤ whole_moves plan.now) }
+    ensures { paper_done result ≡ first_of (next_tests (given parents.now pebbles.now targets.now depths.now) plan.now r) }
 {
     if !whole_plan(plan) {
         return Done::Refused(Refusal::PlanLength);
@@ -79,8 +79,8 @@ fn test_task(
     plan: &[u8],
     r: Registers,
 ) -> Done
-    requires { Tree (handed parents pebbles targets depths) × (register_fault (whole_moves plan.now) r ≡ none) }
-    ensures { paper_done result ≡ task_fault (given parents pebbles targets depths) (was plan) r }
+    requires { Tree (handed parents.now pebbles.now targets.now depths.now) × (register_fault (whole_moves plan.now) r ≡ none) }
+    ensures { paper_done result ≡ task_fault (given parents.now pebbles.now targets.now depths.now) plan.now r }
 {
     if r.command == 1 {
         if r.status != 0 {
@@ -106,7 +106,7 @@ pub fn test_step(
     plan: &[u8],
     r: Registers,
 ) -> Done
-    ensures { paper_done result ≡ step_fault (given parents pebbles targets depths) (was plan) (block_of r) }
+    ensures { paper_done result ≡ step_fault (given parents.now pebbles.now targets.now depths.now) plan.now (block_of r) }
 {
     let tested = test_yard(parents, pebbles, targets, depths);
     if let Done::Refused(fault) = tested {

@@ -1,6 +1,5 @@
 // Cases as text, one to a line: a kind, a label, then lists and numbers, between bars. A line that begins with # is a comment.
 ghost use Rattle.std.specs.Prelude.{◌≤◌, ◌<◌, length};
-ghost use Rattle.model.specs.Given.{was};
 ghost use Rattle.io.specs.Counts.{IsPrefixLen};
 
 use crate::print::text;
@@ -8,7 +7,7 @@ use crate::print::text;
 // The first place from an index on where a byte stands, or the end.
 pub fn find(bytes: &[u8], from: usize, byte: u8) -> usize
     requires { from ≤ length bytes.now }
-    ensures { (from ≤ result) × IsPrefixLen result (was bytes) }
+    ensures { (from ≤ result) × IsPrefixLen result bytes.now }
 {
     let mut i = from;
     while i < bytes.len() {
@@ -38,7 +37,7 @@ pub fn is_case(line: &[u8]) -> bool {
 // The place past the next such byte, or the end.
 fn past(bytes: &[u8], from: usize, byte: u8) -> usize
     requires { from ≤ length bytes.now }
-    ensures { result ≤ length (was bytes) }
+    ensures { result ≤ length bytes.now }
 {
     let at = find(bytes, from, byte);
     if at < bytes.len() {
@@ -69,7 +68,7 @@ pub fn next_line(input: &[u8], at: usize) -> usize
 
 // Where a field begins; the first field is 0.
 fn start(line: &[u8], number: usize) -> usize
-    ensures { result ≤ length (was line) }
+    ensures { result ≤ length line.now }
 {
     let mut at = 0;
     let mut i = 0;

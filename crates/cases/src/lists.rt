@@ -1,7 +1,6 @@
 // Numbers and lists as text. A list's items are parted by a space: `7` is an entry, `7*3` is 7 7 7, `3-6` is 3 4 5 6, and `^9` is what stands before
 // it in the list, over and over, up to 9 entries.
 ghost use Rattle.std.specs.Prelude.{◌≤◌, length};
-ghost use Rattle.model.specs.Given.{was};
 
 use crate::lines::{bad, find};
 
@@ -104,7 +103,7 @@ fn put(list: &mut [u8], at: usize, entry: u8) {
 // So many entries behind the first n, each a step above the one before; the new number of entries.
 fn extend(item: &[u8], list: &mut [u8], n: usize, count: usize, first: usize, step: u8) -> usize
     requires { n ≤ length list.old }
-    ensures { result ≤ length (was list) }
+    ensures { result ≤ length list.old }
 {
     if first <= 255 {
         if count > 0 {
@@ -121,7 +120,7 @@ fn extend(item: &[u8], list: &mut [u8], n: usize, count: usize, first: usize, st
 
 // The first n entries over and over, up to an index.
 fn again(item: &[u8], list: &mut [u8], n: usize, to: usize) -> usize
-    ensures { result ≤ length (was list) }
+    ensures { result ≤ length list.old }
 {
     if n > 0 {
         if n <= to {
@@ -149,7 +148,7 @@ fn reach(first: usize, last: usize) -> usize {
 // An item's entries behind the first n; the new number of entries.
 fn read_item(item: &[u8], list: &mut [u8], n: usize) -> usize
     requires { n ≤ length list.old }
-    ensures { result ≤ length (was list) }
+    ensures { result ≤ length list.old }
 {
     if before(item, b'^').len() == 0 {
         return again(item, list, n, decimal(behind(item, b'^')));

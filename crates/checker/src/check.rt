@@ -1,7 +1,7 @@
 // The checker.
 ghost use Rattle.std.specs.Prelude.{◌≡◌};
 ghost use Rattle.model.specs.Yard.{Matched};
-ghost use Rattle.model.specs.Given.{given, handed, was};
+ghost use Rattle.model.specs.Given.{given, handed};
 ghost use Rattle.model.specs.Judge.{first_of, Tree};
 ghost use Rattle.model.specs.Calls.Plans.{moves_of};
 ghost use Rattle.model.specs.Calls.Checks.{obey_tests, check_fault, check_answer};
@@ -16,8 +16,8 @@ use model::{Checked, Done, Refusal};
 
 // Obeys a whole plan on a copy of the pebbles of a tree: refusals 10 to 13 move by move, then 14.
 fn obey_to_end(parents: &[u8], pebbles: &[u8], targets: &[u8], depths: &[u8], plan: &[u8]) -> Done
-    requires { Tree (handed parents pebbles targets depths) }
-    ensures { paper_done result ≡ first_of (obey_tests (given parents pebbles targets depths) (moves_of (was plan))) }
+    requires { Tree (handed parents.now pebbles.now targets.now depths.now) }
+    ensures { paper_done result ≡ first_of (obey_tests (given parents.now pebbles.now targets.now depths.now) (moves_of plan.now)) }
 {
     let n = parents.len();
     let mut counts = [0u8; 256];
@@ -48,8 +48,8 @@ fn test_matched_plan(
     depths: &[u8],
     plan: &[u8],
 ) -> Done
-    requires { Tree (handed parents pebbles targets depths) × Matched (handed parents pebbles targets depths) }
-    ensures { paper_done result ≡ check_fault (given parents pebbles targets depths) (was plan) }
+    requires { Tree (handed parents.now pebbles.now targets.now depths.now) × Matched (handed parents.now pebbles.now targets.now depths.now) }
+    ensures { paper_done result ≡ check_fault (given parents.now pebbles.now targets.now depths.now) plan.now }
 {
     if !whole_plan(plan) {
         return Done::Refused(Refusal::PlanLength);
@@ -60,7 +60,7 @@ fn test_matched_plan(
 // The checker without its figures: refusals 1 to 6, 7, 9, 10 to 13 for each move in turn with its number as place, then 14 with the lowest node
 // that lacks a pebble. A plan need not be shortest.
 pub fn test_plan(parents: &[u8], pebbles: &[u8], targets: &[u8], depths: &[u8], plan: &[u8]) -> Done
-    ensures { paper_done result ≡ check_fault (given parents pebbles targets depths) (was plan) }
+    ensures { paper_done result ≡ check_fault (given parents.now pebbles.now targets.now depths.now) plan.now }
 {
     let tested = test_matched(parents, pebbles, targets, depths);
     if let Done::Refused(fault) = tested {
@@ -72,8 +72,8 @@ pub fn test_plan(parents: &[u8], pebbles: &[u8], targets: &[u8], depths: &[u8], 
 // The checker: refused as above, else the number of moves and the excess (spare), moves minus shortest length. On a tree with as many pebbles as targets it accepts
 // whole moves exactly if each carries a pebble and they end on exactly the targets (`CheckerExact`, demand 2).
 pub fn check(parents: &[u8], pebbles: &[u8], targets: &[u8], depths: &[u8], plan: &[u8]) -> Checked
-    ensures result_value { paper_checked result ≡ check_answer (given parents pebbles targets depths) (was plan) }
-    ensures checker_exact { CheckerExact (given parents pebbles targets depths) (was plan) (Accepts (paper_checked result)) }
+    ensures result_value { paper_checked result ≡ check_answer (given parents.now pebbles.now targets.now depths.now) plan.now }
+    ensures checker_exact { CheckerExact (given parents.now pebbles.now targets.now depths.now) plan.now (Accepts (paper_checked result)) }
 {
     let tested = test_plan(parents, pebbles, targets, depths, plan);
     if let Done::Refused(r) = tested {

@@ -1,6 +1,6 @@
 // What the checker and the trial share: the test of a plan's length, and the moves of a plan's front obeyed one by one.
 ghost use Rattle.std.specs.Prelude.{◌≡◌, ◌*◌, ◌≤◌, length};
-ghost use Rattle.model.specs.Given.{given, handed, was, became};
+ghost use Rattle.model.specs.Given.{given, handed};
 ghost use Rattle.model.specs.Judge.{fault, unless, Tree};
 ghost use Rattle.model.specs.Push.{after};
 ghost use Rattle.model.specs.Calls.Checks.{bytes_fault, moves_fault, within};
@@ -13,7 +13,7 @@ use yard::step::step;
 
 // Whether a plan's length is even and at most 262,144 bytes: else refusal 9 meets it.
 pub fn whole_plan(plan: &[u8]) -> bool
-    ensures { bytes_fault (was plan) ≡ unless result (fault 9 0) }
+    ensures { bytes_fault plan.now ≡ unless result (fault 9 0) }
 {
     if plan.len() % 2 != 0 {
         return false;
@@ -31,9 +31,9 @@ fn obey(
     plan: &[u8],
     count: usize,
 ) -> Done
-    requires { Tree (handed parents pebbles targets depths) × (2 * count ≤ length plan.now) }
-    ensures result_value { paper_done result ≡ moves_fault 0 (given parents pebbles targets depths) (within (was plan) count) }
-    ensures pebbles_value { became pebbles ≡ after (given parents pebbles targets depths) (obeyed (paper_done result) (was plan) count) }
+    requires { Tree (handed parents.now pebbles.old targets.now depths.now) × (2 * count ≤ length plan.now) }
+    ensures result_value { paper_done result ≡ moves_fault 0 (given parents.now pebbles.old targets.now depths.now) (within plan.now count) }
+    ensures pebbles_value { pebbles.new ≡ after (given parents.now pebbles.old targets.now depths.now) (obeyed (paper_done result) plan.now count) }
 {
     let mut i = 0;
     while i < count {
@@ -58,10 +58,10 @@ pub fn obey_copy(
     plan: &[u8],
     count: usize,
 ) -> Done
-    requires tree { Tree (handed parents pebbles targets depths) × (2 * count ≤ length plan.now) }
+    requires tree { Tree (handed parents.now pebbles.now targets.now depths.now) × (2 * count ≤ length plan.now) }
     requires counts_len { length counts.old ≡ length pebbles.now }
-    ensures result_value { paper_done result ≡ moves_fault 0 (given parents pebbles targets depths) (within (was plan) count) }
-    ensures counts_value { became counts ≡ after (given parents pebbles targets depths) (obeyed (paper_done result) (was plan) count) }
+    ensures result_value { paper_done result ≡ moves_fault 0 (given parents.now pebbles.now targets.now depths.now) (within plan.now count) }
+    ensures counts_value { counts.new ≡ after (given parents.now pebbles.now targets.now depths.now) (obeyed (paper_done result) plan.now count) }
 {
     copy(pebbles, counts);
     obey(parents, counts, targets, depths, plan, count)

@@ -1,6 +1,6 @@
 // The trial: a plan obeyed until a budget or the plan ends.
 ghost use Rattle.std.specs.Prelude.{◌≡◌, ◌*◌, ◌≤◌, length};
-ghost use Rattle.model.specs.Given.{given, handed, was, became};
+ghost use Rattle.model.specs.Given.{given, handed};
 ghost use Rattle.model.specs.Judge.{Tree};
 ghost use Rattle.model.specs.Calls.Checks.{moves_fault, within, trial_answer, trial_pebbles};
 ghost use Rattle.model.specs.Paper.{paper_done, paper_tried};
@@ -21,9 +21,9 @@ fn obey_or_leave(
     plan: &[u8],
     count: usize,
 ) -> Done
-    requires { Tree (handed parents pebbles targets depths) × (2 * count ≤ length plan.now) }
-    ensures result_value { paper_done result ≡ moves_fault 0 (given parents pebbles targets depths) (within (was plan) count) }
-    ensures pebbles_value { became pebbles ≡ obeyed_or_left (paper_done result) (given parents pebbles targets depths) (within (was plan) count) }
+    requires { Tree (handed parents.now pebbles.old targets.now depths.now) × (2 * count ≤ length plan.now) }
+    ensures result_value { paper_done result ≡ moves_fault 0 (given parents.now pebbles.old targets.now depths.now) (within plan.now count) }
+    ensures pebbles_value { pebbles.new ≡ obeyed_or_left (paper_done result) (given parents.now pebbles.old targets.now depths.now) (within plan.now count) }
 {
     let n = parents.len();
     let mut counts = [0u8; 256];
@@ -53,8 +53,8 @@ pub fn trial(
     plan: &[u8],
     budget: u16,
 ) -> Tried
-    ensures result_value { paper_tried result ≡ trial_answer (given parents pebbles targets depths) (was plan) budget }
-    ensures pebbles_value { became pebbles ≡ trial_pebbles (given parents pebbles targets depths) (was plan) budget }
+    ensures result_value { paper_tried result ≡ trial_answer (given parents.now pebbles.old targets.now depths.now) plan.now budget }
+    ensures pebbles_value { pebbles.new ≡ trial_pebbles (given parents.now pebbles.old targets.now depths.now) plan.now budget }
 {
     let tested = test_yard(parents, pebbles, targets, depths);
     if let Done::Refused(r) = tested {

@@ -1,6 +1,5 @@
 // How often each edge is crossed by the moves of a plan, towards the root and away from it.
 ghost use Rattle.std.specs.Prelude.{◌≡◌, ◌<◌, get_or};
-ghost use Rattle.model.specs.Given.{was, became};
 ghost use Rattle.checks.specs.Crossings.{raised, InYard, Counted};
 
 // One count for each edge and way, the edge named by its child node.
@@ -13,7 +12,7 @@ pub struct Crossings {
 // One more at v, if the move crosses its edge.
 fn cross(counts: &mut [u32; 256], v: usize, crosses: bool)
     requires { (v < 256) × (get_or counts.old v 0 < 1_000_000) }
-    ensures { became counts ≡ raised v crosses (was counts) }
+    ensures { counts.new ≡ raised v crosses counts.old }
 {
     if crosses {
         counts[v] += 1;
@@ -25,7 +24,7 @@ fn cross(counts: &mut [u32; 256], v: usize, crosses: bool)
 // and one from a parent to its child crosses the child's edge away from it.
 pub fn count_crossings(parents: &[u8], plan: &[u8]) -> Crossings
     requires { InYard parents.now plan.now }
-    ensures { Counted (was parents) (was plan) result.ups result.downs }
+    ensures { Counted parents.now plan.now result.ups result.downs }
 {
     let mut ups = [0u32; 256];
     let mut downs = [0u32; 256];

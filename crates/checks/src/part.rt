@@ -1,12 +1,11 @@
 // Where the yard sheet in front of an input ends.
 ghost use Rattle.std.specs.Prelude.{◌≡◌, not, ◌&&◌, ◌+◌, ◌<◌, length, drop, get_or, eqb};
-ghost use Rattle.model.specs.Given.{was};
 ghost use Rattle.model.specs.Sheets.{line_feed};
 ghost use Rattle.model.specs.CheckSheets.{digit_first, yard_part};
 
 // Whether a digit stands at `at`.
 fn digit_at(input: &[u8], at: usize) -> bool
-    ensures { result ≡ digit_first (drop at (was input)) }
+    ensures { result ≡ digit_first (drop at input.now) }
 {
     if at >= input.len() {
         return false;
@@ -21,7 +20,7 @@ fn digit_at(input: &[u8], at: usize) -> bool
 // Whether the yard sheet ends with the byte at `i`: a line feed behind which no digit stands.
 fn ends_yard(input: &[u8], i: usize) -> bool
     requires { i < length input.now }
-    ensures { result ≡ (eqb (get_or (was input) i 0) line_feed) && (not (digit_first (drop (i + 1) (was input)))) }
+    ensures { result ≡ (eqb (get_or input.now i 0) line_feed) && (not (digit_first (drop (i + 1) input.now))) }
 {
     if input[i] != b'\n' {
         return false;
@@ -31,7 +30,7 @@ fn ends_yard(input: &[u8], i: usize) -> bool
 
 // How many bytes the yard sheet in front has.
 pub fn yard_bytes(input: &[u8]) -> usize
-    ensures { result ≡ length (yard_part (was input)) }
+    ensures { result ≡ length (yard_part input.now) }
 {
     let mut i = 0;
     while i < input.len() {

@@ -1,6 +1,5 @@
 // The move sheet behind a yard sheet, read line by line.
 ghost use Rattle.std.specs.Prelude.{◌≡◌, ◌≤◌, length, drop};
-ghost use Rattle.model.specs.Given.{was, became};
 ghost use Rattle.model.specs.Sheets as Sheets;
 ghost use Rattle.model.specs.Sheets.{report_head};
 ghost use Rattle.model.specs.CheckSheets.{moves_read, readMoves, readPlan};
@@ -21,7 +20,7 @@ const VALUES: usize = 2;
 // Whether a head stands at `at`.
 fn stands_at(head: &[u8], input: &[u8], at: usize) -> bool
     requires { at ≤ length input.now }
-    ensures { result ≡ Sheets.begins (was head) (drop at (was input)) }
+    ensures { result ≡ Sheets.begins head.now (drop at input.now) }
 {
     begins(&input[at..], head)
 }
@@ -29,7 +28,7 @@ fn stands_at(head: &[u8], input: &[u8], at: usize) -> bool
 // Whether a report stands at `at`.
 fn report_at(input: &[u8], at: usize) -> bool
     requires { at ≤ length input.now }
-    ensures { result ≡ Sheets.begins report_head (drop at (was input)) }
+    ensures { result ≡ Sheets.begins report_head (drop at input.now) }
 {
     stands_at(&REPORT_HEAD, input, at)
 }
@@ -38,7 +37,7 @@ fn report_at(input: &[u8], at: usize) -> bool
 // ends them.
 fn read_moves(input: &[u8], at: usize, first: usize, plan: &mut [u8]) -> Counted
     requires { (length plan.old ≡ plan_room) × (first ≤ 259) }
-    ensures plan_value { plan_in result (became plan) ≡ readMoves moves_read first (drop at (was input)) }
+    ensures plan_value { plan_in result plan.new ≡ readMoves moves_read first (drop at input.now) }
     ensures result_bound { moves_in result ≤ moves_read }
 {
     let mut next = at;
@@ -67,7 +66,7 @@ fn read_moves(input: &[u8], at: usize, first: usize, plan: &mut [u8]) -> Counted
 // the moves, and after a refusal all of them: no rule speaks of them, as the list is an array of the program's own, of which it looks at the moves alone.
 pub(crate) fn read_plan(input: &[u8], at: usize, line: usize, plan: &mut [u8]) -> Counted
     requires { (at ≤ length input.now) × (line ≤ 258) × (length plan.old ≡ plan_room) }
-    ensures plan_value { plan_in result (became plan) ≡ readPlan line (drop at (was input)) }
+    ensures plan_value { plan_in result plan.new ≡ readPlan line (drop at input) }
     ensures result_bound { moves_in result ≤ moves_read }
 {
     if !stands_at(&MOVE_HEAD, input, at) {

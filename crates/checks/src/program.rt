@@ -1,7 +1,7 @@
 // From the bytes of a yard sheet and a move sheet to the bytes that are printed.
 ghost use Rattle.std.specs.Prelude.{◌≡◌, ◌≤◌, length, drop};
 ghost use Rattle.model.specs.Yard.{Yard, size, max_size};
-ghost use Rattle.model.specs.Given.{given, handed, was, became};
+ghost use Rattle.model.specs.Given.{given, handed};
 ghost use Rattle.model.specs.Calls.Answers.{overwrite};
 ghost use Rattle.model.specs.CheckSheets as CheckSheets;
 ghost use Rattle.checks.specs.Verdicts.{verdict, Accepted, accepted_sheet, checked_plan, checked_from, verdict_room};
@@ -28,8 +28,8 @@ pub const OUTPUT_BYTES: usize = 12 + 14 + 27 + 18 * 256;
 // them the crossing report.
 fn put_accepted(parents: &[u8], plan: &[u8], moves: usize, excess: usize, out: &mut [u8]) -> usize
     requires { ((y : Yard) × Accepted y parents.now plan.now (verdict moves excess)) × (verdict_room ≤ length out.old) }
-    ensures value { (y : Yard) → Accepted y (was parents) (was plan) (verdict moves excess) → result ≡ length (accepted_sheet y (was plan) (verdict moves excess)) }
-    ensures out_value { (y : Yard) → Accepted y (was parents) (was plan) (verdict moves excess) → became out ≡ overwrite (accepted_sheet y (was plan) (verdict moves excess)) (was out) }
+    ensures value { (y : Yard) → Accepted y parents.now plan.now (verdict moves excess) → result ≡ length (accepted_sheet y plan.now (verdict moves excess)) }
+    ensures out_value { (y : Yard) → Accepted y parents.now plan.now (verdict moves excess) → out.new ≡ overwrite (accepted_sheet y plan.now (verdict moves excess)) out.old }
 {
     let n = parents.len();
     let root = first_own(parents, 0);
@@ -51,8 +51,8 @@ fn put_verdict(
     out: &mut [u8],
 ) -> usize
     requires { verdict_room ≤ length out.old }
-    ensures value { result ≡ length (checked_plan (given parents pebbles targets depths) (was plan)) }
-    ensures out_value { became out ≡ overwrite (checked_plan (given parents pebbles targets depths) (was plan)) (was out) }
+    ensures value { result ≡ length (checked_plan (given parents.now pebbles.now targets.now depths.now) plan.now) }
+    ensures out_value { out.new ≡ overwrite (checked_plan (given parents.now pebbles.now targets.now depths.now) plan.now) out.old }
 {
     match check(parents, pebbles, targets, depths, plan) {
         Checked::Accepted(moves, excess) => put_accepted(parents, plan, moves, excess, out),
@@ -70,9 +70,9 @@ fn put_checked(
     at: usize,
     out: &mut [u8],
 ) -> usize
-    requires { (size (handed parents pebbles targets depths) ≤ max_size) × (at ≤ length input.now) × (verdict_room ≤ length out.old) }
-    ensures value { result ≡ length (checked_from (given parents pebbles targets depths) (drop at (was input))) }
-    ensures out_value { became out ≡ overwrite (checked_from (given parents pebbles targets depths) (drop at (was input))) (was out) }
+    requires { (size (handed parents.now pebbles.now targets.now depths.now) ≤ max_size) × (at ≤ length input.now) × (verdict_room ≤ length out.old) }
+    ensures value { result ≡ length (checked_from (given parents.now pebbles.now targets.now depths.now) (drop at input.now)) }
+    ensures out_value { out.new ≡ overwrite (checked_from (given parents.now pebbles.now targets.now depths.now) (drop at input.now)) out.old }
 {
     let mut plan = [0u8; PLAN_BYTES];
     match read_plan(input, at, parents.len() + 2, &mut plan) {
@@ -90,8 +90,8 @@ fn put_checked(
 
 // What is printed for an input, at the front of a list; answers how many bytes.
 pub fn program(input: &[u8], out: &mut [u8; OUTPUT_BYTES]) -> usize
-    ensures value { result ≡ length (CheckSheets.checks (was input)) }
-    ensures out_value { became out ≡ overwrite (CheckSheets.checks (was input)) (was out) }
+    ensures value { result ≡ length (CheckSheets.checks input.now) }
+    ensures out_value { out.new ≡ overwrite (CheckSheets.checks input.now) out.old }
 {
     let end = yard_bytes(input);
     let mut parents = [0u8; 256];

@@ -1,7 +1,7 @@
 // The account call, and the shortest length.
 ghost use Rattle.std.specs.Prelude.{◌≡◌};
 ghost use Rattle.model.specs.Yard.{shortest};
-ghost use Rattle.model.specs.Given.{given, handed, was, became};
+ghost use Rattle.model.specs.Given.{given, handed};
 ghost use Rattle.model.specs.Judge.{Tree};
 ghost use Rattle.model.specs.Calls.Demands.{demands_fault, demands_list};
 ghost use Rattle.model.specs.Paper.{paper_done};
@@ -20,8 +20,8 @@ pub fn demands(
     depths: &[u8],
     list: &mut [i16],
 ) -> Done
-    ensures result_value { paper_done result ≡ demands_fault (given parents pebbles targets depths) (was list) }
-    ensures list_value { became list ≡ demands_list (given parents pebbles targets depths) (was list) }
+    ensures result_value { paper_done result ≡ demands_fault (given parents.now pebbles.now targets.now depths.now) list.old }
+    ensures list_value { list.new ≡ demands_list (given parents.now pebbles.now targets.now depths.now) list.old }
 {
     let tested = test_yard(parents, pebbles, targets, depths);
     if let Done::Refused(r) = tested {
@@ -36,8 +36,8 @@ pub fn demands(
 
 // The shortest length of a tree: the sum of the sizes of its demands.
 pub fn shortest_length(parents: &[u8], pebbles: &[u8], targets: &[u8], depths: &[u8]) -> usize
-    requires { Tree (handed parents pebbles targets depths) }
-    ensures { result ≡ shortest (given parents pebbles targets depths) }
+    requires { Tree (handed parents.now pebbles.now targets.now depths.now) }
+    ensures { result ≡ shortest (given parents.now pebbles.now targets.now depths.now) }
 {
     let n = parents.len();
     let mut list = [0i16; 256];

@@ -1,7 +1,7 @@
 // The demands of all nodes by equation 2 of the source, leaves first, in linear time; and on the way whether the parents are a tree's.
 ghost use Rattle.std.specs.Prelude.{◌≡◌, ℕ, ◌+◌, ◌*◌, ◌%◌, ◌≤◌, ◌<◌, length, get_or};
 ghost use Rattle.std.proofs.Math.Option.{none};
-ghost use Rattle.model.specs.Given.{given, handed, was, became};
+ghost use Rattle.model.specs.Given.{given, handed};
 ghost use Rattle.model.specs.Judge.{first_of, list_tests, Tree};
 ghost use Rattle.model.specs.Calls.Demands.{demands_of};
 ghost use Rattle.demand.specs.Filling.{Differences, Pending, Gathered};
@@ -10,8 +10,8 @@ use crate::signed::{difference, plus};
 
 // Writes the demand of each node of a tree into a list of one entry a node: the only list that meets equation 2 at every node.
 pub fn fill(parents: &[u8], pebbles: &[u8], targets: &[u8], depths: &[u8], list: &mut [i16])
-    requires { Tree (handed parents pebbles targets depths) × (length list.old ≡ length parents.now) }
-    ensures { became list ≡ demands_of (given parents pebbles targets depths) }
+    requires { Tree (handed parents.now pebbles.now targets.now depths.now) × (length list.old ≡ length parents.now) }
+    ensures { list.new ≡ demands_of (given parents.now pebbles.now targets.now depths.now) }
 {
     gather(parents, pebbles, targets, depths, list);
 }
@@ -29,7 +29,7 @@ pub(crate) fn gather(
     list: &mut [i16],
 ) -> usize
     requires { (first_of (list_tests (handed parents pebbles targets depths)) ≡ none) × (length list.old ≡ length parents.now) }
-    ensures { Gathered (given parents pebbles targets depths) result (became list) }
+    ensures { Gathered (given parents pebbles targets depths) result list.new }
 {
     let n = parents.len();
     own(pebbles, targets, list);
@@ -54,7 +54,7 @@ pub(crate) fn gather(
 // Writes the difference of its counts into the entry of each node.
 fn own(pebbles: &[u8], targets: &[u8], list: &mut [i16])
     requires { (length pebbles.now ≡ length list.old) × (length targets.now ≡ length list.old) }
-    ensures { Differences (was targets) (was pebbles) (length (was list)) (became list) }
+    ensures { Differences targets.now pebbles.now (length list.old) list.new }
 {
     let mut v = 0;
     while v < list.len() {
@@ -67,7 +67,7 @@ fn own(pebbles: &[u8], targets: &[u8], list: &mut [i16])
 // count would else wait for the store of the one before.
 fn count_children(parents: &[u8]) -> [u16; 256]
     requires { length parents.now ≤ 256 }
-    ensures { Pending (was parents) result }
+    ensures { Pending parents.now result }
 {
     let mut counts = [0u16; 512];
     let mut v = 0;
@@ -89,7 +89,7 @@ fn place(parent: u8, v: usize) -> usize
 // For each node 1 and its counts in both halves.
 fn add_halves(counts: &[u16; 512]) -> [u16; 256]
     requires { (u : ℕ) → u < 256 → get_or counts.now u 0 + get_or counts.now (256 + u) 0 ≤ 256 }
-    ensures { (length result ≡ 256) × ((u : ℕ) → u < 256 → get_or result u 0 ≡ 1 + get_or (was counts) u 0 + get_or (was counts) (256 + u) 0) }
+    ensures { (length result ≡ 256) × ((u : ℕ) → u < 256 → get_or result u 0 ≡ 1 + get_or counts.now u 0 + get_or counts.now (256 + u) 0) }
 {
     let mut pending = [0u16; 256];
     let mut u = 0;

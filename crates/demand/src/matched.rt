@@ -1,6 +1,6 @@
 // The demands of a tree, and of a yard with a plan, or the refusal of one that is none.
 ghost use Rattle.std.specs.Prelude.{◌≡◌, ◌≤◌, length, replicate, pos};
-ghost use Rattle.model.specs.Given.{given, was, became};
+ghost use Rattle.model.specs.Given.{given};
 ghost use Rattle.model.specs.Judge.{judge, matched_fault};
 ghost use Rattle.model.specs.Paper.{paper_done};
 ghost use Rattle.demand.specs.Filling.{demands_then};
@@ -12,7 +12,7 @@ use model::{Done, Refusal};
 
 // Writes 0 into every entry.
 fn clear(list: &mut [i16])
-    ensures { became list ≡ replicate (length (was list)) (pos 0) }
+    ensures { list.new ≡ replicate (length list.old) (pos 0) }
 {
     let mut i = 0;
     while i < list.len() {
@@ -33,8 +33,8 @@ pub fn tree_demands(
     list: &mut [i16],
 ) -> Done
     requires { 256 ≤ length list.old }
-    ensures result_value { paper_done result ≡ judge (given parents pebbles targets depths) }
-    ensures list_value { became list ≡ demands_then (given parents pebbles targets depths) (was list) }
+    ensures result_value { paper_done result ≡ judge (given parents.now pebbles.now targets.now depths.now) }
+    ensures list_value { list.new ≡ demands_then (given parents.now pebbles.now targets.now depths.now) list.old }
 {
     let lists = test_lists(parents, pebbles, targets, depths);
     if let Done::Refused(r) = lists {
@@ -59,8 +59,8 @@ pub fn matched_demands(
     list: &mut [i16],
 ) -> Done
     requires { 256 ≤ length list.old }
-    ensures result_value { paper_done result ≡ matched_fault (given parents pebbles targets depths) }
-    ensures list_value { became list ≡ demands_then (given parents pebbles targets depths) (was list) }
+    ensures result_value { paper_done result ≡ matched_fault (given parents.now pebbles.now targets.now depths.now) }
+    ensures list_value { list.new ≡ demands_then (given parents.now pebbles.now targets.now depths.now) list.old }
 {
     let tested = tree_demands(parents, pebbles, targets, depths, list);
     if let Done::Refused(r) = tested {

@@ -2,7 +2,6 @@
 ghost use Rattle.std.specs.Prelude.{◌≡◌, ℕ, ◌+◌, ◌<◌, ◌≤◌, length, get_or, ℤ, pos, nat_abs, ◌+ℤ◌};
 ghost use Rattle.std.proofs.Math.IntN.{sub_ℕ};
 ghost use Rattle.model.specs.Yard.{sum, max_size, max_demand};
-ghost use Rattle.model.specs.Given.{was};
 
 // A node's targets minus its pebbles.
 pub fn difference(target: u8, pebble: u8) -> i16
@@ -33,7 +32,7 @@ pub fn size(a: i16) -> usize
 // The sum of the sizes of a list of demands: for all demands of a yard its shortest length.
 pub fn sizes(list: &[i16]) -> usize
     requires { (length list.now ≤ max_size) × ((v : ℕ) → nat_abs (get_or list.now v (pos 0)) ≤ max_demand) }
-    ensures { result ≡ sum (length (was list)) (λ v. nat_abs (get_or (was list) v (pos 0))) }
+    ensures { result ≡ sum (length list.now) (λ v. nat_abs (get_or list.now v (pos 0))) }
 {
     let mut total = 0;
     let mut i = 0;

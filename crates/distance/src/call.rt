@@ -3,7 +3,7 @@ ghost use Rattle.std.specs.Prelude.{◌≡◌, ◌<◌, length};
 ghost use Rattle.std.proofs.Math.Option.{none};
 ghost use Rattle.model.specs.Yard.{size};
 ghost use Rattle.model.specs.Judge.{judge};
-ghost use Rattle.model.specs.Given.{given, was, became};
+ghost use Rattle.model.specs.Given.{given};
 ghost use Rattle.model.specs.Calls.Distances.{nearest_answer, reach_answer, reach_list};
 ghost use Rattle.model.specs.Paper.{paper_done, paper_located, paper_counted};
 ghost use Rattle.distance.specs.Far.{Unknown, Distances};
@@ -34,8 +34,8 @@ fn test_from(
     node: usize,
 ) -> Done
     requires { Unknown far.old × (length far.old ≡ 256) }
-    ensures result_value { paper_done result ≡ judge (given parents pebbles targets depths) }
-    ensures distances { judge (given parents pebbles targets depths) ≡ none → node < size (given parents pebbles targets depths) → Distances (given parents pebbles targets depths) node (became far) }
+    ensures result_value { paper_done result ≡ judge (given parents.now pebbles.now targets.now depths.now) }
+    ensures distances { judge (given parents.now pebbles.now targets.now depths.now) ≡ none → node < size (given parents.now pebbles.now targets.now depths.now) → Distances (given parents.now pebbles.now targets.now depths.now) node far.new }
 {
     let lists = test_lists(parents, pebbles, targets, depths);
     if let Done::Refused(r) = lists {
@@ -52,7 +52,7 @@ pub fn nearest(
     depths: &[u8],
     node: usize,
 ) -> Located
-    ensures { paper_located result ≡ nearest_answer (given parents pebbles targets depths) node }
+    ensures { paper_located result ≡ nearest_answer (given parents.now pebbles.now targets.now depths.now) node }
 {
     let mut far = [256u16; 256];
     let tested = test_from(parents, pebbles, targets, depths, &mut far, node);
@@ -76,8 +76,8 @@ pub fn reach(
     node: usize,
     reach: u16,
 ) -> Counted
-    ensures result_value { paper_counted result ≡ reach_answer (given parents pebbles targets depths) (was list) node reach }
-    ensures list_value { became list ≡ reach_list (given parents pebbles targets depths) (was list) node reach }
+    ensures result_value { paper_counted result ≡ reach_answer (given parents.now pebbles.now targets.now depths.now) list.old node reach }
+    ensures list_value { list.new ≡ reach_list (given parents.now pebbles.now targets.now depths.now) list.old node reach }
 {
     let mut far = [256u16; 256];
     let tested = test_from(parents, pebbles, targets, depths, &mut far, node);

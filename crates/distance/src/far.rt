@@ -5,7 +5,6 @@ ghost use Rattle.std.specs.Prelude.{◌≡◌, true, ◌≢◌, [], ℕ, ◌≤�
 ghost use Rattle.model.specs.Yard.{Yard, yard_of};
 ghost use Rattle.model.specs.Judge.{Parents, first_of, shape_tests};
 ghost use Rattle.model.specs.Distance.{distance};
-ghost use Rattle.model.specs.Given.{was, became};
 ghost use Rattle.model.specs.Paper.{paper_done};
 ghost use Rattle.laws.proofs.Trees.{Wood};
 ghost use Rattle.distance.specs.Far.{From, unknown, Unknown, Entries, Rooted, Climbs, Written, Partly, Distances};
@@ -16,8 +15,8 @@ use model::Done;
 // The node itself, and those on the way from it to the root, by the steps up to each. False if there is no root within n steps.
 fn mark_way(parents: &[u8], list: &mut [u16], node: usize) -> bool
     requires { Parents parents.now × Entries parents.now list.old × Unknown list.old × (node < length parents.now) }
-    ensures entries { Entries (was parents) (became list) × (result ≡ true → (root : ℕ) × Rooted (was parents) (became list) root) }
-    ensures value { (y : Yard) → From y (was parents) node → (result ≡ true) × Partly y node (became list) }
+    ensures entries { Entries parents.now list.new × (result ≡ true → (root : ℕ) × Rooted parents.now list.new root) }
+    ensures value { (y : Yard) → From y parents.now node → (result ≡ true) × Partly y node list.new }
 {
     let mut w = node;
     let mut steps = 0;
@@ -38,8 +37,8 @@ fn mark_way(parents: &[u8], list: &mut [u16], node: usize) -> bool
 // The distance of v: that of the first node up from it that is known, and the steps up to there. 256 if there is none within n steps.
 fn far_away(parents: &[u8], list: &[u16], v: usize) -> u16
     requires { Parents parents.now × Entries parents.now list.now × (v < length parents.now) }
-    ensures upper_bound { (result ≤ unknown) × (result ≢ unknown → Climbs (was parents) (was list) v result) }
-    ensures value { (y : Yard) (a : ℕ) → From y (was parents) a → Partly y a (was list) → result ≡ distance y a v }
+    ensures upper_bound { (result ≤ unknown) × (result ≢ unknown → Climbs parents.now list.now v result) }
+    ensures value { (y : Yard) (a : ℕ) → From y parents.now a → Partly y a list.now → result ≡ distance y a v }
 {
     let mut u = v;
     let mut climbed = 0;
@@ -60,8 +59,8 @@ fn far_away(parents: &[u8], list: &[u16], v: usize) -> u16
 // Writes the distance of v, and of the nodes up from it as far as they are not known.
 fn write_up(parents: &[u8], list: &mut [u16], v: usize, far: u16)
     requires { Parents parents.now × Entries parents.now list.old × (v < length parents.now) × (far < unknown) × Climbs parents.now list.old v far }
-    ensures written { Written (was parents) v (was list) (became list) }
-    ensures partly { (y : Yard) (a : ℕ) → From y (was parents) a → Partly y a (was list) → far ≡ distance y a v → Partly y a (became list) }
+    ensures written { Written parents.now v list.old list.new }
+    ensures partly { (y : Yard) (a : ℕ) → From y parents.now a → Partly y a list.old → far ≡ distance y a v → Partly y a list.new }
 {
     let mut w = v;
     let mut steps = far;
@@ -75,8 +74,8 @@ fn write_up(parents: &[u8], list: &mut [u16], v: usize, far: u16)
 // The distance of v, if it is not known: at once where its parent's is, else by climbs. False if no climb from v comes to a node that is known.
 fn know(parents: &[u8], list: &mut [u16], v: usize) -> bool
     requires { Parents parents.now × Entries parents.now list.old × (v < length parents.now) }
-    ensures list_len { (length (became list) ≡ length (was parents)) × (result ≡ true → Written (was parents) v (was list) (became list)) }
-    ensures value { (y : Yard) (a : ℕ) → From y (was parents) a → Partly y a (was list) → (result ≡ true) × Partly y a (became list) }
+    ensures list_len { (length list.new ≡ length parents.now) × (result ≡ true → Written parents.now v list.old list.new) }
+    ensures value { (y : Yard) (a : ℕ) → From y parents.now a → Partly y a list.old → (result ≡ true) × Partly y a list.new }
 {
     if list[v] != 256 {
         return true;
@@ -97,8 +96,8 @@ fn know(parents: &[u8], list: &mut [u16], v: usize) -> bool
 // All of them, into a list of one entry a node. False if the parents are not a tree's.
 fn fill(parents: &[u8], list: &mut [u16], node: usize) -> bool
     requires { Parents parents.now × Entries parents.now list.old × Unknown list.old × (node < length parents.now) }
-    ensures by_index { result ≡ true → (root : ℕ) × Wood (was parents) root }
-    ensures value { (y : Yard) → From y (was parents) node → (result ≡ true) × Distances y node (became list) }
+    ensures by_index { result ≡ true → (root : ℕ) × Wood parents.now root }
+    ensures value { (y : Yard) → From y parents.now node → (result ≡ true) × Distances y node list.new }
 {
     if !mark_way(parents, list, node) {
         return false;
@@ -117,9 +116,9 @@ fn fill(parents: &[u8], list: &mut [u16], node: usize) -> bool
 // after a refusal: no rule speaks of them, as each call lends an array of its own and looks at it only if the yard is accepted.
 pub(crate) fn measure(parents: &[u8], list: &mut [u16], node: usize) -> Done
     requires { Parents parents.now × Unknown list.old × (length list.old ≡ 256) × (node < length parents.now) }
-    ensures result_value { paper_done result ≡ first_of (shape_tests (yard_of (was parents) [] [] [])) }
-    ensures distances { (y : Yard) → From y (was parents) node → Distances y node (became list) }
-    ensures list_value { drop (length (was parents)) (became list) ≡ drop (length (was parents)) (was list) }
+    ensures result_value { paper_done result ≡ first_of (shape_tests (yard_of parents [] [] [])) }
+    ensures distances { (y : Yard) → From y parents node → Distances y node list.new }
+    ensures list_value { drop (length parents) list.new ≡ drop (length parents) list }
 {
     if fill(parents, &mut list[..parents.len()], node) {
         return Done::Accepted;

@@ -1,7 +1,6 @@
 // Pebbles by their distances.
 ghost use Rattle.std.specs.Prelude.{◌≡◌, ◌&&◌, map, ℕ, min, ◌≤◌, ◌<◌, length, leb, ltb};
 ghost use Rattle.model.specs.Yard.{Yard, size, one, lowest};
-ghost use Rattle.model.specs.Given.{was, became};
 ghost use Rattle.model.specs.Calls.Answers.{range};
 ghost use Rattle.model.specs.Calls.Distances.{inReach, reach_count};
 ghost use Rattle.model.specs.Paper.{paper_located};
@@ -31,7 +30,7 @@ fn smaller(a: u16, b: u16) -> u16
 // The least distance of a pebble, 256 if there is none.
 fn least(pebbles: &[u8], far: &[u16; 256]) -> u16
     requires { length pebbles.now ≤ 256 }
-    ensures { Least (was pebbles) (was far) (length (was pebbles)) result }
+    ensures { Least pebbles.now far.now (length pebbles.now) result }
 {
     let mut nearest = 256;
     let mut v = 0;
@@ -58,7 +57,7 @@ fn in_reach(pebble: u8, far: u16, reach: u16) -> u8
 // The first node that holds one, or n.
 fn first_within(pebbles: &[u8], far: &[u16; 256], reach: u16) -> usize
     requires { length pebbles.now ≤ 256 }
-    ensures { result ≡ lowest (length (was pebbles)) (is_within (was pebbles) (was far) reach) }
+    ensures { result ≡ lowest (length pebbles.now) (is_within pebbles.now far.now reach) }
 {
     let mut v = 0;
     while v < pebbles.len() {
@@ -73,7 +72,7 @@ fn first_within(pebbles: &[u8], far: &[u16; 256], reach: u16) -> usize
 // The nearest pebble: the first that is as near as the nearest.
 pub fn nearest_of(pebbles: &[u8], far: &[u16; 256]) -> Located
     requires { (y : Yard) × ((a : ℕ) × Asked y a pebbles.now far.now) }
-    ensures { (y : Yard) (a : ℕ) → Asked y a (was pebbles) (was far) → paper_located result ≡ nearest_or_none y a }
+    ensures { (y : Yard) (a : ℕ) → Asked y a pebbles.now far.now → paper_located result ≡ nearest_or_none y a }
 {
     let distance = least(pebbles, far);
     if distance == 256 {
@@ -85,8 +84,8 @@ pub fn nearest_of(pebbles: &[u8], far: &[u16; 256]) -> Located
 // Writes that for each node, and answers the count of 1s.
 pub fn reach_into(pebbles: &[u8], far: &[u16; 256], list: &mut [u8], reach: u16) -> usize
     requires { (y : Yard) × ((a : ℕ) × Asked y a pebbles.now far.now × (length list.old ≡ size y)) }
-    ensures value { (y : Yard) (a : ℕ) → Asked y a (was pebbles) (was far) → length (was list) ≡ size y → result ≡ reach_count y a reach }
-    ensures list_value { (y : Yard) (a : ℕ) → Asked y a (was pebbles) (was far) → length (was list) ≡ size y → became list ≡ map (λ v. one (inReach y a reach v)) (range 0 (size y)) }
+    ensures value { (y : Yard) (a : ℕ) → Asked y a pebbles.now far.now → length list.old ≡ size y → result ≡ reach_count y a reach }
+    ensures list_value { (y : Yard) (a : ℕ) → Asked y a pebbles.now far.now → length list.old ≡ size y → list.new ≡ map (λ v. one (inReach y a reach v)) (range 0 (size y)) }
 {
     let mut count = 0;
     let mut v = 0;

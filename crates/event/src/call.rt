@@ -1,6 +1,6 @@
 // The event call.
 ghost use Rattle.std.specs.Prelude.{◌≡◌};
-ghost use Rattle.model.specs.Given.{given, was, became};
+ghost use Rattle.model.specs.Given.{given};
 ghost use Rattle.model.specs.Calls.Events.{event_fault, event_pebbles, event_targets, event_demands};
 ghost use Rattle.model.specs.Paper.{paper_done};
 
@@ -19,7 +19,7 @@ fn test_event(
     event: Event,
     node: usize,
 ) -> Done
-    ensures { paper_done result ≡ event_fault (given parents pebbles targets depths) (was list) event node }
+    ensures { paper_done result ≡ event_fault (given parents.now pebbles.now targets.now depths.now) list.now event node }
 {
     let mut fresh = [0i16; 256];
     let tested = tree_demands(parents, pebbles, targets, depths, &mut fresh);
@@ -54,10 +54,10 @@ pub fn event_at(
     event: Event,
     node: usize,
 ) -> Done
-    ensures result_value { paper_done result ≡ event_fault (given parents pebbles targets depths) (was list) event node }
-    ensures pebbles_value { became pebbles ≡ event_pebbles (given parents pebbles targets depths) (was list) event node }
-    ensures targets_value { became targets ≡ event_targets (given parents pebbles targets depths) (was list) event node }
-    ensures list_value { became list ≡ event_demands (given parents pebbles targets depths) (was list) event node }
+    ensures result_value { paper_done result ≡ event_fault (given parents.now pebbles.old targets.old depths.now) list.old event node }
+    ensures pebbles_value { pebbles.new ≡ event_pebbles (given parents.now pebbles.old targets.old depths.now) list.old event node }
+    ensures targets_value { targets.new ≡ event_targets (given parents.now pebbles.old targets.old depths.now) list.old event node }
+    ensures list_value { list.new ≡ event_demands (given parents.now pebbles.old targets.old depths.now) list.old event node }
 {
     let tested = test_event(parents, pebbles, targets, depths, list, event, node);
     if let Done::Refused(r) = tested {

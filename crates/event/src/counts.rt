@@ -1,7 +1,6 @@
 // The one count that an event alters.
 ghost use Rattle.std.specs.Prelude.{◌≡◌, true, [], ◌<◌, length, get_or};
 ghost use Rattle.model.specs.Yard.{yard_of};
-ghost use Rattle.model.specs.Given.{was, became};
 ghost use Rattle.model.specs.Calls.Events.{pebbles_after, targets_after};
 ghost use Rattle.event.specs.Change.{can};
 
@@ -23,8 +22,8 @@ pub fn can_happen(event: Event, pebble: u8, target: u8, depth: u8) -> bool
 pub fn alter(pebbles: &mut [u8], targets: &mut [u8], event: Event, node: usize)
     requires node_in_bounds { (node < length pebbles.old) × (node < length targets.old) }
     requires node_value { can event (get_or pebbles.old node 0) (get_or targets.old node 0) 255 ≡ true }
-    ensures pebbles_value { became pebbles ≡ pebbles_after (yard_of [] (was pebbles) (was targets) []) event node }
-    ensures targets_value { became targets ≡ targets_after (yard_of [] (was pebbles) (was targets) []) event node }
+    ensures pebbles_value { pebbles.new ≡ pebbles_after (yard_of [] pebbles.old targets.old []) event node }
+    ensures targets_value { targets.new ≡ targets_after (yard_of [] pebbles.old targets.old []) event node }
 {
     match event {
         Event::PebbleArrives => pebbles[node] += 1,

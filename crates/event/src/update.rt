@@ -1,7 +1,6 @@
 // The demand list before and after an event.
 ghost use Rattle.std.specs.Prelude.{◌≡◌, ◌≤◌, ◌<◌, length, nat_abs};
 ghost use Rattle.model.specs.Yard.{max_size, one, sum, lowest};
-ghost use Rattle.model.specs.Given.{was, became};
 ghost use Rattle.event.specs.Change.{differ_at, Rails, Small, step_of, stepped_after};
 
 use model::Event;
@@ -9,7 +8,7 @@ use model::Event;
 // How many entries of two lists differ. Counted without a way out, so that many are compared at a time.
 fn count_differences(list: &[i16], other: &[i16]) -> u16
     requires { (length list.now ≡ length other.now) × (length list.now ≤ max_size) }
-    ensures { result ≡ sum (length (was list)) (λ v. one (differ_at (was list) (was other) v)) }
+    ensures { result ≡ sum (length list.now) (λ v. one (differ_at list.now other.now v)) }
 {
     let mut count = 0;
     let mut v = 0;
@@ -25,7 +24,7 @@ fn count_differences(list: &[i16], other: &[i16]) -> u16
 // The lowest entry in which two lists differ, or their length.
 pub fn first_difference(list: &[i16], other: &[i16]) -> usize
     requires { (length list.now ≡ length other.now) × (length list.now ≤ max_size) }
-    ensures { result ≡ lowest (length (was list)) (differ_at (was list) (was other)) }
+    ensures { result ≡ lowest (length list.now) (differ_at list.now other.now) }
 {
     if count_differences(list, other) == 0 {
         return list.len();
@@ -55,7 +54,7 @@ pub fn step(event: Event) -> i16
 // Steps each entry on the way from the node to the root.
 pub fn climb(parents: &[u8], list: &mut [i16], by: i16, node: usize)
     requires { Rails parents.now × (length list.old ≡ length parents.now) × (node < length parents.now) × (nat_abs by ≤ 1) × Small list.old }
-    ensures { became list ≡ stepped_after (was parents) by node (was list) }
+    ensures { list.new ≡ stepped_after parents.now by node list.old }
 {
     let mut w = node;
     while parents[w] as usize != w {

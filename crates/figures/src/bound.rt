@@ -10,7 +10,7 @@ use model::{Counted, Done, Measured, Refusal};
 
 // Bound: the moves of the plan and the bytes that its list needs, without planning: the shortest length is the plan's. Refusals 1 to 7. Linear work.
 pub fn length_bound(parents: &[u8], pebbles: &[u8], targets: &[u8], depths: &[u8]) -> Measured
-    ensures { paper_measured result ≡ bound_answer (given parents pebbles targets depths) }
+    ensures { paper_measured result ≡ bound_answer (given parents.now pebbles.now targets.now depths.now) }
 {
     let mut demands = [0i16; 256];
     let tested = matched_demands(parents, pebbles, targets, depths, &mut demands);

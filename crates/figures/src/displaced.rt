@@ -1,7 +1,7 @@
 // The displaced (disturbed) pebbles, told by the demands.
 ghost use Rattle.std.specs.Prelude.{◌≡◌, ℕ, ◌-◌, ◌≤◌, ◌<◌, length, get_or, pos, nat_abs};
 ghost use Rattle.model.specs.Yard.{sum, max_size, max_demand};
-ghost use Rattle.model.specs.Given.{given, was};
+ghost use Rattle.model.specs.Given.{given};
 ghost use Rattle.model.specs.Calls.Demands.{displaced_answer};
 ghost use Rattle.model.specs.Paper.{paper_counted};
 ghost use Rattle.figures.specs.Leaving.{source_or, Leaves, staying_of, moving_at};
@@ -28,7 +28,7 @@ fn source(demand: i16, v: usize, p: usize) -> usize
 fn leaving(parents: &[u8], demands: &[i16]) -> [usize; 257]
     requires parents_len_bound { (length parents.now ≤ max_size) × (length demands.now ≡ length parents.now) }
     requires by_index { (v : ℕ) → nat_abs (get_or demands.now v (pos 0)) ≤ max_demand }
-    ensures { Leaves (was parents) (was demands) result }
+    ensures { Leaves parents.now demands.now result }
 {
     let mut counts = [0usize; 257];
     let mut v = 0;
@@ -67,7 +67,7 @@ fn staying(depth: usize, pebble: usize, demand: i16, out: usize) -> usize
 fn moving(pebbles: &[u8], depths: &[u8], demands: &[i16], out: &[usize]) -> usize
     requires pebbles_len_bound { (length pebbles.now ≤ max_size) × (length depths.now ≡ length pebbles.now) × (length demands.now ≡ length pebbles.now) × (length pebbles.now ≤ length out.now) }
     requires by_index { (v : ℕ) → nat_abs (get_or demands.now v (pos 0)) ≤ max_demand }
-    ensures { result ≡ sum (length (was pebbles)) (moving_at (was pebbles) (was depths) (was demands) (was out)) }
+    ensures { result ≡ sum (length pebbles.now) (moving_at pebbles.now depths.now demands.now out.now) }
 {
     let mut count = 0;
     let mut i = 0;
@@ -85,7 +85,7 @@ fn moving(pebbles: &[u8], depths: &[u8], demands: &[i16], out: &[usize]) -> usiz
 // Displaced (disturbed): the pebbles that take part in a move of the plan, the last in first, without planning: of each node's those beyond the least that
 // it ever holds, which the demands tell. Refusals 1 to 7. Linear work.
 pub fn displaced(parents: &[u8], pebbles: &[u8], targets: &[u8], depths: &[u8]) -> Counted
-    ensures { paper_counted result ≡ displaced_answer (given parents pebbles targets depths) }
+    ensures { paper_counted result ≡ displaced_answer (given parents.now pebbles.now targets.now depths.now) }
 {
     let mut demands = [0i16; 256];
     let tested = matched_demands(parents, pebbles, targets, depths, &mut demands);

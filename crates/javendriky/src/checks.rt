@@ -1,6 +1,6 @@
 // The checker, its excess, and the trial.
 ghost use Rattle.std.specs.Prelude.{◌≡◌};
-ghost use Rattle.model.specs.Given.{given, was, became};
+ghost use Rattle.model.specs.Given.{given};
 ghost use Rattle.model.specs.Calls.Answers.{in_c, zeroInC, mapAnswer};
 ghost use Rattle.model.specs.Calls.Checks.{trial_in_c, check_fault, check_answer, trial_answer, trial_pebbles};
 ghost use Rattle.laws.specs.Demand2.{CheckerExact};
@@ -19,8 +19,8 @@ pub extern "C" fn javendriky_check(
     depths: &[u8],
     plan: &[u8],
 ) -> u32
-    ensures value { result ≡ zeroInC (check_fault (given parents pebbles targets depths) (was plan)) }
-    ensures checker_exact { CheckerExact (given parents pebbles targets depths) (was plan) (result ≡ 0) }
+    ensures value { result ≡ zeroInC (check_fault (given parents.now pebbles.now targets.now depths.now) plan.now) }
+    ensures checker_exact { CheckerExact (given parents.now pebbles.now targets.now depths.now) plan.now (result ≡ 0) }
 {
     done(test_plan(parents, pebbles, targets, depths, plan))
 }
@@ -34,7 +34,7 @@ pub extern "C" fn javendriky_excess(
     depths: &[u8],
     plan: &[u8],
 ) -> u32
-    ensures { result ≡ in_c (mapAnswer (λ v. v.excess) (check_answer (given parents pebbles targets depths) (was plan))) }
+    ensures { result ≡ in_c (mapAnswer (λ v. v.excess) (check_answer (given parents.now pebbles.now targets.now depths.now) plan.now)) }
 {
     match check(parents, pebbles, targets, depths, plan) {
         Checked::Accepted(_, excess) => excess as u32,
@@ -53,8 +53,8 @@ pub extern "C" fn javendriky_trial(
     plan: &[u8],
     budget: u16,
 ) -> u32
-    ensures value { result ≡ in_c (mapAnswer trial_in_c (trial_answer (given parents pebbles targets depths) (was plan) budget)) }
-    ensures pebbles_value { became pebbles ≡ trial_pebbles (given parents pebbles targets depths) (was plan) budget }
+    ensures value { result ≡ in_c (mapAnswer trial_in_c (trial_answer (given parents.now pebbles.old targets.now depths.now) plan.now budget)) }
+    ensures pebbles_value { pebbles.new ≡ trial_pebbles (given parents.now pebbles.old targets.now depths.now) plan.now budget }
 {
     tried(trial(parents, pebbles, targets, depths, plan, budget))
 }

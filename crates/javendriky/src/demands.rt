@@ -1,6 +1,6 @@
 // The demands (accounts) and the figures.
 ghost use Rattle.std.specs.Prelude.{◌≡◌};
-ghost use Rattle.model.specs.Given.{given, was, became};
+ghost use Rattle.model.specs.Given.{given};
 ghost use Rattle.model.specs.Calls.Answers.{mapAnswer, in_c, zeroInC, noted};
 ghost use Rattle.model.specs.Calls.Demands.{demands_fault, demands_list, bound_answer, displaced_answer, longest_answer};
 
@@ -19,8 +19,8 @@ pub extern "C" fn javendriky_demands(
     depths: &[u8],
     list: &mut [i16],
 ) -> u32
-    ensures value { result ≡ zeroInC (demands_fault (given parents pebbles targets depths) (was list)) }
-    ensures list_value { became list ≡ demands_list (given parents pebbles targets depths) (was list) }
+    ensures value { result ≡ zeroInC (demands_fault (given parents.now pebbles.now targets.now depths.now) list.old) }
+    ensures list_value { list.new ≡ demands_list (given parents.now pebbles.now targets.now depths.now) list.old }
 {
     done(demands(parents, pebbles, targets, depths, list))
 }
@@ -34,8 +34,8 @@ pub extern "C" fn javendriky_length_bound(
     depths: &[u8],
     bytes: &mut u32,
 ) -> u32
-    ensures value { result ≡ in_c (mapAnswer (λ l. l.moves) (bound_answer (given parents pebbles targets depths))) }
-    ensures bytes_value { became bytes ≡ noted (bound_answer (given parents pebbles targets depths)) (λ l. l.list_bytes) (was bytes) }
+    ensures value { result ≡ in_c (mapAnswer (λ l. l.moves) (bound_answer (given parents.now pebbles.now targets.now depths.now))) }
+    ensures bytes_value { bytes.new ≡ noted (bound_answer (given parents.now pebbles.now targets.now depths.now)) (λ l. l.list_bytes) bytes.old }
 {
     match length_bound(parents, pebbles, targets, depths) {
         Measured::Length(moves, list_bytes) => {
@@ -62,7 +62,7 @@ pub extern "C" fn javendriky_displaced(
     targets: &[u8],
     depths: &[u8],
 ) -> u32
-    ensures { result ≡ in_c (displaced_answer (given parents pebbles targets depths)) }
+    ensures { result ≡ in_c (displaced_answer (given parents.now pebbles.now targets.now depths.now)) }
 {
     counted(displaced(parents, pebbles, targets, depths))
 }

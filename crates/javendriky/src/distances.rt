@@ -1,6 +1,6 @@
 // The nearest pebble, and the pebbles within reach.
 ghost use Rattle.std.specs.Prelude.{◌≡◌};
-ghost use Rattle.model.specs.Given.{given, was, became};
+ghost use Rattle.model.specs.Given.{given};
 ghost use Rattle.model.specs.Calls.Answers.{mapAnswer, in_c, noted};
 ghost use Rattle.model.specs.Calls.Distances.{nearest_answer, reach_answer, reach_list};
 
@@ -18,8 +18,8 @@ pub extern "C" fn javendriky_nearest(
     node: usize,
     distance: &mut u32,
 ) -> u32
-    ensures value { result ≡ in_c (mapAnswer (λ l. l.node) (nearest_answer (given parents pebbles targets depths) node)) }
-    ensures distance_value { became distance ≡ noted (nearest_answer (given parents pebbles targets depths) node) (λ l. l.distance) (was distance) }
+    ensures value { result ≡ in_c (mapAnswer (λ l. l.node) (nearest_answer (given parents.now pebbles.now targets.now depths.now) node)) }
+    ensures distance_value { distance.new ≡ noted (nearest_answer (given parents.now pebbles.now targets.now depths.now) node) (λ l. l.distance) distance.old }
 {
     match nearest(parents, pebbles, targets, depths, node) {
         Located::Node(at, far) => {
@@ -42,8 +42,8 @@ pub extern "C" fn javendriky_reach(
     node: usize,
     edges: u16,
 ) -> u32
-    ensures value { result ≡ in_c (reach_answer (given parents pebbles targets depths) (was list) node edges) }
-    ensures list_value { became list ≡ reach_list (given parents pebbles targets depths) (was list) node edges }
+    ensures value { result ≡ in_c (reach_answer (given parents.now pebbles.now targets.now depths.now) list.old node edges) }
+    ensures list_value { list.new ≡ reach_list (given parents.now pebbles.now targets.now depths.now) list.old node edges }
 {
     counted(reach(parents, pebbles, targets, depths, list, node, edges))
 }

@@ -1,7 +1,7 @@
 // Events at a node, a call for each, so that no number of an event can be wrong.
 ghost use Rattle.std.specs.Prelude.{◌≡◌};
 ghost use Rattle.model.specs.declared.Event.TheVariants.{PebbleArrives, PebbleLeaves, TargetSet, TargetCleared};
-ghost use Rattle.model.specs.Given.{given, was, became};
+ghost use Rattle.model.specs.Given.{given};
 ghost use Rattle.model.specs.Calls.Answers.{zeroInC};
 ghost use Rattle.model.specs.Calls.Events.{event_fault, event_pebbles, event_targets, event_demands};
 
@@ -19,10 +19,10 @@ fn happened(
     event: Event,
     node: usize,
 ) -> u32
-    ensures value { result ≡ zeroInC (event_fault (given parents pebbles targets depths) (was demands) event node) }
-    ensures pebbles_value { became pebbles ≡ event_pebbles (given parents pebbles targets depths) (was demands) event node }
-    ensures targets_value { became targets ≡ event_targets (given parents pebbles targets depths) (was demands) event node }
-    ensures demands_value { became demands ≡ event_demands (given parents pebbles targets depths) (was demands) event node }
+    ensures value { result ≡ zeroInC (event_fault (given parents.now pebbles.old targets.old depths.now) demands.old event node) }
+    ensures pebbles_value { pebbles.new ≡ event_pebbles (given parents.now pebbles.old targets.old depths.now) demands.old event node }
+    ensures targets_value { targets.new ≡ event_targets (given parents.now pebbles.old targets.old depths.now) demands.old event node }
+    ensures demands_value { demands.new ≡ event_demands (given parents.now pebbles.old targets.old depths.now) demands.old event node }
 {
     done(event_at(parents, pebbles, targets, depths, demands, event, node))
 }
@@ -37,10 +37,10 @@ pub extern "C" fn javendriky_pebble_arrives(
     demands: &mut [i16],
     node: usize,
 ) -> u32
-    ensures value { result ≡ zeroInC (event_fault (given parents pebbles targets depths) (was demands) PebbleArrives node) }
-    ensures pebbles_value { became pebbles ≡ event_pebbles (given parents pebbles targets depths) (was demands) PebbleArrives node }
-    ensures targets_value { became targets ≡ event_targets (given parents pebbles targets depths) (was demands) PebbleArrives node }
-    ensures demands_value { became demands ≡ event_demands (given parents pebbles targets depths) (was demands) PebbleArrives node }
+    ensures value { result ≡ zeroInC (event_fault (given parents.now pebbles.old targets.old depths.now) demands.old PebbleArrives node) }
+    ensures pebbles_value { pebbles.new ≡ event_pebbles (given parents.now pebbles.old targets.old depths.now) demands.old PebbleArrives node }
+    ensures targets_value { targets.new ≡ event_targets (given parents.now pebbles.old targets.old depths.now) demands.old PebbleArrives node }
+    ensures demands_value { demands.new ≡ event_demands (given parents.now pebbles.old targets.old depths.now) demands.old PebbleArrives node }
 {
     happened(
         parents,
@@ -63,10 +63,10 @@ pub extern "C" fn javendriky_pebble_leaves(
     demands: &mut [i16],
     node: usize,
 ) -> u32
-    ensures value { result ≡ zeroInC (event_fault (given parents pebbles targets depths) (was demands) PebbleLeaves node) }
-    ensures pebbles_value { became pebbles ≡ event_pebbles (given parents pebbles targets depths) (was demands) PebbleLeaves node }
-    ensures targets_value { became targets ≡ event_targets (given parents pebbles targets depths) (was demands) PebbleLeaves node }
-    ensures demands_value { became demands ≡ event_demands (given parents pebbles targets depths) (was demands) PebbleLeaves node }
+    ensures value { result ≡ zeroInC (event_fault (given parents.now pebbles.old targets.old depths.now) demands.old PebbleLeaves node) }
+    ensures pebbles_value { pebbles.new ≡ event_pebbles (given parents.now pebbles.old targets.old depths.now) demands.old PebbleLeaves node }
+    ensures targets_value { targets.new ≡ event_targets (given parents.now pebbles.old targets.old depths.now) demands.old PebbleLeaves node }
+    ensures demands_value { demands.new ≡ event_demands (given parents.now pebbles.old targets.old depths.now) demands.old PebbleLeaves node }
 {
     happened(
         parents,
@@ -89,10 +89,10 @@ pub extern "C" fn javendriky_target_set(
     demands: &mut [i16],
     node: usize,
 ) -> u32
-    ensures value { result ≡ zeroInC (event_fault (given parents pebbles targets depths) (was demands) TargetSet node) }
-    ensures pebbles_value { became pebbles ≡ event_pebbles (given parents pebbles targets depths) (was demands) TargetSet node }
-    ensures targets_value { became targets ≡ event_targets (given parents pebbles targets depths) (was demands) TargetSet node }
-    ensures demands_value { became demands ≡ event_demands (given parents pebbles targets depths) (was demands) TargetSet node }
+    ensures value { result ≡ zeroInC (event_fault (given parents.now pebbles.old targets.old depths.now) demands.old TargetSet node) }
+    ensures pebbles_value { pebbles.new ≡ event_pebbles (given parents.now pebbles.old targets.old depths.now) demands.old TargetSet node }
+    ensures targets_value { targets.new ≡ event_targets (given parents.now pebbles.old targets.old depths.now) demands.old TargetSet node }
+    ensures demands_value { demands.new ≡ event_demands (given parents.now pebbles.old targets.old depths.now) demands.old TargetSet node }
 {
     happened(
         parents,
@@ -115,10 +115,10 @@ pub extern "C" fn javendriky_target_cleared(
     demands: &mut [i16],
     node: usize,
 ) -> u32
-    ensures value { result ≡ zeroInC (event_fault (given parents pebbles targets depths) (was demands) TargetCleared node) }
-    ensures pebbles_value { became pebbles ≡ event_pebbles (given parents pebbles targets depths) (was demands) TargetCleared node }
-    ensures targets_value { became targets ≡ event_targets (given parents pebbles targets depths) (was demands) TargetCleared node }
-    ensures demands_value { became demands ≡ event_demands (given parents pebbles targets depths) (was demands) TargetCleared node }
+    ensures value { result ≡ zeroInC (event_fault (given parents.now pebbles.old targets.old depths.now) demands.old TargetCleared node) }
+    ensures pebbles_value { pebbles.new ≡ event_pebbles (given parents.now pebbles.old targets.old depths.now) demands.old TargetCleared node }
+    ensures targets_value { targets.new ≡ event_targets (given parents.now pebbles.old targets.old depths.now) demands.old TargetCleared node }
+    ensures demands_value { demands.new ≡ event_demands (given parents.now pebbles.old targets.old depths.now) demands.old TargetCleared node }
 {
     happened(
         parents,

@@ -1,6 +1,6 @@
 // The planner, over the whole yard and part by part, and the moves that a plan can start with.
 ghost use Rattle.std.specs.Prelude.{◌≡◌};
-ghost use Rattle.model.specs.Given.{given, was, became};
+ghost use Rattle.model.specs.Given.{given};
 ghost use Rattle.model.specs.Calls.Answers.{in_c, told};
 ghost use Rattle.model.specs.Calls.Plans.{plan_answer, plan_list};
 ghost use Rattle.model.specs.Calls.Parts.{parts_answer, parts_plan_list, parts_list};
@@ -19,10 +19,10 @@ pub extern "C" fn javendriky_plan(
     depths: &[u8],
     plan: &mut [u8],
 ) -> u32
-    ensures value { result ≡ in_c (plan_answer (given parents pebbles targets depths) (was plan)) }
-    ensures plan_value { became plan ≡ plan_list (given parents pebbles targets depths) (was plan) }
-    ensures planner_exact { PlannerExact (given parents pebbles targets depths) (was plan) (told result) (became plan) }
-    ensures demand3 { Demand3 (given parents pebbles targets depths) (was plan) (told result) (became plan) }
+    ensures value { result ≡ in_c (plan_answer (given parents.now pebbles.now targets.now depths.now) plan.old) }
+    ensures plan_value { plan.new ≡ plan_list (given parents.now pebbles.now targets.now depths.now) plan.old }
+    ensures planner_exact { PlannerExact (given parents.now pebbles.now targets.now depths.now) plan.old (told result) plan.new }
+    ensures demand3 { Demand3 (given parents.now pebbles.now targets.now depths.now) plan.old (told result) plan.new }
 {
     counted(planner::plan::plan(parents, pebbles, targets, depths, plan))
 }
@@ -38,9 +38,9 @@ pub extern "C" fn javendriky_plan_parts(
     plan: &mut [u8],
     parts: &mut [u8],
 ) -> u32
-    ensures value { result ≡ in_c (parts_answer (given parents pebbles targets depths) (was plan) (was parts)) }
-    ensures plan_value { became plan ≡ parts_plan_list (given parents pebbles targets depths) (was plan) (was parts) }
-    ensures parts_value { became parts ≡ parts_list (given parents pebbles targets depths) (was plan) (was parts) }
+    ensures value { result ≡ in_c (parts_answer (given parents.now pebbles.now targets.now depths.now) plan.old parts.old) }
+    ensures plan_value { plan.new ≡ parts_plan_list (given parents.now pebbles.now targets.now depths.now) plan.old parts.old }
+    ensures parts_value { parts.new ≡ parts_list (given parents.now pebbles.now targets.now depths.now) plan.old parts.old }
 {
     counted(parts::plan::plan_parts(parents, pebbles, targets, depths, plan, parts))
 }
@@ -55,8 +55,8 @@ pub extern "C" fn javendriky_openings(
     depths: &[u8],
     list: &mut [u8],
 ) -> u32
-    ensures value { result ≡ in_c (openings_answer (given parents pebbles targets depths) (was list)) }
-    ensures list_value { became list ≡ openings_list (given parents pebbles targets depths) (was list) }
+    ensures value { result ≡ in_c (openings_answer (given parents.now pebbles.now targets.now depths.now) list.old) }
+    ensures list_value { list.new ≡ openings_list (given parents.now pebbles.now targets.now depths.now) list.old }
 {
     counted(openings::call::openings(parents, pebbles, targets, depths, list))
 }

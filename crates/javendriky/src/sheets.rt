@@ -1,7 +1,7 @@
 // Yard sheets read and written.
 ghost use Rattle.std.specs.Prelude.{◌≡◌};
 ghost use Rattle.model.specs.Yard.{Yard, size};
-ghost use Rattle.model.specs.Given.{given, read_from, was, became};
+ghost use Rattle.model.specs.Given.{given, read_from};
 ghost use Rattle.model.specs.Calls.Answers.{mapAnswer, in_c};
 ghost use Rattle.model.specs.Sheets.{filled, write_answer, write_list};
 
@@ -18,11 +18,11 @@ pub extern "C" fn javendriky_read_sheet(
     targets: &mut [u8],
     depths: &mut [u8],
 ) -> u32
-    ensures value { result ≡ in_c (mapAnswer size (read_from sheet parents pebbles targets depths)) }
-    ensures parents_value { became parents ≡ filled (λ (y : Yard). y.parents) (read_from sheet parents pebbles targets depths) (was parents) }
-    ensures pebbles_value { became pebbles ≡ filled (λ (y : Yard). y.pebbles) (read_from sheet parents pebbles targets depths) (was pebbles) }
-    ensures targets_value { became targets ≡ filled (λ (y : Yard). y.targets) (read_from sheet parents pebbles targets depths) (was targets) }
-    ensures depths_value { became depths ≡ filled (λ (y : Yard). y.depths) (read_from sheet parents pebbles targets depths) (was depths) }
+    ensures value { result ≡ in_c (mapAnswer size (read_from sheet.now parents.old pebbles.old targets.old depths.old)) }
+    ensures parents_value { parents.new ≡ filled (λ (y : Yard). y.parents) (read_from sheet.now parents.old pebbles.old targets.old depths.old) parents.old }
+    ensures pebbles_value { pebbles.new ≡ filled (λ (y : Yard). y.pebbles) (read_from sheet.now parents.old pebbles.old targets.old depths.old) pebbles.old }
+    ensures targets_value { targets.new ≡ filled (λ (y : Yard). y.targets) (read_from sheet.now parents.old pebbles.old targets.old depths.old) targets.old }
+    ensures depths_value { depths.new ≡ filled (λ (y : Yard). y.depths) (read_from sheet.now parents.old pebbles.old targets.old depths.old) depths.old }
 {
     counted(read_sheet(sheet, parents, pebbles, targets, depths))
 }
@@ -36,8 +36,8 @@ pub extern "C" fn javendriky_write_sheet(
     depths: &[u8],
     sheet: &mut [u8],
 ) -> u32
-    ensures value { result ≡ in_c (write_answer (given parents pebbles targets depths) (was sheet)) }
-    ensures sheet_value { became sheet ≡ write_list (given parents pebbles targets depths) (was sheet) }
+    ensures value { result ≡ in_c (write_answer (given parents.now pebbles.now targets.now depths.now) sheet.old) }
+    ensures sheet_value { sheet.new ≡ write_list (given parents.now pebbles.now targets.now depths.now) sheet.old }
 {
     counted(write_sheet(parents, pebbles, targets, depths, sheet))
 }

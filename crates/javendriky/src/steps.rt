@@ -1,6 +1,6 @@
 // The pusher cabinet's step.
 ghost use Rattle.std.specs.Prelude.{◌≡◌, not, eqb};
-ghost use Rattle.model.specs.Given.{given, was, became};
+ghost use Rattle.model.specs.Given.{given};
 ghost use Rattle.model.specs.Calls.Registers.{stepped, line_in_c, line_told};
 ghost use Rattle.laws.specs.Cabinet.{stepped_to, EachStep};
 
@@ -20,10 +20,10 @@ pub extern "C" fn javendriky_step(
     registers: &mut [u8],
     failed: u8,
 ) -> u32
-    ensures value { result ≡ line_in_c (stepped (given parents pebbles targets depths) (was plan) (was registers) (not (eqb failed 0))).line }
-    ensures registers_value { became registers ≡ (stepped (given parents pebbles targets depths) (was plan) (was registers) (not (eqb failed 0))).block }
-    ensures pebbles_value { became pebbles ≡ (stepped (given parents pebbles targets depths) (was plan) (was registers) (not (eqb failed 0))).pebbles }
-    ensures each_step { EachStep (given parents pebbles targets depths) (was plan) (was registers) (not (eqb failed 0)) (stepped_to (line_told result) (became registers) (became pebbles)) }
+    ensures value { result ≡ line_in_c (stepped (given parents.now pebbles.old targets.now depths.now) plan.now registers.old (not (eqb failed 0))).line }
+    ensures registers_value { registers.new ≡ (stepped (given parents.now pebbles.old targets.now depths.now) plan.now registers.old (not (eqb failed 0))).block }
+    ensures pebbles_value { pebbles.new ≡ (stepped (given parents.now pebbles.old targets.now depths.now) plan.now registers.old (not (eqb failed 0))).pebbles }
+    ensures each_step { EachStep (given parents.now pebbles.old targets.now depths.now) plan.now registers.old (not (eqb failed 0)) (stepped_to (line_told result) registers.new pebbles.new) }
 {
     signalled(step_block(
         parents,

@@ -1,6 +1,6 @@
 // The wear within a stretch of moves.
 ghost use Rattle.std.specs.Prelude.{◌≡◌};
-ghost use Rattle.model.specs.Given.{given, was, became};
+ghost use Rattle.model.specs.Given.{given};
 ghost use Rattle.model.specs.Calls.Answers.{mapAnswer, in_c, noted};
 ghost use Rattle.model.specs.Calls.Wear.{wear_answer};
 
@@ -21,9 +21,9 @@ pub extern "C" fn javendriky_wear(
     first: &mut u32,
     edge: &mut u32,
 ) -> u32
-    ensures value { result ≡ in_c (mapAnswer (λ w. w.crossings) (wear_answer (given parents pebbles targets depths) (was plan) width)) }
-    ensures first_value { became first ≡ noted (wear_answer (given parents pebbles targets depths) (was plan) width) (λ w. w.first) (was first) }
-    ensures edge_value { became edge ≡ noted (wear_answer (given parents pebbles targets depths) (was plan) width) (λ w. w.edge) (was edge) }
+    ensures value { result ≡ in_c (mapAnswer (λ w. w.crossings) (wear_answer (given parents.now pebbles.now targets.now depths.now) plan.now width)) }
+    ensures first_value { first.new ≡ noted (wear_answer (given parents.now pebbles.now targets.now depths.now) plan.now width) (λ w. w.first) first.old }
+    ensures edge_value { edge.new ≡ noted (wear_answer (given parents.now pebbles.now targets.now depths.now) plan.now width) (λ w. w.edge) edge.old }
 {
     match wear(parents, pebbles, targets, depths, plan, width) {
         Worn::Most(crossings, begins, at) => {

@@ -1,6 +1,6 @@
 // The test of a yard, and one push.
 ghost use Rattle.std.specs.Prelude.{◌≡◌};
-ghost use Rattle.model.specs.Given.{given, became};
+ghost use Rattle.model.specs.Given.{given};
 ghost use Rattle.model.specs.Judge.{judge};
 ghost use Rattle.model.specs.Push.{push, push_fault, pushed_pebbles};
 ghost use Rattle.model.specs.Calls.Answers.{zeroInC};
@@ -17,7 +17,7 @@ pub extern "C" fn javendriky_test_yard(
     targets: &[u8],
     depths: &[u8],
 ) -> u32
-    ensures { result ≡ zeroInC (judge (given parents pebbles targets depths)) }
+    ensures { result ≡ zeroInC (judge (given parents.now pebbles.now targets.now depths.now)) }
 {
     done(test_yard(parents, pebbles, targets, depths))
 }
@@ -32,8 +32,8 @@ pub extern "C" fn javendriky_push(
     from: usize,
     to: usize,
 ) -> u32
-    ensures value { result ≡ zeroInC (push_fault (given parents pebbles targets depths) (push from to)) }
-    ensures pebbles_value { became pebbles ≡ pushed_pebbles (given parents pebbles targets depths) (push from to) }
+    ensures value { result ≡ zeroInC (push_fault (given parents.now pebbles.old targets.now depths.now) (push from to)) }
+    ensures pebbles_value { pebbles.new ≡ pushed_pebbles (given parents.now pebbles.old targets.now depths.now) (push from to) }
 {
     done(push_lists(parents, pebbles, targets, depths, from, to))
 }

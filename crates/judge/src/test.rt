@@ -1,7 +1,7 @@
 // Testing a yard: refusals 1, 2, 26, 27, 4, 5 and 6, in their order.
 ghost use Rattle.std.specs.Prelude.{◌≡◌, [], length};
 ghost use Rattle.model.specs.Yard.{yard_of};
-ghost use Rattle.model.specs.Given.{given, was};
+ghost use Rattle.model.specs.Given.{given};
 ghost use Rattle.model.specs.Judge.{first_of, length_tests, entry_tests, list_tests, shape_tests, judge, Parents};
 ghost use Rattle.model.specs.Paper.{paper_done};
 
@@ -11,7 +11,7 @@ use model::{Done, Refusal};
 
 // Refusals 1 and 2.
 pub fn test_lengths(parents: &[u8], pebbles: &[u8], targets: &[u8], depths: &[u8]) -> Done
-    ensures { paper_done result ≡ first_of (length_tests (given parents pebbles targets depths)) }
+    ensures { paper_done result ≡ first_of (length_tests (given parents.now pebbles.now targets.now depths.now)) }
 {
     let n = parents.len();
     if n == 0 {
@@ -35,7 +35,7 @@ pub fn test_lengths(parents: &[u8], pebbles: &[u8], targets: &[u8], depths: &[u8
 // Refusals 26, 27 and 4, of lists of one length.
 fn test_entries(parents: &[u8], pebbles: &[u8], targets: &[u8], depths: &[u8]) -> Done
     requires { (length pebbles.now ≡ length parents.now) × (length targets.now ≡ length parents.now) × (length depths.now ≡ length parents.now) }
-    ensures { paper_done result ≡ first_of (entry_tests (given parents pebbles targets depths)) }
+    ensures { paper_done result ≡ first_of (entry_tests (given parents.now pebbles.now targets.now depths.now)) }
 {
     let n = parents.len();
     let depth = first_outside(depths, 1, 8);
@@ -59,7 +59,7 @@ fn test_entries(parents: &[u8], pebbles: &[u8], targets: &[u8], depths: &[u8]) -
 
 // Refusals 1, 2, 26, 27 and 4.
 pub fn test_lists(parents: &[u8], pebbles: &[u8], targets: &[u8], depths: &[u8]) -> Done
-    ensures { paper_done result ≡ first_of (list_tests (given parents pebbles targets depths)) }
+    ensures { paper_done result ≡ first_of (list_tests (given parents.now pebbles.now targets.now depths.now)) }
 {
     let lengths = test_lengths(parents, pebbles, targets, depths);
     if let Done::Refused(r) = lengths {
@@ -71,7 +71,7 @@ pub fn test_lists(parents: &[u8], pebbles: &[u8], targets: &[u8], depths: &[u8])
 // Refusals 5 and 6, of parents that are nodes. A second root never climbs to the first, so it is looked for only where some node does not.
 pub fn test_shape(parents: &[u8]) -> Done
     requires { Parents parents.now }
-    ensures { paper_done result ≡ first_of (shape_tests (yard_of (was parents) [] [] [])) }
+    ensures { paper_done result ≡ first_of (shape_tests (yard_of parents.now [] [] [])) }
 {
     let n = parents.len();
     let root = first_own(parents, 0);
@@ -91,7 +91,7 @@ pub fn test_shape(parents: &[u8]) -> Done
 
 // Whether four lists are a yard's, and a tree: refusals 1 to 6, in the order above.
 pub fn test_yard(parents: &[u8], pebbles: &[u8], targets: &[u8], depths: &[u8]) -> Done
-    ensures { paper_done result ≡ judge (given parents pebbles targets depths) }
+    ensures { paper_done result ≡ judge (given parents.now pebbles.now targets.now depths.now) }
 {
     let lists = test_lists(parents, pebbles, targets, depths);
     if let Done::Refused(r) = lists {

@@ -10,7 +10,7 @@ use model::{Done, Refusal};
 
 // Refusals 1 to 7: four lists of a tree with as many pebbles as targets.
 pub fn test_matched(parents: &[u8], pebbles: &[u8], targets: &[u8], depths: &[u8]) -> Done
-    ensures { paper_done result ≡ matched_fault (given parents pebbles targets depths) }
+    ensures { paper_done result ≡ matched_fault (given parents.now pebbles.now targets.now depths.now) }
 {
     let tested = test_yard(parents, pebbles, targets, depths);
     if let Done::Refused(r) = tested {

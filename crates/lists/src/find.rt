@@ -1,14 +1,13 @@
 // Finding the lowest index whose entry passes a test.
 ghost use Rattle.std.specs.Prelude.{◌≡◌, ◌-◌, max, length, get_or};
 ghost use Rattle.model.specs.Yard.{most};
-ghost use Rattle.model.specs.Given.{was};
 ghost use Rattle.lists.specs.Find.{firstAtLeast, firstOutside, firstOwn, firstBelow};
 
 use crate::numbers::{above, larger};
 
 // The greatest entry of a list, 0 of an empty one.
 fn greatest(list: &[u8]) -> u8
-    ensures { result ≡ most (length (was list)) (λ v. get_or (was list) v 0) }
+    ensures { result ≡ most (length list.now) (λ v. get_or list.now v 0) }
 {
     let mut most = 0;
     let mut i = 0;
@@ -22,7 +21,7 @@ fn greatest(list: &[u8]) -> u8
 // The lowest index whose entry is at least `limit`, or the list's length. Mostly there is none, which the greatest entry tells: to find that, many
 // entries can be looked at at once.
 pub fn first_at_least(list: &[u8], limit: usize) -> usize
-    ensures { result ≡ firstAtLeast (was list) limit }
+    ensures { result ≡ firstAtLeast list.now limit }
 {
     if (greatest(list) as usize) < limit {
         return list.len();
@@ -32,7 +31,7 @@ pub fn first_at_least(list: &[u8], limit: usize) -> usize
 
 // The same, entry by entry.
 fn look_for(list: &[u8], limit: usize) -> usize
-    ensures { result ≡ firstAtLeast (was list) limit }
+    ensures { result ≡ firstAtLeast list.now limit }
 {
     let mut i = 0;
     while i < list.len() {
@@ -46,7 +45,7 @@ fn look_for(list: &[u8], limit: usize) -> usize
 
 // How far an entry is below `low` or above `high`, the most of all.
 fn farthest_outside(list: &[u8], low: u8, high: u8) -> u8
-    ensures { result ≡ most (length (was list)) (λ v. max (low - get_or (was list) v 0) (get_or (was list) v 0 - high)) }
+    ensures { result ≡ most (length list.now) (λ v. max (low - get_or list.now v 0) (get_or list.now v 0 - high)) }
 {
     let mut most = 0;
     let mut i = 0;
@@ -60,7 +59,7 @@ fn farthest_outside(list: &[u8], low: u8, high: u8) -> u8
 
 // The lowest index whose entry is below `low` or above `high`, or the list's length. Mostly there is none: as above.
 pub fn first_outside(list: &[u8], low: u8, high: u8) -> usize
-    ensures { result ≡ firstOutside (was list) low high }
+    ensures { result ≡ firstOutside list.now low high }
 {
     if farthest_outside(list, low, high) == 0 {
         return list.len();
@@ -70,7 +69,7 @@ pub fn first_outside(list: &[u8], low: u8, high: u8) -> usize
 
 // The same, entry by entry.
 fn look_outside(list: &[u8], low: u8, high: u8) -> usize
-    ensures { result ≡ firstOutside (was list) low high }
+    ensures { result ≡ firstOutside list.now low high }
 {
     let mut i = 0;
     while i < list.len() {
@@ -87,7 +86,7 @@ fn look_outside(list: &[u8], low: u8, high: u8) -> usize
 
 // The lowest index from `start` on whose entry is the index itself, or the list's length.
 pub fn first_own(list: &[u8], start: usize) -> usize
-    ensures { result ≡ firstOwn (was list) start }
+    ensures { result ≡ firstOwn list.now start }
 {
     let mut i = start;
     while i < list.len() {
@@ -102,7 +101,7 @@ pub fn first_own(list: &[u8], start: usize) -> usize
 // How far an entry is below the other list's, the most of all.
 fn farthest_below(list: &[u8], other: &[u8]) -> u8
     requires { length other.now ≡ length list.now }
-    ensures { result ≡ most (length (was list)) (λ v. get_or (was other) v 0 - get_or (was list) v 0) }
+    ensures { result ≡ most (length list.now) (λ v. get_or other.now v 0 - get_or list.now v 0) }
 {
     let mut most = 0;
     let mut i = 0;
@@ -117,7 +116,7 @@ fn farthest_below(list: &[u8], other: &[u8]) -> u8
 // The lowest index whose entry is below the other list's, or the list's length. Mostly there is none: as above.
 pub fn first_below(list: &[u8], other: &[u8]) -> usize
     requires { length other.now ≡ length list.now }
-    ensures { result ≡ firstBelow (was list) (was other) }
+    ensures { result ≡ firstBelow list.now other.now }
 {
     if farthest_below(list, other) == 0 {
         return list.len();
@@ -128,7 +127,7 @@ pub fn first_below(list: &[u8], other: &[u8]) -> usize
 // The same, entry by entry.
 fn look_below(list: &[u8], other: &[u8]) -> usize
     requires { length other.now ≡ length list.now }
-    ensures { result ≡ firstBelow (was list) (was other) }
+    ensures { result ≡ firstBelow list.now other.now }
 {
     let mut i = 0;
     while i < list.len() {

@@ -1,12 +1,11 @@
 // The sum of a list.
 ghost use Rattle.std.specs.Prelude.{◌≡◌, ◌≤◌, length, get_or};
 ghost use Rattle.model.specs.Yard.{sum, max_size};
-ghost use Rattle.model.specs.Given.{was};
 
 // The sum of the entries of a list of at most 256.
 pub fn total(list: &[u8]) -> usize
     requires { length list.now ≤ max_size }
-    ensures { result ≡ sum (length (was list)) (λ v. get_or (was list) v 0) }
+    ensures { result ≡ sum (length list.now) (λ v. get_or list.now v 0) }
 {
     let mut count = 0;
     let mut i = 0;

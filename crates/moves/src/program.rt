@@ -1,6 +1,6 @@
 // From the bytes of a yard sheet to the bytes that are printed.
 ghost use Rattle.std.specs.Prelude.{◌≡◌, ◌+◌, ◌≤◌, length};
-ghost use Rattle.model.specs.Given.{given, handed, was, became};
+ghost use Rattle.model.specs.Given.{given, handed};
 ghost use Rattle.model.specs.Calls.Answers.{overwrite, answered};
 ghost use Rattle.model.specs.Sheets as Sheets;
 ghost use Rattle.model.specs.Sheets.{program_plan_bytes, printed_of};
@@ -40,9 +40,9 @@ fn put_plan_report(
     out: &mut [u8],
     at: usize,
 ) -> usize
-    requires { Planned (handed parents pebbles targets depths) plan.now × (at + report_room (length parents.now) ≤ length out.old) }
-    ensures written { Written (plan_report (given parents pebbles targets depths)) at (was out) result (became out) }
-    ensures upper_bound { result ≤ at + report_room (length (was parents)) }
+    requires { Planned (handed parents.now pebbles.now targets.now depths.now) plan.now × (at + report_room (length parents.now) ≤ length out.old) }
+    ensures written { Written (plan_report (given parents.now pebbles.now targets.now depths.now)) at out.old result out.new }
+    ensures upper_bound { result ≤ at + report_room (length parents.now) }
 {
     let n = parents.len();
     let mut demands = [0i16; 256];
@@ -63,9 +63,9 @@ fn put_planned(
     plan: &[u8],
     out: &mut [u8],
 ) -> usize
-    requires { Planned (handed parents pebbles targets depths) plan.now × (output_room (length plan.now) ≤ length out.old) }
-    ensures value { result ≡ length (planSheet (given parents pebbles targets depths)) }
-    ensures out_value { became out ≡ overwrite (planSheet (given parents pebbles targets depths)) (was out) }
+    requires { Planned (handed parents.now pebbles.now targets.now depths.now) plan.now × (output_room (length plan.now) ≤ length out.old) }
+    ensures value { result ≡ length (planSheet (given parents.now pebbles.now targets.now depths.now)) }
+    ensures out_value { out.new ≡ overwrite (planSheet (given parents.now pebbles.now targets.now depths.now)) out.old }
 {
     let behind = put_moves(plan, out);
     put_plan_report(parents, pebbles, targets, depths, plan, out, behind)
@@ -74,8 +74,8 @@ fn put_planned(
 // The move sheet of four lists, or what refuses them.
 fn put_plan(parents: &[u8], pebbles: &[u8], targets: &[u8], depths: &[u8], out: &mut [u8]) -> usize
     requires { output_room program_plan_bytes ≤ length out.old }
-    ensures value { result ≡ length (printed_of (answered (given parents pebbles targets depths))) }
-    ensures out_value { became out ≡ overwrite (printed_of (answered (given parents pebbles targets depths))) (was out) }
+    ensures value { result ≡ length (printed_of (answered (given parents.now pebbles.now targets.now depths.now))) }
+    ensures out_value { out.new ≡ overwrite (printed_of (answered (given parents.now pebbles.now targets.now depths.now))) out.old }
 {
     let mut list = [0u8; PLAN_BYTES];
     match plan(parents, pebbles, targets, depths, &mut list) {
@@ -93,8 +93,8 @@ fn put_plan(parents: &[u8], pebbles: &[u8], targets: &[u8], depths: &[u8], out: 
 
 // What is printed for an input, at the front of a list; answers how many bytes.
 pub fn program(input: &[u8], out: &mut [u8; OUTPUT_BYTES]) -> usize
-    ensures value { result ≡ length (Sheets.program (was input)) }
-    ensures out_value { became out ≡ overwrite (Sheets.program (was input)) (was out) }
+    ensures value { result ≡ length (Sheets.program input.now) }
+    ensures out_value { out.new ≡ overwrite (Sheets.program input.now) out.old }
 {
     let mut parents = [0u8; 256];
     let mut pebbles = [0u8; 256];

@@ -1,7 +1,6 @@
 // The columns of the crossing report, from the demands at the start: no move needs to be counted.
 ghost use Rattle.std.specs.Prelude.{◌≡◌, ℕ, ◌≤◌, length, get_or, pos, nat_abs};
 ghost use Rattle.model.specs.Yard.{max_demand};
-ghost use Rattle.model.specs.Given.{was, became};
 ghost use Rattle.laws.proofs.Signed.{above0, below0};
 ghost use Rattle.moves.specs.Report.{Demands, Split};
 
@@ -32,7 +31,7 @@ fn above_zero(demand: i16) -> u32
 // Writes both columns, one entry for each demand.
 pub fn split(demands: &[i16], ups: &mut [u32], downs: &mut [u32])
     requires { Demands demands.now × (length ups.old ≡ length demands.now) × (length downs.old ≡ length demands.now) }
-    ensures { Split (was demands) (became ups) (became downs) (length (was demands)) }
+    ensures { Split demands.now ups.new downs.new (length demands.now) }
 {
     let mut v = 0;
     while v < demands.len() {

@@ -2,7 +2,7 @@
 ghost use Rattle.std.specs.Prelude.{◌≡◌, ◌*◌, ◌≤◌, length, take};
 ghost use Rattle.model.specs.Yard.{Matched};
 ghost use Rattle.model.specs.Judge.{Tree};
-ghost use Rattle.model.specs.Given.{given, handed, was, became};
+ghost use Rattle.model.specs.Given.{given, handed};
 ghost use Rattle.model.specs.Calls.Answers.{answer, lent, overwrite};
 ghost use Rattle.model.specs.Calls.Openings.{openings_answer, openings_list};
 ghost use Rattle.model.specs.Paper.{paper_counted};
@@ -23,9 +23,9 @@ fn list_apart(
     demands: &[i16],
     moves: &mut [u8],
 ) -> usize
-    requires tree { Tree (handed parents pebbles targets depths) × Matched (handed parents pebbles targets depths) × Demands (handed parents pebbles targets depths) demands.now }
+    requires tree { Tree (handed parents.now pebbles.now targets.now depths.now) × Matched (handed parents.now pebbles.now targets.now depths.now) × Demands (handed parents.now pebbles.now targets.now depths.now) demands.now }
     requires moves_len { length moves.old ≡ 512 }
-    ensures { ListedAll (given parents pebbles targets depths) (became moves) result }
+    ensures { ListedAll (given parents.now pebbles.now targets.now depths.now) moves.new result }
 {
     let t = mark_edges(parents, pebbles, targets, depths, demands);
     list_openings(&t, parents, moves)
@@ -34,8 +34,8 @@ fn list_apart(
 // Copies so many moves to the front of a list, or refuses one that is too short: 8 with their number.
 fn hand_over(moves: &[u8], count: usize, list: &mut [u8]) -> Counted
     requires { (2 * count ≤ length moves.now) × (length moves.now ≤ 512) }
-    ensures result_value { paper_counted result ≡ answer (room_fault count (length (was list))) count }
-    ensures list_value { became list ≡ lent (room_fault count (length (was list))) (overwrite (take (2 * count) (was moves)) (was list)) (was list) }
+    ensures result_value { paper_counted result ≡ answer (room_fault count (length list.old)) count }
+    ensures list_value { list.new ≡ lent (room_fault count (length list.old)) (overwrite (take (2 * count) moves.now) list.old) list.old }
 {
     if list.len() / 2 < count {
         return Counted::Refused(Refusal::ListTooShort(count));
@@ -53,8 +53,8 @@ pub fn openings(
     depths: &[u8],
     list: &mut [u8],
 ) -> Counted
-    ensures result_value { paper_counted result ≡ openings_answer (given parents pebbles targets depths) (was list) }
-    ensures list_value { became list ≡ openings_list (given parents pebbles targets depths) (was list) }
+    ensures result_value { paper_counted result ≡ openings_answer (given parents.now pebbles.now targets.now depths.now) list.old }
+    ensures list_value { list.new ≡ openings_list (given parents.now pebbles.now targets.now depths.now) list.old }
 {
     let mut demands = [0i16; 256];
     let tested = matched_demands(parents, pebbles, targets, depths, &mut demands);

@@ -55,8 +55,8 @@ pub fn mark_edges(
     depths: &[u8],
     demands: &[i16],
 ) -> [u8; 768]
-    requires { Tree (handed parents pebbles targets depths) × Matched (handed parents pebbles targets depths) × Demands (handed parents pebbles targets depths) demands.now }
-    ensures { Marked 0 (given parents pebbles targets depths) result }
+    requires { Tree (handed parents.now pebbles.now targets.now depths.now) × Matched (handed parents.now pebbles.now targets.now depths.now) × Demands (handed parents.now pebbles.now targets.now depths.now) demands.now }
+    ensures { Marked 0 (given parents.now pebbles.now targets.now depths.now) result }
 {
     let mut t = unmarked(parents.len());
     let mut v = parents.len();

@@ -1,7 +1,6 @@
 // The openings in their order: node by node in rising number, and of each its children in rising number, with its parent among them at its place.
 ghost use Rattle.std.specs.Prelude.{ℕ, length};
 ghost use Rattle.model.specs.Yard.{Yard};
-ghost use Rattle.model.specs.Given.{was, became};
 ghost use Rattle.openings.specs.Listing.{AskedChildren, ListedChildren, AskedFrom, ListedFrom, AskedAll, ListedAll};
 
 use serve::choose::{LOWEST, NEXT, wide};
@@ -24,7 +23,7 @@ fn list_children(
     count: usize,
 ) -> Walk
     requires { (y : Yard) × (i : ℕ) × AskedChildren y t.now list.old a i from end count }
-    ensures { (y : Yard) (i : ℕ) → AskedChildren y (was t) (was list) a i from end count → ListedChildren y (became list) a result.child end result.count }
+    ensures { (y : Yard) (i : ℕ) → AskedChildren y t.now list.old a i from end count → ListedChildren y list.new a result.child end result.count }
 {
     let mut c = from;
     let mut k = count;
@@ -49,7 +48,7 @@ fn list_from(
     count: usize,
 ) -> usize
     requires { (y : Yard) × AskedFrom y t.now parents.now list.old a n count }
-    ensures { (y : Yard) → AskedFrom y (was t) (was parents) (was list) a n count → ListedFrom y (became list) a result }
+    ensures { (y : Yard) → AskedFrom y t.now parents.now list.old a n count → ListedFrom y list.new a result }
 {
     let first = wide(t[LOWEST + a]);
     if t[a] != 2 {
@@ -67,7 +66,7 @@ fn list_from(
 // Lists them all, and answers how many they are.
 pub fn list_openings(t: &[u8; 768], parents: &[u8], list: &mut [u8]) -> usize
     requires { (y : Yard) × AskedAll y t.now parents.now list.old (length parents.now) }
-    ensures { (y : Yard) → AskedAll y (was t) (was parents) (was list) (length (was parents)) → ListedAll y (became list) result }
+    ensures { (y : Yard) → AskedAll y t.now parents.now list.old (length parents.now) → ListedAll y list.new result }
 {
     let n = parents.len();
     let mut k = 0;

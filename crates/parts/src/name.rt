@@ -3,7 +3,6 @@
 ghost use Rattle.std.specs.Prelude.{◌≡◌, map, ◌≤◌, ◌<◌, length};
 ghost use Rattle.model.specs.Yard.{Yard, size};
 ghost use Rattle.model.specs.Parts.{topmost};
-ghost use Rattle.model.specs.Given.{was, became};
 ghost use Rattle.model.specs.Calls.Answers.{range};
 ghost use Rattle.parts.specs.Naming.{onward, Cut, AskedName, AskedShort, Named, AskedNames};
 
@@ -30,7 +29,7 @@ fn above(v: usize, p: u8, demand: i16) -> u8
 // Writes that for each node.
 fn cut_edges(parents: &[u8], demands: &[i16], parts: &mut [u8])
     requires { (length parents.now ≤ 256) × (length parents.now ≤ length demands.now) × (length parts.old ≡ length parents.now) }
-    ensures { Cut (was parents) (was demands) (became parts) (length (was parents)) }
+    ensures { Cut parents.now demands.now parts.new (length parents.now) }
 {
     let mut v = 0;
     while v < parents.len() {
@@ -42,7 +41,7 @@ fn cut_edges(parents: &[u8], demands: &[i16], parts: &mut [u8])
 // The topmost node of v's part: where the list leads to from v.
 fn find_top(parts: &[u8], v: usize) -> Climb
     requires { (y : Yard) × AskedName y parts.now v }
-    ensures { (y : Yard) → AskedName y (was parts) v → AskedShort y (was parts) v result.top result.steps }
+    ensures { (y : Yard) → AskedName y parts.now v → AskedShort y parts.now v result.top result.steps }
 {
     let mut u = v;
     let mut k = 0;
@@ -59,7 +58,7 @@ fn find_top(parts: &[u8], v: usize) -> Climb
 // Lets v, and the nodes on so many steps from it, lead to the topmost node at once.
 fn shorten(parts: &mut [u8], v: usize, top: usize, steps: usize)
     requires { (y : Yard) × AskedShort y parts.old v top steps }
-    ensures { (y : Yard) → AskedShort y (was parts) v top steps → Named y (was parts) (became parts) v }
+    ensures { (y : Yard) → AskedShort y parts.old v top steps → Named y parts.old parts.new v }
 {
     let mut u = v;
     let mut k = 0;
@@ -74,7 +73,7 @@ fn shorten(parts: &mut [u8], v: usize, top: usize, steps: usize)
 // Names v: at once where the node that it leads to leads to a topmost one, else by a climb.
 fn name_node(parts: &mut [u8], v: usize)
     requires { (y : Yard) × AskedName y parts.old v }
-    ensures { (y : Yard) → AskedName y (was parts) v → Named y (was parts) (became parts) v }
+    ensures { (y : Yard) → AskedName y parts.old v → Named y parts.old parts.new v }
 {
     let above = wide(parts[v]);
     let top = wide(parts[above]);
@@ -91,7 +90,7 @@ fn name_node(parts: &mut [u8], v: usize)
 // Names the parts of a tree with as many pebbles as targets, by its parents and demands.
 pub fn name_parts(parents: &[u8], demands: &[i16], parts: &mut [u8])
     requires { (y : Yard) × AskedNames y parents.now demands.now parts.old }
-    ensures { (y : Yard) → AskedNames y (was parents) (was demands) (was parts) → became parts ≡ map (topmost y) (range 0 (size y)) }
+    ensures { (y : Yard) → AskedNames y parents.now demands.now parts.old → parts.new ≡ map (topmost y) (range 0 (size y)) }
 {
     cut_edges(parents, demands, parts);
     let mut v = 0;

@@ -1,7 +1,7 @@
 // Planning part by part, and the call.
 ghost use Rattle.std.specs.Prelude.{◌≡◌};
 ghost use Rattle.model.specs.Yard.{Yard};
-ghost use Rattle.model.specs.Given.{given, was, became};
+ghost use Rattle.model.specs.Given.{given};
 ghost use Rattle.model.specs.Calls.Parts.{parts_answer, parts_plan_list, parts_list};
 ghost use Rattle.model.specs.Paper.{paper_counted};
 ghost use Rattle.parts.specs.Planning.{AskedParts, PlannedParts};
@@ -17,7 +17,7 @@ use serve::tree::tables;
 // Plans the parts in rising number of their topmost nodes, each into the rest of the list behind the moves of the part before; answers the number of moves.
 fn plan_each(t: &[u8; 768], s: &mut [i16; 1280], plan: &mut [u8], parts: &[u8]) -> usize
     requires { (y : Yard) × AskedParts y t.now s.old plan.old parts.now }
-    ensures { (y : Yard) → AskedParts y (was t) (was s) (was plan) (was parts) → PlannedParts y (was plan) (became plan) result }
+    ensures { (y : Yard) → AskedParts y t.now s.old plan.old parts.now → PlannedParts y plan.old plan.new result }
 {
     let mut moves = [0u8; 512];
     let mut k = 0;
@@ -44,9 +44,9 @@ pub fn plan_parts(
     plan: &mut [u8],
     parts: &mut [u8],
 ) -> Counted
-    ensures result_value { paper_counted result ≡ parts_answer (given parents pebbles targets depths) (was plan) (was parts) }
-    ensures plan_value { became plan ≡ parts_plan_list (given parents pebbles targets depths) (was plan) (was parts) }
-    ensures parts_value { became parts ≡ parts_list (given parents pebbles targets depths) (was plan) (was parts) }
+    ensures result_value { paper_counted result ≡ parts_answer (given parents.now pebbles.now targets.now depths.now) plan.old parts.old }
+    ensures plan_value { plan.new ≡ parts_plan_list (given parents.now pebbles.now targets.now depths.now) plan.old parts.old }
+    ensures parts_value { parts.new ≡ parts_list (given parents.now pebbles.now targets.now depths.now) plan.old parts.old }
 {
     let mut s = [0i16; 1280];
     let tested = start(parents, pebbles, targets, depths, &mut s);

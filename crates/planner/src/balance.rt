@@ -2,7 +2,6 @@
 ghost use Rattle.std.specs.Prelude.{◌≡◌, true, false, not, ◌&&◌, ◌+◌, ◌≤◌, ◌<◌, eqb, length, get_or};
 ghost use Rattle.model.specs.Yard.{Yard, size};
 ghost use Rattle.model.specs.Plan.{fills};
-ghost use Rattle.model.specs.Given.{was, became};
 ghost use Rattle.laws.proofs.Demands.{weight};
 ghost use Rattle.planner.specs.Balancing.{entered, AskedEven, AskedTurn, TurnTaken, Settled, Balanced};
 
@@ -18,7 +17,7 @@ fn inject_turn(
     u: usize,
 ) -> usize
     requires { (y : Yard) × AskedTurn true y t.now s.old plan.old u }
-    ensures { (y : Yard) → AskedTurn true y (was t) (was s) (was plan) u → TurnTaken true y u (was s) (became s) (was plan) (became plan) result }
+    ensures { (y : Yard) → AskedTurn true y t.now s.old plan.old u → TurnTaken true y u s.old s.new plan.old plan.new result }
 {
     let c = pick(t, s, u, true);
     if c == u {
@@ -36,7 +35,7 @@ fn extract_turn(
     u: usize,
 ) -> usize
     requires { (y : Yard) × AskedTurn false y t.now s.old plan.old u }
-    ensures { (y : Yard) → AskedTurn false y (was t) (was s) (was plan) u → TurnTaken false y u (was s) (became s) (was plan) (became plan) result }
+    ensures { (y : Yard) → AskedTurn false y t.now s.old plan.old u → TurnTaken false y u s.old s.new plan.old plan.new result }
 {
     let c = pick(t, s, u, false);
     if c == u {
@@ -54,7 +53,7 @@ fn turn(
     u: usize,
 ) -> usize
     requires { (y : Yard) × AskedEven y t.now s.old plan.old u }
-    ensures { (y : Yard) → AskedEven y (was t) (was s) (was plan) u → TurnTaken (fills y u) y u (was s) (became s) (was plan) (became plan) result }
+    ensures { (y : Yard) → AskedEven y t.now s.old plan.old u → TurnTaken (fills y u) y u s.old s.new plan.old plan.new result }
 {
     if s[PEBBLES + u] == 0 {
         return extract_turn(t, s, plan, moves, u);
@@ -75,7 +74,7 @@ fn settle(
     u: usize,
 ) -> usize
     requires { (y : Yard) × AskedEven y t.now s.old plan.old u }
-    ensures { (y : Yard) → AskedEven y (was t) (was s) (was plan) u → Settled y u (became s) (was plan) (became plan) result }
+    ensures { (y : Yard) → AskedEven y t.now s.old plan.old u → Settled y u s.new plan.old plan.new result }
 {
     let mut k = 0;
     loop {
@@ -90,7 +89,7 @@ fn settle(
 // Whether the child v is balanced after its parent: not if it has no child itself, as it then needs no move, and not if the list names it by itself.
 fn enters(t: &[u8; 768], parts: &[u8], v: usize) -> bool
     requires { (v < 256) × (v < length parts.now) }
-    ensures { result ≡ (entered (was parts) v) && (not (eqb (get_or (was t) (256 + v) 0) v)) }
+    ensures { result ≡ (entered parts.now v) && (not (eqb (get_or t.now (256 + v) 0) v)) }
 {
     if wide(parts[v]) == v {
         return false;
@@ -111,7 +110,7 @@ pub fn balance_subtrees(
     height: usize,
 ) -> usize
     requires { (y : Yard) × AskedEven y t.now s.old plan.old u × (weight y.parents u ≤ height) × (size y ≤ length parts.now) }
-    ensures { (y : Yard) → AskedEven y (was t) (was s) (was plan) u → Balanced (entered (was parts)) y u (became s) (was plan) (became plan) result }
+    ensures { (y : Yard) → AskedEven y t.now s.old plan.old u → Balanced (entered parts.now) y u s.new plan.old plan.new result }
 {
     let mut k = settle(t, s, plan, moves, u);
     let mut c = wide(t[LOWEST + u]);

@@ -1,6 +1,6 @@
 // The planner's call.
 ghost use Rattle.std.specs.Prelude.{◌≡◌};
-ghost use Rattle.model.specs.Given.{given, was, became};
+ghost use Rattle.model.specs.Given.{given};
 ghost use Rattle.model.specs.Calls.Plans.{plan_answer, plan_list};
 ghost use Rattle.model.specs.Paper.{paper_counted};
 ghost use Rattle.laws.specs.Demand2.{PlannerExact};
@@ -21,8 +21,8 @@ fn plan_sheet(
     depths: &[u8],
     plan: &mut [u8],
 ) -> Counted
-    ensures result_value { paper_counted result ≡ plan_answer (given parents pebbles targets depths) (was plan) }
-    ensures plan_value { became plan ≡ plan_list (given parents pebbles targets depths) (was plan) }
+    ensures result_value { paper_counted result ≡ plan_answer (given parents.now pebbles.now targets.now depths.now) plan.old }
+    ensures plan_value { plan.new ≡ plan_list (given parents.now pebbles.now targets.now depths.now) plan.old }
 {
     let mut s = [0i16; 1280];
     let tested = start(parents, pebbles, targets, depths, &mut s);
@@ -51,10 +51,10 @@ pub fn plan(
     depths: &[u8],
     list: &mut [u8],
 ) -> Counted
-    ensures result_value { paper_counted result ≡ plan_answer (given parents pebbles targets depths) (was list) }
-    ensures list_value { became list ≡ plan_list (given parents pebbles targets depths) (was list) }
-    ensures planner_exact { PlannerExact (given parents pebbles targets depths) (was list) (paper_counted result) (became list) }
-    ensures demand3 { Demand3 (given parents pebbles targets depths) (was list) (paper_counted result) (became list) }
+    ensures result_value { paper_counted result ≡ plan_answer (given parents.now pebbles.now targets.now depths.now) list.old }
+    ensures list_value { list.new ≡ plan_list (given parents.now pebbles.now targets.now depths.now) list.old }
+    ensures planner_exact { PlannerExact (given parents.now pebbles.now targets.now depths.now) list.old (paper_counted result) list.new }
+    ensures demand3 { Demand3 (given parents.now pebbles.now targets.now depths.now) list.old (paper_counted result) list.new }
 {
     plan_sheet(parents, pebbles, targets, depths, list)
 }

@@ -2,7 +2,7 @@
 ghost use Rattle.std.specs.Prelude.{◌≤◌, ◌≡◌, length, ◌≢◌};
 ghost use Rattle.std.proofs.Math.Option.{none};
 ghost use Rattle.model.specs.Judge.{matched_fault};
-ghost use Rattle.model.specs.Given.{given, was, became};
+ghost use Rattle.model.specs.Given.{given};
 ghost use Rattle.model.specs.Paper.{paper_done};
 ghost use Rattle.demand.specs.Filling.{demands_then};
 ghost use Rattle.serve.specs.Serving.{Kept};
@@ -15,7 +15,7 @@ use serve::choose::{DEPTHS, LAST_DRAWN, LAST_FILLED, PEBBLES};
 // Writes the tables behind the demands: the pebbles, twice each node itself, as none of its children was served, and the depths.
 fn place(pebbles: &[u8], depths: &[u8], s: &mut [i16])
     requires { (length pebbles.now ≤ 256) × (length depths.now ≡ length pebbles.now) × (length s.old ≡ 1280) }
-    ensures { Placed (was pebbles) (was depths) (was s) (became s) (length (was pebbles)) }
+    ensures { Placed pebbles.now depths.now s.old s.new (length pebbles.now) }
 {
     let mut v = 0;
     while v < pebbles.len() {
@@ -32,9 +32,9 @@ fn place(pebbles: &[u8], depths: &[u8], s: &mut [i16])
 // numbers that are no node are left open: nothing reads them.
 pub fn start(parents: &[u8], pebbles: &[u8], targets: &[u8], depths: &[u8], s: &mut [i16]) -> Done
     requires { length s.old ≡ 1280 }
-    ensures result_value { paper_done result ≡ matched_fault (given parents pebbles targets depths) }
-    ensures kept { matched_fault (given parents pebbles targets depths) ≡ none → Kept (given parents pebbles targets depths) (became s) }
-    ensures s_value { matched_fault (given parents pebbles targets depths) ≢ none → became s ≡ demands_then (given parents pebbles targets depths) (was s) }
+    ensures result_value { paper_done result ≡ matched_fault (given parents.now pebbles.now targets.now depths.now) }
+    ensures kept { matched_fault (given parents.now pebbles.now targets.now depths.now) ≡ none → Kept (given parents.now pebbles.now targets.now depths.now) s.new }
+    ensures s_value { matched_fault (given parents.now pebbles.now targets.now depths.now) ≢ none → s.new ≡ demands_then (given parents.now pebbles.now targets.now depths.now) s.old }
 {
     let tested = matched_demands(parents, pebbles, targets, depths, s);
     if let Done::Refused(r) = tested {

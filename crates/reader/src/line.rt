@@ -1,6 +1,5 @@
 // Values, lines and heads found in bytes.
 ghost use Rattle.std.specs.Prelude.{◌≡◌, ◌<◌, length, drop};
-ghost use Rattle.model.specs.Given.{was, became};
 ghost use Rattle.model.specs.Sheets as Sheets;
 ghost use Rattle.model.specs.Sheets.{readLine};
 ghost use Rattle.reader.specs.Reading.{Extended, word_in, line_in};
@@ -41,7 +40,7 @@ fn extended(value: usize, b: u8) -> usize
 // The value that stands at `at` and is ended by the byte `stop`.
 fn field(sheet: &[u8], at: usize, stop: u8) -> Word
     requires { stop < 48 }
-    ensures { word_in (was sheet) result ≡ Sheets.field stop (drop at (was sheet)) }
+    ensures { word_in sheet.now result ≡ Sheets.field stop (drop at sheet.now) }
 {
     if at >= sheet.len() {
         return Word::Wrong;
@@ -71,7 +70,7 @@ fn field(sheet: &[u8], at: usize, stop: u8) -> Word
 
 // The values of the line that stands at `at`, as many as the list takes, into that list; of a wrong line it says no more.
 pub fn read_line(sheet: &[u8], at: usize, values: &mut [u8]) -> Line
-    ensures { line_in (was sheet) (became values) result ≡ readLine (length (was values)) (drop at (was sheet)) }
+    ensures { line_in sheet.now values.new result ≡ readLine (length values.old) (drop at sheet.now) }
 {
     let mut next = at;
     let mut i = 0;
@@ -89,7 +88,7 @@ pub fn read_line(sheet: &[u8], at: usize, values: &mut [u8]) -> Line
 
 // Whether a list begins with `head`.
 pub fn begins(list: &[u8], head: &[u8]) -> bool
-    ensures { result ≡ Sheets.begins (was head) (was list) }
+    ensures { result ≡ Sheets.begins head.now list.now }
 {
     if list.len() < head.len() {
         return false;

@@ -1,7 +1,7 @@
 // The reader's call: what a yard sheet says, into four lists.
 ghost use Rattle.std.specs.Prelude.{◌≡◌, ◌≤◌};
 ghost use Rattle.model.specs.Yard.{size, max_size};
-ghost use Rattle.model.specs.Given.{read_from, was, became};
+ghost use Rattle.model.specs.Given.{read_from};
 ghost use Rattle.model.specs.Calls.Answers.{mapAnswer};
 ghost use Rattle.model.specs.Sheets.{read_yard, filled};
 ghost use Rattle.model.specs.Paper.{paper_counted};
@@ -24,8 +24,8 @@ fn read_nodes(
     depths: &mut [u8; 256],
 ) -> Counted
     requires { Full parents.old pebbles.old targets.old depths.old }
-    ensures depths_value { took result (became parents) (became pebbles) (became targets) (became depths) ≡ lines_say (was sheet) }
-    ensures result_bound { (counted result ≤ max_size) × Full (became parents) (became pebbles) (became targets) (became depths) }
+    ensures depths_value { took result parents.new pebbles.new targets.new depths.new ≡ lines_say sheet.now }
+    ensures result_bound { (counted result ≤ max_size) × Full parents.new pebbles.new targets.new depths.new }
 {
     let mut at = HEADER_BYTES;
     let mut v = 0;
@@ -61,8 +61,8 @@ fn read_lines(
     depths: &mut [u8; 256],
 ) -> Counted
     requires { Full parents.old pebbles.old targets.old depths.old }
-    ensures depths_value { took result (became parents) (became pebbles) (became targets) (became depths) ≡ read_yard (was sheet) }
-    ensures result_bound { (counted result ≤ max_size) × Full (became parents) (became pebbles) (became targets) (became depths) }
+    ensures depths_value { took result parents.new pebbles.new targets.new depths.new ≡ read_yard sheet.now }
+    ensures result_bound { (counted result ≤ max_size) × Full parents.new pebbles.new targets.new depths.new }
 {
     if !begins(sheet, &HEADER) {
         return Counted::Refused(Refusal::Header(1));
@@ -82,11 +82,11 @@ pub fn read_sheet(
     targets: &mut [u8],
     depths: &mut [u8],
 ) -> Counted
-    ensures result_value { paper_counted result ≡ mapAnswer size (read_from sheet parents pebbles targets depths) }
-    ensures parents_value { became parents ≡ filled (λ y. y.parents) (read_from sheet parents pebbles targets depths) (was parents) }
-    ensures pebbles_value { became pebbles ≡ filled (λ y. y.pebbles) (read_from sheet parents pebbles targets depths) (was pebbles) }
-    ensures targets_value { became targets ≡ filled (λ y. y.targets) (read_from sheet parents pebbles targets depths) (was targets) }
-    ensures depths_value { became depths ≡ filled (λ y. y.depths) (read_from sheet parents pebbles targets depths) (was depths) }
+    ensures result_value { paper_counted result ≡ mapAnswer size (read_from sheet.now parents.old pebbles.old targets.old depths.old) }
+    ensures parents_value { parents.new ≡ filled (λ y. y.parents) (read_from sheet.now parents.old pebbles.old targets.old depths.old) parents.old }
+    ensures pebbles_value { pebbles.new ≡ filled (λ y. y.pebbles) (read_from sheet.now parents.old pebbles.old targets.old depths.old) pebbles.old }
+    ensures targets_value { targets.new ≡ filled (λ y. y.targets) (read_from sheet.now parents.old pebbles.old targets.old depths.old) targets.old }
+    ensures depths_value { depths.new ≡ filled (λ y. y.depths) (read_from sheet.now parents.old pebbles.old targets.old depths.old) depths.old }
 {
     if parents.len() < 256 {
         return Counted::Refused(Refusal::ReaderList);

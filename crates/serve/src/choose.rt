@@ -1,7 +1,6 @@
 // The choice of a child: the one whose demand, of the sign wanted, is farthest from 0, the lowest-numbered among equals.
 ghost use Rattle.std.specs.Prelude.{◌≡◌, ℕ, ◌≤◌, ◌<◌, get_or, pos, nat_abs};
 ghost use Rattle.model.specs.Yard.{Yard, max_demand};
-ghost use Rattle.model.specs.Given.{was, became};
 ghost use Rattle.model.specs.Plan.{choice};
 ghost use Rattle.laws.specs.Algorithms.{need};
 ghost use Rattle.laws.proofs.Signed.{nextℤ};
@@ -48,7 +47,7 @@ fn next_beyond(
     away: bool,
 ) -> usize
     requires { (y : Yard) × Sees y t.now s.now u × ((low : ℕ) × Lowest y.parents u low from) }
-    ensures { (y : Yard) → Sees y (was t) (was s) u → (low : ℕ) → Lowest y.parents u low from → NextBeyond away y u low most result }
+    ensures { (y : Yard) → Sees y t.now s.now u → (low : ℕ) → Lowest y.parents u low from → NextBeyond away y u low most result }
 {
     let mut c = from;
     while c != u {
@@ -63,7 +62,7 @@ fn next_beyond(
 // The child that is served before any other was: from each that is farther from 0 than those before it on to the next, through all children of u.
 fn choose_of_all(t: &[u8; 768], s: &[i16; 1280], u: usize, away: bool) -> usize
     requires { (y : Yard) × Sees y t.now s.now u }
-    ensures { (y : Yard) → Sees y (was t) (was s) u → result ≡ choice (need y away) y u }
+    ensures { (y : Yard) → Sees y t.now s.now u → result ≡ choice (need y away) y u }
 {
     let mut best = u;
     let mut from = wide(t[LOWEST + u]);
@@ -82,7 +81,7 @@ fn choose_of_all(t: &[u8; 768], s: &[i16; 1280], u: usize, away: bool) -> usize
 // The child of u that was served last for a sign, or u itself before one was.
 fn last_served(s: &[i16; 1280], u: usize, away: bool) -> usize
     requires { (u < 256) × ((c : ℕ) × (c < 256) × (get_or s.now (last_at away u) (pos 0) ≡ pos c)) }
-    ensures { get_or (was s) (last_at away u) (pos 0) ≡ pos result }
+    ensures { get_or s.now (last_at away u) (pos 0) ≡ pos result }
 {
     if away {
         return s[LAST_FILLED + u] as usize;
@@ -105,7 +104,7 @@ pub fn nearer(demand: i16, away: bool) -> i16
 // what its demand then is; else it is the first that is as far from 0, at most `last` itself.
 fn choose_after(t: &[u8; 768], s: &[i16; 1280], u: usize, last: usize, away: bool) -> usize
     requires { (y : Yard) × AskedAfter away y t.now s.now u last }
-    ensures { (y : Yard) → AskedAfter away y (was t) (was s) u last → result ≡ choice (need y away) y u }
+    ensures { (y : Yard) → AskedAfter away y t.now s.now u last → result ≡ choice (need y away) y u }
 {
     let c = next_beyond(t, s, u, wide(t[NEXT + last]), s[last], away);
     if c != u {
@@ -120,7 +119,7 @@ fn choose_after(t: &[u8; 768], s: &[i16; 1280], u: usize, last: usize, away: boo
 // The child of u that is served wherever one is chosen, or u itself if no child has a demand of the sign wanted.
 fn choose(t: &[u8; 768], s: &[i16; 1280], u: usize, away: bool) -> usize
     requires { (y : Yard) × Sees y t.now s.now u }
-    ensures { (y : Yard) → Sees y (was t) (was s) u → result ≡ choice (need y away) y u }
+    ensures { (y : Yard) → Sees y t.now s.now u → result ≡ choice (need y away) y u }
 {
     let last = last_served(s, u, away);
     if last == u {
@@ -132,7 +131,7 @@ fn choose(t: &[u8; 768], s: &[i16; 1280], u: usize, away: bool) -> usize
 // Writes that the child c of u is served: its demand is one nearer to 0, and it is the one that was served last.
 fn note_served(s: &mut [i16; 1280], u: usize, c: usize, away: bool)
     requires { (u < 256) × (c < 256) × Small s.old c }
-    ensures { became s ≡ picked_state away u c (was s) }
+    ensures { s.new ≡ picked_state away u c s.old }
 {
     s[c] = nearer(s[c], away);
     if away {
@@ -145,8 +144,8 @@ fn note_served(s: &mut [i16; 1280], u: usize, c: usize, away: bool)
 // Picks that child: the state is then as if a pebble had gone over its edge, but for the pebbles.
 pub fn pick(t: &[u8; 768], s: &mut [i16; 1280], u: usize, away: bool) -> usize
     requires { (y : Yard) × Sees y t.now s.old u }
-    ensures value { (y : Yard) → Sees y (was t) (was s) u → result ≡ choice (need y away) y u }
-    ensures picks { Picks away u result (was s) (became s) }
+    ensures value { (y : Yard) → Sees y t.now s.old u → result ≡ choice (need y away) y u }
+    ensures picks { Picks away u result s.old s.new }
 {
     let c = choose(t, s, u, away);
     if c == u {

@@ -1,7 +1,6 @@
 // Algorithms 2, 3 and 4: filling and clearing, which call each other down the tree, drawing, and their moves.
 ghost use Rattle.std.specs.Prelude.{◌≡◌, ◌≢◌, true, false, not, ℕ, ◌+◌, ◌*◌, ◌<◌, ◌≤◌, List, length, drop, ℤ, ltb};
 ghost use Rattle.model.specs.Yard.{Yard, up};
-ghost use Rattle.model.specs.Given.{was, became};
 ghost use Rattle.model.specs.Calls.Answers.{overwrite};
 ghost use Rattle.serve.specs.Serving.{Small, Room, stepped, recorded, AskedFill, Filled, Cleared, AskedServe, Served};
 
@@ -16,7 +15,7 @@ const LIST_BYTES: usize = 2 * PLACES;
 // Whether a node has a place for one more pebble.
 fn has_place(s: &[i16; 1280], v: usize) -> bool
     requires { (v < 256) × ((p : ℕ) × (d : ℕ) × Room s.now v p d) }
-    ensures { (p d : ℕ) → Room (was s) v p d → result ≡ ltb p d }
+    ensures { (p d : ℕ) → Room s.now v p d → result ≡ ltb p d }
 {
     s[PEBBLES + v] < s[DEPTHS + v]
 }
@@ -24,7 +23,7 @@ fn has_place(s: &[i16; 1280], v: usize) -> bool
 // One pebble less at a node (true), or one more.
 fn count_pebble(s: &mut [i16; 1280], v: usize, less: bool)
     requires { (v < 256) × Small s.old (256 + v) }
-    ensures { became s ≡ stepped less (256 + v) (was s) }
+    ensures { s.new ≡ stepped less (256 + v) s.old }
 {
     s[PEBBLES + v] = nearer(s[PEBBLES + v], less);
 }
@@ -32,7 +31,7 @@ fn count_pebble(s: &mut [i16; 1280], v: usize, less: bool)
 // Algorithm 4: writes the move of a pebble over the edge of v, whose parent is p, away from the root or towards it, at place k of the list.
 pub fn record_move(plan: &mut [u8], k: usize, p: usize, v: usize, away: bool)
     requires { (p < 256) × (v < 256) × (2 * k + 2 ≤ length plan.old) }
-    ensures { became plan ≡ recorded away p v k (was plan) }
+    ensures { plan.new ≡ recorded away p v k plan.old }
 {
     if away {
         plan[2 * k] = p as u8;
@@ -55,7 +54,7 @@ pub fn inject_pebble(
     v: usize,
 ) -> usize
     requires { (y : Yard) × AskedFill true y t.now s.old end v × (u ≡ up y.parents v) }
-    ensures { (y : Yard) → AskedFill true y (was t) (was s) end v → u ≡ up y.parents v → Filled true y end v (was s) (became s) (was moves) (became moves) result }
+    ensures { (y : Yard) → AskedFill true y t.now s.old end v → u ≡ up y.parents v → Filled true y end v s.old s.new moves.old moves.new result }
 {
     record_move(moves, end - 1, u, v, true);
     clear_node(t, s, moves, end - 1, v)
@@ -71,7 +70,7 @@ fn clear_node(
     v: usize,
 ) -> usize
     requires { (y : Yard) × AskedFill true y t.now s.old (end + 1) v }
-    ensures { (y : Yard) → AskedFill true y (was t) (was s) (end + 1) v → Cleared true y end v (was s) (became s) (was moves) (became moves) result }
+    ensures { (y : Yard) → AskedFill true y t.now s.old (end + 1) v → Cleared true y end v s.old s.new moves.old moves.new result }
 {
     if has_place(s, v) {
         count_pebble(s, v, false);
@@ -91,7 +90,7 @@ pub fn extract_pebble(
     v: usize,
 ) -> usize
     requires { (y : Yard) × AskedFill false y t.now s.old end v × (u ≡ up y.parents v) }
-    ensures { (y : Yard) → AskedFill false y (was t) (was s) end v → u ≡ up y.parents v → Filled false y end v (was s) (became s) (was moves) (became moves) result }
+    ensures { (y : Yard) → AskedFill false y t.now s.old end v → u ≡ up y.parents v → Filled false y end v s.old s.new moves.old moves.new result }
 {
     record_move(moves, end - 1, u, v, false);
     if s[PEBBLES + v] != 0 {
@@ -105,8 +104,8 @@ pub fn extract_pebble(
 // A single move over the edge of v, whose parent is u, to the front of the plan.
 fn move_pebble(s: &mut [i16; 1280], plan: &mut [u8], u: usize, v: usize, away: bool)
     requires { (u < 256) × (v < 256) × (u ≢ v) × Small s.old (256 + u) × Small s.old (256 + v) × (2 ≤ length plan.old) }
-    ensures s_value { became s ≡ stepped (not away) (256 + v) (stepped away (256 + u) (was s)) }
-    ensures plan_value { became plan ≡ recorded away u v 0 (was plan) }
+    ensures s_value { s.new ≡ stepped (not away) (256 + v) (stepped away (256 + u) s.old) }
+    ensures plan_value { plan.new ≡ recorded away u v 0 plan.old }
 {
     count_pebble(s, u, away);
     count_pebble(s, v, !away);
@@ -117,7 +116,7 @@ fn move_pebble(s: &mut [i16; 1280], plan: &mut [u8], u: usize, v: usize, away: b
 fn hand_over(moves: &[u8], k: usize, plan: &mut [u8]) -> usize
     requires { (length moves.now ≡ 512) × (k ≤ 256) × (512 ≤ length plan.old + 2 * k) }
     ensures k_value { result + k ≡ 256 }
-    ensures plan_value { became plan ≡ overwrite (drop (2 * k) (was moves)) (was plan) }
+    ensures plan_value { plan.new ≡ overwrite (drop (2 * k) moves.now) plan.old }
 {
     copy(&moves[2 * k..], &mut plan[..LIST_BYTES - 2 * k]);
     PLACES - k
@@ -134,7 +133,7 @@ pub fn fill_child(
     c: usize,
 ) -> usize
     requires { (y : Yard) × (s₀ : List ℤ) × AskedServe true y t.now s₀ s.old plan.old u c }
-    ensures { (y : Yard) (s₀ : List ℤ) → AskedServe true y (was t) s₀ (was s) (was plan) u c → Served true y c (became s) (was plan) (became plan) result }
+    ensures { (y : Yard) (s₀ : List ℤ) → AskedServe true y t.now s₀ s.old plan.old u c → Served true y c s.new plan.old plan.new result }
 {
     if has_place(s, c) {
         move_pebble(s, plan, u, c, true);
@@ -155,7 +154,7 @@ pub fn draw_child(
     c: usize,
 ) -> usize
     requires { (y : Yard) × (s₀ : List ℤ) × AskedServe false y t.now s₀ s.old plan.old u c }
-    ensures { (y : Yard) (s₀ : List ℤ) → AskedServe false y (was t) s₀ (was s) (was plan) u c → Served false y c (became s) (was plan) (became plan) result }
+    ensures { (y : Yard) (s₀ : List ℤ) → AskedServe false y t.now s₀ s.old plan.old u c → Served false y c s.new plan.old plan.new result }
 {
     if s[PEBBLES + c] != 0 {
         move_pebble(s, plan, u, c, false);

@@ -1,7 +1,6 @@
 // The tables of a tree: parents, lowest children, next siblings.
 ghost use Rattle.std.specs.Prelude.{◌≡◌, ◌<◌, ◌≤◌, length};
 ghost use Rattle.model.specs.Judge.{Parents};
-ghost use Rattle.model.specs.Given.{was, became};
 ghost use Rattle.serve.specs.Serving.{Linked, Tables, linked_to};
 
 use crate::choose::{LOWEST, NEXT, wide};
@@ -9,7 +8,7 @@ use crate::choose::{LOWEST, NEXT, wide};
 // With no node linked yet: parents, and each node as its own lowest child.
 fn unlinked(parents: &[u8]) -> [u8; 768]
     requires { length parents.now ≤ 256 }
-    ensures { Linked (length (was parents)) (was parents) result }
+    ensures { Linked (length parents.now) parents.now result }
 {
     let mut t = [0u8; 768];
     let mut v = 0;
@@ -24,7 +23,7 @@ fn unlinked(parents: &[u8]) -> [u8; 768]
 // Puts v before the children of p that are linked already.
 pub fn link(t: &mut [u8; 768], v: usize, p: usize)
     requires { (v < 256) × (p < 256) }
-    ensures { became t ≡ linked_to (was t) v p }
+    ensures { t.new ≡ linked_to t.old v p }
 {
     t[NEXT + v] = t[LOWEST + p];
     t[LOWEST + p] = v as u8;
@@ -33,7 +32,7 @@ pub fn link(t: &mut [u8; 768], v: usize, p: usize)
 // Linked from the highest node down, so that each parent's children come in rising order.
 pub fn tables(parents: &[u8]) -> [u8; 768]
     requires { Parents parents.now }
-    ensures { Tables (was parents) result }
+    ensures { Tables parents.now result }
 {
     let mut t = unlinked(parents);
     let mut v = parents.len();

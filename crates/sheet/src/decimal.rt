@@ -1,6 +1,5 @@
 // Numbers in decimal, and texts, written into a lent list.
 ghost use Rattle.std.specs.Prelude.{◌≡◌, ◌+◌, ◌≤◌, length};
-ghost use Rattle.model.specs.Given.{was, became};
 ghost use Rattle.model.specs.Sheets.{decimal};
 ghost use Rattle.sheet.specs.Written.{Written};
 
@@ -20,7 +19,7 @@ fn width(n: usize) -> usize
 // Writes a number from `at` on, its last digit first, and answers the place behind it.
 pub fn put_decimal(out: &mut [u8], at: usize, n: usize) -> usize
     requires { at + length (decimal n) ≤ length out.old }
-    ensures { Written (decimal n) at (was out) result (became out) }
+    ensures { Written (decimal n) at out.old result out.new }
 {
     let end = at + width(n);
     let mut i = end - 1;
@@ -37,7 +36,7 @@ pub fn put_decimal(out: &mut [u8], at: usize, n: usize) -> usize
 // Writes a text from `at` on, and answers the place behind it.
 pub fn put_text(out: &mut [u8], at: usize, text: &[u8]) -> usize
     requires { at + length text.now ≤ length out.old }
-    ensures { Written (was text) at (was out) result (became out) }
+    ensures { Written text.now at out.old result out.new }
 {
     let mut i = 0;
     while i < text.len() {

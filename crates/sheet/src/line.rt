@@ -1,6 +1,5 @@
 // A line of values, written into a lent list.
 ghost use Rattle.std.specs.Prelude.{◌≡◌, ◌+◌, ◌≤◌, length};
-ghost use Rattle.model.specs.Given.{was, became};
 ghost use Rattle.model.specs.Sheets.{stopBefore, line};
 ghost use Rattle.sheet.specs.Written.{Written};
 
@@ -19,7 +18,7 @@ pub fn stop_before(others: usize) -> u8
 // Writes a line of values from `at` on, and answers the place behind it.
 pub fn put_line(out: &mut [u8], at: usize, values: &[usize]) -> usize
     requires { at + length (line values.now) ≤ length out.old }
-    ensures { Written (line (was values)) at (was out) result (became out) }
+    ensures { Written (line values.now) at out.old result out.new }
 {
     let mut end = at;
     let mut i = 0;

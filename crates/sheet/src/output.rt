@@ -1,6 +1,5 @@
 // What the programs print: the moves of a move sheet, two values under a head, a refusal.
 ghost use Rattle.std.specs.Prelude.{◌≡◌, [], ◌∷◌, ◌++◌, ◌+◌, ◌≤◌, ◌<◌, length};
-ghost use Rattle.model.specs.Given.{was, became};
 ghost use Rattle.model.specs.Calls.Answers.{overwrite, Row};
 ghost use Rattle.model.specs.Calls.Plans.{moves_of};
 ghost use Rattle.model.specs.Sheets.{line, move_lines, refusal_sheet};
@@ -22,7 +21,7 @@ pub const REPORT_HEAD: [u8; 14] = *b"track up down\n";
 // Writes the head of a move sheet and the moves of a plan at the front of a list, and answers the place behind them.
 pub fn put_moves(plan: &[u8], out: &mut [u8]) -> usize
     requires { move_lines_room (length plan.now) ≤ length out.old }
-    ensures { Written (move_lines (moves_of (was plan))) 0 (was out) result (became out) }
+    ensures { Written (move_lines (moves_of plan.now)) 0 out.old result out.new }
 {
     let mut at = put_text(out, 0, &MOVE_HEAD);
     let mut i = 0;
@@ -38,8 +37,8 @@ pub fn put_moves(plan: &[u8], out: &mut [u8]) -> usize
 // Writes a head, and under it a line of two values, at the front of a list, and answers its length.
 pub fn put_pair(head: &[u8], first: usize, second: usize, out: &mut [u8]) -> usize
     requires { (first < 1_000_000) × (second < 1_000_000) × (length head.now + pair_room ≤ length out.old) }
-    ensures value { result ≡ length (was head ++ line (first ∷ second ∷ [])) }
-    ensures out_value { became out ≡ overwrite (was head ++ line (first ∷ second ∷ [])) (was out) }
+    ensures value { result ≡ length (head.now ++ line (first ∷ second ∷ [])) }
+    ensures out_value { out.new ≡ overwrite (head.now ++ line (first ∷ second ∷ [])) out.old }
 {
     let at = put_text(out, 0, head);
     put_line(out, at, &[first, second])
@@ -49,7 +48,7 @@ pub fn put_pair(head: &[u8], first: usize, second: usize, out: &mut [u8]) -> usi
 pub fn put_refused(r: Refusal, out: &mut [u8]) -> usize
     requires { Row (paper r) × (refusal_room ≤ length out.old) }
     ensures value { result ≡ length (refusal_sheet (paper r)) }
-    ensures out_value { became out ≡ overwrite (refusal_sheet (paper r)) (was out) }
+    ensures out_value { out.new ≡ overwrite (refusal_sheet (paper r)) out.old }
 {
     let row = number(r) as usize;
     let at = place(r);

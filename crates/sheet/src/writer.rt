@@ -1,6 +1,6 @@
 // The writer's call: four lists as a yard sheet.
 ghost use Rattle.std.specs.Prelude.{◌≡◌, ◌≤◌, length};
-ghost use Rattle.model.specs.Given.{given, handed, was, became};
+ghost use Rattle.model.specs.Given.{given, handed};
 ghost use Rattle.model.specs.Sheets.{yard_sheet, write_answer, write_list};
 ghost use Rattle.model.specs.Paper.{paper_counted};
 ghost use Rattle.sheet.specs.Written.{SameLength, Written};
@@ -26,9 +26,9 @@ fn put_sheet(
     depths: &[u8],
     sheet: &mut [u8],
 ) -> usize
-    requires same_length { SameLength (handed parents pebbles targets depths) }
-    requires depths_in_bounds { length (yard_sheet (handed parents pebbles targets depths)) ≤ length sheet.old }
-    ensures { Written (yard_sheet (given parents pebbles targets depths)) 0 (was sheet) result (became sheet) }
+    requires same_length { SameLength (handed parents.now pebbles.now targets.now depths.now) }
+    requires depths_in_bounds { length (yard_sheet (handed parents.now pebbles.now targets.now depths.now)) ≤ length sheet.old }
+    ensures { Written (yard_sheet (given parents.now pebbles.now targets.now depths.now)) 0 sheet.old result sheet.new }
 {
     let mut at = put_text(sheet, 0, &HEADER);
     let mut v = 0;
@@ -52,8 +52,8 @@ pub fn write_sheet(
     depths: &[u8],
     sheet: &mut [u8],
 ) -> Counted
-    ensures result_value { paper_counted result ≡ write_answer (given parents pebbles targets depths) (was sheet) }
-    ensures sheet_value { became sheet ≡ write_list (given parents pebbles targets depths) (was sheet) }
+    ensures result_value { paper_counted result ≡ write_answer (given parents.now pebbles.now targets.now depths.now) sheet.old }
+    ensures sheet_value { sheet.new ≡ write_list (given parents.now pebbles.now targets.now depths.now) sheet.old }
 {
     let lengths = test_lengths(parents, pebbles, targets, depths);
     if let Done::Refused(r) = lengths {

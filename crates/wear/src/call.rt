@@ -1,6 +1,6 @@
 // The call.
 ghost use Rattle.std.specs.Prelude.{◌≡◌, ◌&&◌, ◌≤◌, ◌<◌, length, leb, ltb};
-ghost use Rattle.model.specs.Given.{given, handed, was};
+ghost use Rattle.model.specs.Given.{given, handed};
 ghost use Rattle.model.specs.Judge.{first_of, Tree};
 ghost use Rattle.model.specs.Wear as Wear;
 ghost use Rattle.model.specs.Calls.Answers.{answer};
@@ -26,8 +26,8 @@ fn wear_to_end(
     plan: &[u8],
     width: usize,
 ) -> Worn
-    requires { Tree (handed parents pebbles targets depths) × AskedWear plan.now width }
-    ensures { paper_worn result ≡ answer (first_of (obey_tests (given parents pebbles targets depths) (moves_of (was plan)))) (Wear.wear (given parents pebbles targets depths) width (moves_of (was plan))) }
+    requires { Tree (handed parents.now pebbles.now targets.now depths.now) × AskedWear plan.now width }
+    ensures { paper_worn result ≡ answer (first_of (obey_tests (given parents.now pebbles.now targets.now depths.now) (moves_of plan.now))) (Wear.wear (given parents.now pebbles.now targets.now depths.now) width (moves_of plan.now)) }
 {
     let n = parents.len();
     let mut counts = [0u8; 256];
@@ -60,7 +60,7 @@ fn wear_of_stretches(
     width: usize,
 ) -> Worn
     requires { (0 < width) × (width ≤ length (moves_of plan.now)) }
-    ensures { paper_worn result ≡ wear_answer (given parents pebbles targets depths) (was plan) width }
+    ensures { paper_worn result ≡ wear_answer (given parents.now pebbles.now targets.now depths.now) plan.now width }
 {
     let tested = test_matched(parents, pebbles, targets, depths);
     if let Done::Refused(r) = tested {
@@ -74,7 +74,7 @@ fn wear_of_stretches(
 
 // Whether a plan has a stretch of this width: else refusal 28 meets it.
 fn has_stretch(plan: &[u8], width: usize) -> bool
-    ensures { result ≡ (ltb 0 width) && (leb width (length (moves_of (was plan)))) }
+    ensures { result ≡ (ltb 0 width) && (leb width (length (moves_of plan.now))) }
 {
     if width == 0 {
         return false;
@@ -92,7 +92,7 @@ pub fn wear(
     plan: &[u8],
     width: u32,
 ) -> Worn
-    ensures { paper_worn result ≡ wear_answer (given parents pebbles targets depths) (was plan) width }
+    ensures { paper_worn result ≡ wear_answer (given parents.now pebbles.now targets.now depths.now) plan.now width }
 {
     if has_stretch(plan, width as usize) {
         return wear_of_stretches(parents, pebbles, targets, depths, plan, width as usize);

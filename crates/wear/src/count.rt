@@ -2,7 +2,7 @@
 ghost use Rattle.std.specs.Prelude.{◌≡◌, ◌+◌, ◌*◌, ◌≤◌, ◌<◌, length, get_or, eqb};
 ghost use Rattle.model.specs.Yard as Yard;
 ghost use Rattle.model.specs.Yard.{lowest};
-ghost use Rattle.model.specs.Given.{given, handed, was, became};
+ghost use Rattle.model.specs.Given.{given, handed};
 ghost use Rattle.model.specs.Judge.{Tree};
 ghost use Rattle.model.specs.Push.{move_fault, shifted, after};
 ghost use Rattle.model.specs.Wear as Wear;
@@ -21,8 +21,8 @@ use yard::step::step;
 // Makes move i of a plan, or refuses it.
 fn obey_move(parents: &[u8], pebbles: &mut [u8], depths: &[u8], plan: &[u8], i: usize) -> Done
     requires { Alike parents pebbles depths × (2 * i + 1 < length plan.now) }
-    ensures result_value { paper_done result ≡ move_fault (given_bare parents pebbles depths) (move_in (was plan) i) i }
-    ensures pebbles_value { became pebbles ≡ lent (paper_done result) (shifted (was pebbles) (move_in (was plan) i)) (was pebbles) }
+    ensures result_value { paper_done result ≡ move_fault (given_bare parents pebbles depths) (move_in plan.now i) i }
+    ensures pebbles_value { pebbles.new ≡ lent (paper_done result) (shifted pebbles.old (move_in plan.now i)) pebbles.old }
 {
     let from = wide(plan[2 * i]);
     let to = wide(plan[2 * i + 1]);
@@ -32,7 +32,7 @@ fn obey_move(parents: &[u8], pebbles: &mut [u8], depths: &[u8], plan: &[u8], i: 
 // The edge that move i crosses: that of the lower of its nodes.
 fn edge_at(parents: &[u8], plan: &[u8], i: usize) -> usize
     requires { (2 * i + 1 < length plan.now) × (get_or plan.now (2 * i) 0 < length parents.now) }
-    ensures { result ≡ edge_in (was parents) (was plan) i }
+    ensures { result ≡ edge_in parents.now plan.now i }
 {
     let from = wide(plan[2 * i]);
     let to = wide(plan[2 * i + 1]);
@@ -45,7 +45,7 @@ fn edge_at(parents: &[u8], plan: &[u8], i: usize) -> usize
 // The greatest of the first n entries, each of which is looked at, so that many can be at once.
 fn most_crossings(counts: &[u32; 256], n: usize) -> u32
     requires { n ≤ 256 }
-    ensures { result ≡ Yard.most n (λ v. get_or (was counts) v 0) }
+    ensures { result ≡ Yard.most n (λ v. get_or counts.now v 0) }
 {
     let mut most = 0;
     let mut v = 0;
@@ -62,7 +62,7 @@ fn most_crossings(counts: &[u32; 256], n: usize) -> u32
 // The lowest of the first n entries that has so many, or n.
 fn lowest_edge(counts: &[u32; 256], n: usize, crossings: u32) -> usize
     requires { n ≤ 256 }
-    ensures { result ≡ lowest n (λ v. eqb (get_or (was counts) v 0) crossings) }
+    ensures { result ≡ lowest n (λ v. eqb (get_or counts.now v 0) crossings) }
 {
     let mut v = 0;
     while v < n {
@@ -77,7 +77,7 @@ fn lowest_edge(counts: &[u32; 256], n: usize, crossings: u32) -> usize
 // One crossing less of the edge of the move that goes, and one more of that of the move that comes in. Answers how often the latter is crossed then.
 fn shift(counts: &mut [u32; 256], come: usize, gone: usize) -> u32
     requires { AskedShift counts.old come gone }
-    ensures { (became counts ≡ added (taken (was counts) gone) come) × (result ≡ get_or (taken (was counts) gone) come 0 + 1) }
+    ensures { (counts.new ≡ added (taken counts.old gone) come) × (result ≡ get_or (taken counts.old gone) come 0 + 1) }
 {
     counts[gone] -= 1;
     let crossings = counts[come] + 1;
@@ -95,9 +95,9 @@ fn obey_and_count(
     plan: &[u8],
     width: usize,
 ) -> Worn
-    requires { Tree (handed parents pebbles targets depths) × AskedWear plan.now width }
-    ensures result_value { paper_worn result ≡ answer (moves_fault 0 (given parents pebbles targets depths) (moves_of (was plan))) (Wear.wear (given parents pebbles targets depths) width (moves_of (was plan))) }
-    ensures pebbles_value { became pebbles ≡ after (given parents pebbles targets depths) (obeyed_of (moves_fault 0 (given parents pebbles targets depths) (moves_of (was plan))) (was plan)) }
+    requires { Tree (handed parents.now pebbles.old targets.now depths.now) × AskedWear plan.now width }
+    ensures result_value { paper_worn result ≡ answer (moves_fault 0 (given parents.now pebbles.old targets.now depths.now) (moves_of plan.now)) (Wear.wear (given parents.now pebbles.old targets.now depths.now) width (moves_of plan.now)) }
+    ensures pebbles_value { pebbles.new ≡ after (given parents.now pebbles.old targets.now depths.now) (obeyed_of (moves_fault 0 (given parents.now pebbles.old targets.now depths.now) (moves_of plan.now)) plan.now) }
 {
     let mut counts = [0u32; 256];
     let mut i = 0;
@@ -148,10 +148,10 @@ pub fn count_copy(
     plan: &[u8],
     width: usize,
 ) -> Worn
-    requires tree { Tree (handed parents pebbles targets depths) × AskedWear plan.now width }
+    requires tree { Tree (handed parents.now pebbles.now targets.now depths.now) × AskedWear plan.now width }
     requires counts_len { length counts.old ≡ length pebbles.now }
-    ensures result_value { paper_worn result ≡ answer (moves_fault 0 (given parents pebbles targets depths) (moves_of (was plan))) (Wear.wear (given parents pebbles targets depths) width (moves_of (was plan))) }
-    ensures counts_value { became counts ≡ after (given parents pebbles targets depths) (obeyed_of (moves_fault 0 (given parents pebbles targets depths) (moves_of (was plan))) (was plan)) }
+    ensures result_value { paper_worn result ≡ answer (moves_fault 0 (given parents.now pebbles.now targets.now depths.now) (moves_of plan.now)) (Wear.wear (given parents.now pebbles.now targets.now depths.now) width (moves_of plan.now)) }
+    ensures counts_value { counts.new ≡ after (given parents.now pebbles.now targets.now depths.now) (obeyed_of (moves_fault 0 (given parents.now pebbles.now targets.now depths.now) (moves_of plan.now)) plan.now) }
 {
     copy(pebbles, counts);
     obey_and_count(parents, counts, targets, depths, plan, width)

@@ -1,6 +1,6 @@
 // One push of four lists.
 ghost use Rattle.std.specs.Prelude.{◌≡◌};
-ghost use Rattle.model.specs.Given.{given, became};
+ghost use Rattle.model.specs.Given.{given};
 ghost use Rattle.model.specs.Push.{push, push_fault, pushed_pebbles};
 ghost use Rattle.model.specs.Paper.{paper_done};
 
@@ -17,8 +17,8 @@ pub fn push_lists(
     from: usize,
     to: usize,
 ) -> Done
-    ensures result_value { paper_done result ≡ push_fault (given parents pebbles targets depths) (push from to) }
-    ensures pebbles_value { became pebbles ≡ pushed_pebbles (given parents pebbles targets depths) (push from to) }
+    ensures result_value { paper_done result ≡ push_fault (given parents.now pebbles.old targets.now depths.now) (push from to) }
+    ensures pebbles_value { pebbles.new ≡ pushed_pebbles (given parents.now pebbles.old targets.now depths.now) (push from to) }
 {
     let tested = test_yard(parents, pebbles, targets, depths);
     if let Done::Refused(r) = tested {

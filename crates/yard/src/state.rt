@@ -1,7 +1,7 @@
 // The yard state, by value, and one push of it.
 ghost use Rattle.std.specs.Prelude.{◌≡◌, ◌≤◌, length};
 ghost use Rattle.model.specs.Yard.{max_size, fresh};
-ghost use Rattle.model.specs.Given.{given, was};
+ghost use Rattle.model.specs.Given.{given};
 ghost use Rattle.model.specs.Judge.{judge};
 ghost use Rattle.model.specs.Push.{push, push_fault, pushed};
 ghost use Rattle.model.specs.Paper.{paper_done};
@@ -32,7 +32,7 @@ pub struct Answered {
 // A list of at most `Yard::MAX` entries, continued by zeros.
 fn padded(list: &[u8]) -> [u8; Yard::MAX]
     requires { length list.now ≤ max_size }
-    ensures { result ≡ State.padded max_size (was list) }
+    ensures { result ≡ State.padded max_size list.now }
 {
     let mut array = [0u8; Yard::MAX];
     let mut i = 0;
@@ -67,9 +67,9 @@ impl Yard {
 
     // The yard of four lists; refused as they are (1 to 6), a fresh one. The last clause says what lies behind its nodes too: zeros.
     pub fn from_lists(parents: &[u8], pebbles: &[u8], targets: &[u8], depths: &[u8]) -> Answered
-        ensures answer_value { paper_done result.answer ≡ judge (given parents pebbles targets depths) }
-        ensures yard_value { yard_in result.yard ≡ or_fresh (given parents pebbles targets depths) }
-        ensures yard_value_2 { result.yard ≡ state_of (or_fresh (given parents pebbles targets depths)) }
+        ensures answer_value { paper_done result.answer ≡ judge (given parents.now pebbles.now targets.now depths.now) }
+        ensures yard_value { yard_in result.yard ≡ or_fresh (given parents.now pebbles.now targets.now depths.now) }
+        ensures yard_value_2 { result.yard ≡ state_of (or_fresh (given parents.now pebbles.now targets.now depths.now)) }
     {
         let answer = test_yard(parents, pebbles, targets, depths);
         if let Done::Refused(r) = answer {

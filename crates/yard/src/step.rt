@@ -2,7 +2,6 @@
 ghost use Rattle.std.specs.Prelude.{◌≡◌, false, [], ℕ, ◌<◌, length};
 ghost use Rattle.std.proofs.Math.Option.{some};
 ghost use Rattle.model.specs.Yard.{yard_of};
-ghost use Rattle.model.specs.Given.{was, became};
 ghost use Rattle.model.specs.Push as Push;
 ghost use Rattle.model.specs.Push.{push, move_fault, is_none, shifted};
 ghost use Rattle.model.specs.Calls.Answers.{lent};
@@ -14,7 +13,7 @@ use model::{Done, Refusal};
 // Whether one of two nodes is the other's parent, and they differ.
 fn adjacent(parents: &[u8], a: usize, b: usize) -> bool
     requires { (a < length parents.now) × (b < length parents.now) }
-    ensures { result ≡ Push.adjacent (yard_of (was parents) [] [] []) a b }
+    ensures { result ≡ Push.adjacent (yard_of parents.now [] [] []) a b }
 {
     if a == b {
         return false;
@@ -108,7 +107,7 @@ pub fn step(
 ) -> Done
     requires { Alike parents pebbles depths }
     ensures result_value { paper_done result ≡ move_fault (given_bare parents pebbles depths) (push from to) place }
-    ensures pebbles_value { became pebbles ≡ lent (paper_done result) (shifted (was pebbles) (push from to)) (was pebbles) }
+    ensures pebbles_value { pebbles.new ≡ lent (paper_done result) (shifted pebbles.old (push from to)) pebbles.old }
 {
     if !free(parents, pebbles, depths, from, to) {
         return Done::Refused(fault(parents, pebbles, depths, from, to, place));

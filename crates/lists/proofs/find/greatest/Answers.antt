@@ -1,0 +1,17 @@
+-- `greatest`: after i turns the number is the greatest of the first i entries.
+use Prim.Native.Nat.{ℕ, ◌-◌, ◌≤◌}
+use mathlib.Core.Path.{◌≡◌, ap, ◌∙◌}
+use native.Mathlib.Omega.{arith}
+use native.Mathlib.Numerals.{add-one}
+use lib.ListN.{length, get_or}
+use borrow.Author.Rules.{rules}
+use Rattle.model.specs.Yard as Yard
+use Rattle.lists.proofs.find.greatest.Goals as goal
+
+pub loop-i-init : goal.loop-i-init
+unfolding Yard.most
+loop-i-init c = search rules
+
+pub loop-i-preserved : goal.loop-i-preserved
+unfolding Yard.most
+loop-i-preserved c = (omega arith, rw add-one (omega (arith, c.larger-most.ensures)))
