@@ -11,6 +11,9 @@ use borrow.Author.Tests.{eq-eqb, ne_eqb, le-leb, lt-leb}
 use Rattle.laws.proofs.Found.{found, missed, none_next}
 use Rattle.lists.proofs.find.first_own.Given as goal
 
+abbrev pub own : List ℕ → ℕ → ℕ → Bool
+own list start v = (leb start v) && (eqb (get_or list v 0) v)
+
 abbrev pub invariant-loop-i : goal.invariant-loop-i
 invariant-loop-i l = (l.start ≤ l.i) × ((v : ℕ) → v < l.i → own l.list l.start v ≡ false)
 

@@ -9,6 +9,7 @@ use lib.Dec.{leb}
 use borrow.Author.Tests.{le-leb, lt-leb}
 use Rattle.laws.proofs.Found.{found, missed, none_next}
 use Rattle.lists.proofs.find.look_for.Goals as goal
+-- no goal for overflow-cast-if1
 
 -- the entry at the index
 abbrev entry_then_list_i : goal.Then-list-i → ℕ

@@ -9,10 +9,8 @@ use lib.Dec.{leb}
 use borrow.Author.Rules.{rules}
 use borrow.Author.Tests.{le-leb, lt-leb}
 use Rattle.laws.proofs.Found.{found, missed, none_next}
+use Rattle.lists.proofs.find.look_outside.Invariants.{outside}
 use Rattle.lists.proofs.find.look_outside.Goals as goal
-
-abbrev outside : ℕ → ℕ → ℕ → Bool
-outside low high x = not ((leb low x) && (leb x high))
 
 too-low : (low high x : ℕ) → x < low → outside low high x ≡ true
 too-low low high x l = rw (lt-leb low x l)
@@ -20,20 +18,11 @@ too-low low high x l = rw (lt-leb low x l)
 too-high : (low high x : ℕ) → low ≤ x → high < x → outside low high x ≡ true
 too-high low high x h l = rw (le-leb low x h, lt-leb x high l)
 
-within : (low high x : ℕ) → low ≤ x → x ≤ high → outside low high x ≡ false
-within low high x h l = rw (le-leb low x h, le-leb x high l)
-
-pub loop-i-init : goal.loop-i-init
-loop-i-init c = (omega arith, λ v l. absurd (omega arith))
-
 pub returns-then-list-i : goal.returns-then-list-i
 returns-then-list-i c = found _ _ _ _ (omega arith) c.loop-i.invariant.1 (too-low _ _ _ c.if-list-i.true)
 
 pub returns-then-list-i-2 : goal.returns-then-list-i-2
 returns-then-list-i-2 c = found _ _ _ _ (omega arith) c.loop-i.invariant.1 (too-high _ _ _ c.if-list-i.false c.if-list-i-2.true)
-
-pub loop-i-preserved : goal.loop-i-preserved
-loop-i-preserved c = (omega arith, none_next _ _ c.loop-i.invariant.1 (within _ _ _ c.if-list-i.false c.if-list-i-2.false))
 
 pub returns : goal.returns
 returns c =

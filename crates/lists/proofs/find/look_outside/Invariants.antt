@@ -11,6 +11,9 @@ use borrow.Author.Tests.{le-leb, lt-leb}
 use Rattle.laws.proofs.Found.{found, missed, none_next}
 use Rattle.lists.proofs.find.look_outside.Given as goal
 
+abbrev pub outside : ℕ → ℕ → ℕ → Bool
+outside low high x = not ((leb low x) && (leb x high))
+
 abbrev pub invariant-loop-i : goal.invariant-loop-i
 invariant-loop-i l = (l.i ≤ length l.list) × ((v : ℕ) → v < l.i → outside l.low l.high (get_or l.list v 0) ≡ false)
 

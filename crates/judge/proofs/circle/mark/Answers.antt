@@ -1,0 +1,30 @@
+-- `mark` changes nothing but marks, and those only at the nodes of the climb. In the loop u is the i-th of them, so each store is at one
+-- of the first `steps`; a store leaves every other entry as it was.
+use native.Mathlib.Omega.{arith}
+use native.Mathlib.Numerals.{add-one}
+use Prim.Native.Nat.{◌<◌, ◌-◌}
+use mathlib.Core.Path.{◌≡◌, refl, ap, ◌∙◌}
+use mathlib.Core.Logic.{inl, inr, ⊎_elim}
+use lib.ListN.{length}
+use Rattle.model.specs.Yard.{up}
+use Rattle.judge.specs.Climb.{above, Marked}
+use Rattle.judge.proofs.Lists.{set_either}
+use Rattle.judge.proofs.Climb.{above_next}
+use Rattle.judge.proofs.circle.mark.Goals as goal
+-- no goal for overflow-cast-u
+
+pub loop-i-init : goal.loop-i-init
+unfolding above
+loop-i-init c = (refl, c.requires.1, λ w. inl refl)
+
+pub loop-i-preserved : goal.loop-i-preserved
+loop-i-preserved c =
+    let loop = c.loop-i in
+    let ps = c.args.parents.now in (
+      rw add-one (above_next loop.i ps c.args.v ∙ ap (up ps) loop.invariant.0),
+      c.requires.0.node loop.u loop.invariant.1,
+      λ w. ⊎_elim
+          (λ e. ⊎_elim (λ s. inl (e ∙ s)) (λ s. inr (e ∙ s.0, s.1)) (loop.invariant.2 w))
+          (λ e. inr (e.0, (loop.i, c.loop-i-test.true, loop.invariant.0 ∙ e.1)))
+          (set_either loop.known loop.u w 1),
+    )
