@@ -12,7 +12,7 @@ import glob
 import re
 
 HEAD = re.compile(r"(?m)^ *(?:pub(?:\(crate\))? |unsafe |const |extern \"C\" )*fn \w+")
-GIVEN = "crates/model/specs/Given.antt"
+GIVEN = ["crates/model/specs/Given.antt", "crates/yard/specs/Given.antt"]
 
 
 def closing(text, at, opens, closes):
@@ -43,6 +43,7 @@ def turn_clause(text, kinds):
         return m[1] + "".join(" " + before(name) for name in m[2].split())
 
     text = re.sub(r"\b(given|handed)((?: \w+){4})", yard, text)
+    text = re.sub(r"\b(given_bare|handed_bare|Alike)((?: \w+){3})", yard, text)
     text = re.sub(r"\b(read_from)((?: \w+){5})", yard, text)
     text = re.sub(r"\(was (\w+)\)|\bwas (\w+)", lambda m: before(m[1] or m[2]), text)
     return re.sub(r"\(became (\w+)\)|\bbecame (\w+)", lambda m: (m[1] or m[2]) + ".new", text)
@@ -50,7 +51,7 @@ def turn_clause(text, kinds):
 
 def turn_function(text):
     """The head of a function, from its `fn` on: its clauses."""
-    opens = text.index("(")
+    opens = text.index("(", re.search(r"\bfn \w+", text).end())
     end = closing(text, opens, "(", ")")
     kinds = lent(text[opens:end])
     out, at = text[:end], end
@@ -85,15 +86,16 @@ def main():
         if "specs.Given" in text:
             with open(path, "w", encoding="utf-8") as file:
                 file.write(turn(text))
-    with open(GIVEN, encoding="utf-8") as file:
-        text = file.read()
-    text = re.sub(r"(?s)\n-- a lent list, in one word for an `ensures`.*", "", text)
-    text = re.sub(r"use (?:Rattle\.std\.specs\.Borrow|denote\.Triple\.Both)\..*\n", "", text)
-    text = re.sub(r"\{[A-Z ]+ : Type 0\} → ", "", text)
-    text = re.sub(r"Both \(Bor \(List ℕ\)\) [A-Z]|Bor \(List ℕ\)", "List ℕ", text)
-    text = text.replace(".entry.now", "").replace(".now", "")
-    with open(GIVEN, "w", encoding="utf-8") as file:
-        file.write(text)
+    for path in GIVEN:
+        with open(path, encoding="utf-8") as file:
+            text = file.read()
+        text = re.sub(r"(?s)\n-- a lent list, in one word for an `ensures`.*", "", text)
+        text = re.sub(r"use (?:Rattle\.std\.specs\.Borrow|denote\.Triple\.Both)\..*\n", "", text)
+        text = re.sub(r"\{[A-Z ]+ : Type 0\} → ", "", text)
+        text = re.sub(r"Both \(Bor \(List ℕ\)\) [A-Z]|Bor \(List ℕ\)", "List ℕ", text)
+        text = text.replace(".entry.now", "").replace(".now", "")
+        with open(path, "w", encoding="utf-8") as file:
+            file.write(text)
 
 
 main()

@@ -66,7 +66,7 @@ fn read_moves(input: &[u8], at: usize, first: usize, plan: &mut [u8]) -> Counted
 // the moves, and after a refusal all of them: no rule speaks of them, as the list is an array of the program's own, of which it looks at the moves alone.
 pub(crate) fn read_plan(input: &[u8], at: usize, line: usize, plan: &mut [u8]) -> Counted
     requires { (at ≤ length input.now) × (line ≤ 258) × (length plan.old ≡ plan_room) }
-    ensures plan_value { plan_in result plan.new ≡ readPlan line (drop at input) }
+    ensures plan_value { plan_in result plan.new ≡ readPlan line (drop at input.now) }
     ensures result_bound { moves_in result ≤ moves_read }
 {
     if !stands_at(&MOVE_HEAD, input, at) {

@@ -28,8 +28,8 @@ pub(crate) fn gather(
     depths: &[u8],
     list: &mut [i16],
 ) -> usize
-    requires { (first_of (list_tests (handed parents pebbles targets depths)) ≡ none) × (length list.old ≡ length parents.now) }
-    ensures { Gathered (given parents pebbles targets depths) result list.new }
+    requires { (first_of (list_tests (handed parents.now pebbles.now targets.now depths.now)) ≡ none) × (length list.old ≡ length parents.now) }
+    ensures { Gathered (given parents.now pebbles.now targets.now depths.now) result list.new }
 {
     let n = parents.len();
     own(pebbles, targets, list);

@@ -116,9 +116,9 @@ fn fill(parents: &[u8], list: &mut [u16], node: usize) -> bool
 // after a refusal: no rule speaks of them, as each call lends an array of its own and looks at it only if the yard is accepted.
 pub(crate) fn measure(parents: &[u8], list: &mut [u16], node: usize) -> Done
     requires { Parents parents.now × Unknown list.old × (length list.old ≡ 256) × (node < length parents.now) }
-    ensures result_value { paper_done result ≡ first_of (shape_tests (yard_of parents [] [] [])) }
-    ensures distances { (y : Yard) → From y parents node → Distances y node list.new }
-    ensures list_value { drop (length parents) list.new ≡ drop (length parents) list }
+    ensures result_value { paper_done result ≡ first_of (shape_tests (yard_of parents.now [] [] [])) }
+    ensures distances { (y : Yard) → From y parents.now node → Distances y node list.new }
+    ensures list_value { drop (length parents.now) list.new ≡ drop (length parents.now) list.old }
 {
     if fill(parents, &mut list[..parents.len()], node) {
         return Done::Accepted;

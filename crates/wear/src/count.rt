@@ -20,8 +20,8 @@ use yard::step::step;
 
 // Makes move i of a plan, or refuses it.
 fn obey_move(parents: &[u8], pebbles: &mut [u8], depths: &[u8], plan: &[u8], i: usize) -> Done
-    requires { Alike parents pebbles depths × (2 * i + 1 < length plan.now) }
-    ensures result_value { paper_done result ≡ move_fault (given_bare parents pebbles depths) (move_in plan.now i) i }
+    requires { Alike parents.now pebbles.old depths.now × (2 * i + 1 < length plan.now) }
+    ensures result_value { paper_done result ≡ move_fault (given_bare parents.now pebbles.old depths.now) (move_in plan.now i) i }
     ensures pebbles_value { pebbles.new ≡ lent (paper_done result) (shifted pebbles.old (move_in plan.now i)) pebbles.old }
 {
     let from = wide(plan[2 * i]);

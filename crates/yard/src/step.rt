@@ -26,8 +26,8 @@ fn adjacent(parents: &[u8], a: usize, b: usize) -> bool
 
 // Whether none of refusals 10 to 13 meets the move from `from` to `to`.
 fn free(parents: &[u8], pebbles: &[u8], depths: &[u8], from: usize, to: usize) -> bool
-    requires { Alike parents pebbles depths }
-    ensures { (place : ℕ) → result ≡ is_none (move_fault (given_bare parents pebbles depths) (push from to) place) }
+    requires { Alike parents.now pebbles.now depths.now }
+    ensures { (place : ℕ) → result ≡ is_none (move_fault (given_bare parents.now pebbles.now depths.now) (push from to) place) }
 {
     let n = parents.len();
     if n <= from {
@@ -57,9 +57,9 @@ fn fault(
     to: usize,
     place: usize,
 ) -> Refusal
-    requires alike { Alike parents pebbles depths }
-    requires place_value { is_none (move_fault (handed_bare parents pebbles depths) (push from to) place) ≡ false }
-    ensures { move_fault (given_bare parents pebbles depths) (push from to) place ≡ some (paper result) }
+    requires alike { Alike parents.now pebbles.now depths.now }
+    requires place_value { is_none (move_fault (handed_bare parents.now pebbles.now depths.now) (push from to) place) ≡ false }
+    ensures { move_fault (given_bare parents.now pebbles.now depths.now) (push from to) place ≡ some (paper result) }
 {
     let n = parents.len();
     if n <= from {
@@ -86,8 +86,8 @@ pub fn test_move(
     to: usize,
     place: usize,
 ) -> Done
-    requires { Alike parents pebbles depths }
-    ensures { paper_done result ≡ move_fault (given_bare parents pebbles depths) (push from to) place }
+    requires { Alike parents.now pebbles.now depths.now }
+    ensures { paper_done result ≡ move_fault (given_bare parents.now pebbles.now depths.now) (push from to) place }
 {
     if !free(parents, pebbles, depths, from, to) {
         return Done::Refused(fault(parents, pebbles, depths, from, to, place));
@@ -105,8 +105,8 @@ pub fn step(
     to: usize,
     place: usize,
 ) -> Done
-    requires { Alike parents pebbles depths }
-    ensures result_value { paper_done result ≡ move_fault (given_bare parents pebbles depths) (push from to) place }
+    requires { Alike parents.now pebbles.old depths.now }
+    ensures result_value { paper_done result ≡ move_fault (given_bare parents.now pebbles.old depths.now) (push from to) place }
     ensures pebbles_value { pebbles.new ≡ lent (paper_done result) (shifted pebbles.old (push from to)) pebbles.old }
 {
     if !free(parents, pebbles, depths, from, to) {

@@ -1,0 +1,18 @@
+-- `distance::look::first_within` meets its contract: no node passed holds a pebble within reach.
+use mathlib.Core.Path.{◌≡◌, refl, sym, ◌∙◌}
+use mathlib.Core.Logic.{◌≢◌}
+use mathlib.Core.Bool.{Bool, true, false}
+use Prim.Native.Nat.{ℕ, ◌-◌, ◌≤◌, ◌<◌}
+use native.Mathlib.Omega.{arith}
+use lib.ListN.{length}
+use borrow.Author.Rules.{rules}
+use Rattle.model.specs.Yard.{one}
+use Rattle.laws.proofs.Found.{found, missed, none_next}
+use Rattle.distance.specs.Far.{is_within}
+use Rattle.distance.proofs.look.first_within.Given as goal
+
+abbrev pub invariant-loop-v : goal.invariant-loop-v
+invariant-loop-v l = (l.v ≤ length l.pebbles) × ((w : ℕ) → w < l.v → is_within l.pebbles l.far l.reach w ≡ false)
+
+abbrev pub decreases-loop-v : goal.decreases-loop-v
+decreases-loop-v l = length l.pebbles - l.v

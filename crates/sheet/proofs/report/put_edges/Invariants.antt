@@ -1,0 +1,16 @@
+-- `put_edges` has written, before each turn, the lines of the edges below v. The measure is the nodes left.
+use mathlib.Core.Path.{◌≡◌, sym, ap}
+use Prim.Native.Nat.{◌-◌, ◌≤◌}
+use native.Mathlib.Omega.{arith}
+use lib.ListN.{length}
+use Rattle.sheet.specs.Report.{edge_lines}
+use Rattle.sheet.specs.Written.{Written}
+use Rattle.sheet.proofs.Edges.{edges_none, edges_next, edges_short}
+use Rattle.sheet.proofs.Writing.{written_as, written_append, written_length, written_none}
+use Rattle.sheet.proofs.report.put_edges.Given as goal
+
+abbrev pub invariant-loop-v : goal.invariant-loop-v
+invariant-loop-v l = (l.v ≤ length l.ups) × Written (edge_lines l.ups l.downs l.root l.v) l.at l.initial.out l.end l.out
+
+abbrev pub decreases-loop-v : goal.decreases-loop-v
+decreases-loop-v l = length l.ups - l.v
