@@ -156,7 +156,7 @@ module _ (side : Side) (rule : Rule) (sound : Sound rule) where
       let done : Done (run y (ms ++ ns)) u = done_node y t u (ms ++ ns) (omega (arith, a.0.1, keeps y t (ms ++ ns) g u a.0.0)) (rw (after_append ms ns y) kids.1) in (
         good_append y (ms ++ ns) ps g rest.0,
         subst (λ (ks : List ℕ). All (Done (holding y ks)) (u ∷ us)) (sym (after_append (ms ++ ns) ps y))
-        ((λ v l i. omega (arith, done v l i, keeps (run y (ms ++ ns)) z ps rest.0 v l)), rest.1),
+            ((λ v l i. omega (arith, done v l i, keeps (run y (ms ++ ns)) z ps rest.0 v l)), rest.1),
       )
 
   -- bounds that do not run out: two calls for each node on the way down, and a turn for each move of the shortest length

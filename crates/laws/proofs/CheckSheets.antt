@@ -20,7 +20,7 @@ use Rattle.model.specs.Calls.Plans.{bytes, moves_of, plan_fault}
 use Rattle.model.specs.Calls.Checks.{Verdict, max_plan_bytes, bytes_fault, obey_tests, check_fault, check_answer}
 use Rattle.model.specs.Sheets.{text, line, lines, yard_sheet, same, field, cut, begins, move_head, report_head, move_lines, report, move_sheet, sheet_of, printed_of, refusal_sheet, program_plan_bytes, program, Line, readLine, read_yard}
 use Rattle.model.specs.CheckSheets.{digit_first, yard_part, move_values, readMoves, moves_read, readPlan, and_then, BothSheets, with_plan, read_sheets, verdict_sheet, printed_of_sheets, checked_bytes, checks}
-use Rattle.laws.specs.CheckSheets.{Ends, NoMove, Judged, ByteMoves, checked_sheet, SheetsChecked, Printed, YardRefused}
+use Rattle.laws.specs.CheckSheets.{Ends, NoMove, ByteMoves, checked_sheet, SheetsChecked, Printed, YardRefused}
 use Rattle.laws.proofs.Basics.{All, not_so}
 use Rattle.laws.proofs.Lines.{same_true, Values, length_line, read_line_begins, read_line_some, cut_line, read_line_take}
 use Rattle.laws.proofs.Judged.{facts}

@@ -11,7 +11,7 @@ use native.Mathlib.Decide.{ℕ_discrete, dec_lt}
 use lib.ListN.{get_or}
 use lib.Dec.{eqb}
 use borrow.Author.Tests.{ne_eqb}
-use Rattle.model.specs.Yard.{Yard, size, up, parent, pebble, target, capacity, full, holding, one, sum, below, is_child, children, root, inside, subtotal, targets_in, pebbles_in, lacking, imbalance, Matched}
+use Rattle.model.specs.Yard.{Yard, size, parent, pebble, target, capacity, holding, one, sum, below, is_child, children, root, inside, subtotal, targets_in, pebbles_in, lacking, imbalance, Matched}
 use Rattle.model.specs.Judge.{Tree}
 use Rattle.model.specs.Push.{Move, push, moved, run}
 use Rattle.model.specs.Plan.{needy, choice, neediest_child, fills}

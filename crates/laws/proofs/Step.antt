@@ -11,7 +11,7 @@ use lib.ListN.{length, get_or, set, length-set}
 use lib.Seq.{get_or-set_same, get_or-set_other}
 use lib.Dec.{ltb, eqb}
 use borrow.Author.Tests.{ltb-true, leb-false, eqb-true, eqb-false, lt-ltb, lt-leb, eq-eqb, ne_eqb, not-true}
-use Rattle.model.specs.Yard.{Yard, size, up, parent, pebble, capacity, one, sum, root, inside, subtotal, pebbles_in, lacking, surplus}
+use Rattle.model.specs.Yard.{Yard, size, parent, pebble, capacity, one, sum, root, inside, subtotal, pebbles_in}
 use Rattle.model.specs.Judge.{Fault, judge, Tree}
 use Rattle.model.specs.Push.{Move, push, adjacent, move_tests, move_fault, push_fault, is_none, legal, shifted, moved, is_up, is_down}
 use Rattle.laws.specs.Algorithms.{crossing}

@@ -5,9 +5,9 @@
 use mathlib.Core.Path.{◌≡◌, refl, sym, ap, ◌∙◌, subst}
 use mathlib.Core.Bool.{Bool, true, false, cond}
 use mathlib.Core.List.{List, [], ◌∷◌, ◌++◌}
-use Prim.Native.Nat.{ℕ, ◌+◌, ◌<◌}
+use Prim.Native.Nat.{ℕ, ◌<◌}
 use native.Mathlib.Omega.{arith}
-use Rattle.model.specs.Yard.{Yard, yard_of, size, parent, pebble, root, imbalance, Matched}
+use Rattle.model.specs.Yard.{Yard, yard_of, size, parent, pebble, imbalance, Matched}
 use Rattle.model.specs.Judge.{Tree}
 use Rattle.model.specs.Push.{Move, after, run}
 use Rattle.model.specs.Plan.{needy, choice, fills, plan}

@@ -12,7 +12,7 @@ use lib.ListN.{length, get_or, take, drop, length-drop}
 use lib.Seq.{take-suc, take_all, drop-cons, get_or-drop}
 use lib.Dec.{leb, ltb, eqb}
 use borrow.Author.Tests.{ltb-true, leb-true, eqb-true, eqb-false, eq-eqb, ne_eqb}
-use Rattle.model.specs.Yard.{Yard, size, parent, one, below, lowest, most, root, imbalance, Matched}
+use Rattle.model.specs.Yard.{Yard, size, parent, one, lowest, most, root, imbalance, Matched}
 use Rattle.model.specs.Judge.{Tree}
 use Rattle.model.specs.Push.{Move, push, accepted, is_up, is_down, count}
 use Rattle.model.specs.Plan.{plan}

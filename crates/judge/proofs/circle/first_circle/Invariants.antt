@@ -1,22 +1,12 @@
 -- Each known node reaches the root, and so does each node before v and one whose parent is known; a climb from v that meets no known node in n steps never meets the
 -- root, so v is the lowest such node, and one that ends at a known node shows that all its nodes reach the root.
-use borrow.Author.Rules.{rules}
-use borrow.Author.Count.{below_more}
-use native.Mathlib.Omega.{arith}
-use native.Mathlib.Numerals.{add-one}
-use Prim.Native.Nat.{ℕ, ◌≤◌, ◌<◌, ◌-◌, ◌+◌}
-use mathlib.Core.Path.{◌≡◌, refl, sym, ap, ◌∙◌, subst}
-use mathlib.Core.Bool.{true, not}
+use Prim.Native.Nat.{ℕ, ◌≤◌, ◌<◌, ◌-◌}
+use mathlib.Core.Path.{◌≡◌}
+use mathlib.Core.Bool.{true}
 use mathlib.Core.List.{List}
-use mathlib.Core.Logic.{⊎_elim}
-use lib.ListN.{length, get_or, replicate}
-use lib.Seq.{get_or-set_same}
-use Rattle.model.specs.Yard.{up, climbs}
-use Rattle.laws.proofs.Climb.{climbs_self}
+use lib.ListN.{length, get_or}
+use Rattle.model.specs.Yard.{climbs}
 use Rattle.judge.specs.Climb.{above}
-use Rattle.judge.proofs.Lists.{set_either, zeros}
-use Rattle.judge.proofs.Climb.{above_next, climbs_past, above_reaches}
-use Rattle.laws.proofs.Found.{found, missed}
 use Rattle.judge.proofs.circle.first_circle.Given as goal
 
 abbrev pub Reaches : List ℕ → ℕ → ℕ → Type 0

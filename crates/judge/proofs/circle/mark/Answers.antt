@@ -1,16 +1,14 @@
 -- `mark` changes nothing but marks, and those only at the nodes of the climb. In the loop u is the i-th of them, so each store is at one
 -- of the first `steps`; a store leaves every other entry as it was.
-use native.Mathlib.Omega.{arith}
 use native.Mathlib.Numerals.{add-one}
-use Prim.Native.Nat.{◌<◌, ◌-◌}
-use mathlib.Core.Path.{◌≡◌, refl, ap, ◌∙◌}
+use mathlib.Core.Path.{refl, ap, ◌∙◌}
 use mathlib.Core.Logic.{inl, inr, ⊎_elim}
-use lib.ListN.{length}
 use Rattle.model.specs.Yard.{up}
-use Rattle.judge.specs.Climb.{above, Marked}
+use Rattle.judge.specs.Climb.{above}
 use Rattle.judge.proofs.Lists.{set_either}
 use Rattle.judge.proofs.Climb.{above_next}
 use Rattle.judge.proofs.circle.mark.Goals as goal
+
 -- no goal for overflow-cast-u
 
 pub loop-i-init : goal.loop-i-init

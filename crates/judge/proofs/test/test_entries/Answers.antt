@@ -1,7 +1,5 @@
 -- `judge::test::test_entries` meets its contract: each search answers the lowest node that the next test refuses, or the number of nodes.
-use mathlib.Core.Path.{sym, ◌∙◌}
-use borrow.Author.Rules.{rules}
-use Rattle.laws.proofs.Tests.{depth_unfit, pebbles_over, targets_over, parent_outside, entries_pass}
+use Rattle.laws.proofs.Tests.{pebbles_over, targets_over, parent_outside, entries_pass}
 use Rattle.judge.proofs.test.test_entries.Goals as goal
 
 pub returns-then-pebble-n : goal.returns-then-pebble-n

@@ -1,10 +1,10 @@
 -- `judge::test::test_lists` meets its contract: the lengths are tested first, and what they have passed is what the test of the entries requires.
 use mathlib.Core.Path.{sym, ap, ◌∙◌}
-use borrow.Author.Rules.{rules}
 use Rattle.model.specs.Yard.{Yard, yard_of}
 use Rattle.model.specs.Paper.{paper_done}
 use Rattle.laws.proofs.Tests.{passed_lengths, lists_lengths, lists_entries}
 use Rattle.judge.proofs.test.test_lists.Goals as goal
+
 -- no goal for enum-known-lengths
 -- no goal for enum-told
 

@@ -1,7 +1,6 @@
 -- `judge::test::test_shape` meets its contract: the searches answer the lowest root, the lowest node that does not climb to it, and the next root, or else the
 -- number of nodes.
 use native.Mathlib.Omega.{arith}
-use borrow.Author.Rules.{rules}
 use Rattle.laws.proofs.Tests.{no_root, second_root, on_circle, shape_pass}
 use Rattle.judge.proofs.test.test_shape.Goals as goal
 

@@ -1,11 +1,11 @@
 -- `judge::test::test_yard` meets its contract: the lists are tested entry by entry, and what they have passed is what the test of the shape requires.
 use mathlib.Core.Path.{sym, ap, ◌∙◌}
-use borrow.Author.Rules.{rules}
 use Rattle.model.specs.Yard.{Yard, yard_of}
 use Rattle.model.specs.Paper.{paper_done}
 use Rattle.laws.proofs.Judged.{flat}
 use Rattle.laws.proofs.Tests.{judge_lists, judge_shape}
 use Rattle.judge.proofs.test.test_yard.Goals as goal
+
 -- no goal for enum-known-lists
 -- no goal for enum-told
 

@@ -1,5 +1,4 @@
 -- `test_matched` is refused as the lists are. Of a tree the lists have one length, so their totals are those that refusal 7 compares.
-use borrow.Author.Rules.{rules}
 use native.Mathlib.Omega.{arith}
 use Prim.Native.Nat.{ℕ}
 use mathlib.Core.Path.{◌≡◌, sym, ap, ◌∙◌}
@@ -8,6 +7,7 @@ use Rattle.model.specs.Judge.{Tree}
 use Rattle.laws.proofs.Judged.{facts}
 use Rattle.laws.proofs.Calls.{sees, matched_refused, matched_totals, matched_none}
 use Rattle.judge.proofs.totals.test_matched.Goals as goal
+
 -- no goal for enum-known-tested
 -- no goal for enum-told
 

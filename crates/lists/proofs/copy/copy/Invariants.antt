@@ -1,13 +1,9 @@
 -- `copy` copies one list over another as long. The loop's invariant: the first `i` entries are copied and the others are as they were; at the end
 -- none of those is left. The measure is what is left of the list.
-use mathlib.Core.Path.{◌≡◌, refl, ◌∙◌}
-use mathlib.Core.List.{◌++◌, append-nil}
+use mathlib.Core.Path.{◌≡◌}
+use mathlib.Core.List.{◌++◌}
 use Prim.Native.Nat.{◌≤◌, ◌-◌}
-use native.Mathlib.Omega.{arith}
-use lib.ListN.{length, take, drop, length-set}
-use lib.Seq.{take-length, drop-length}
-use borrow.Author.Rules.{rules}
-use Rattle.lists.proofs.Copied.{copied}
+use lib.ListN.{length, take, drop}
 use Rattle.lists.proofs.copy.copy.Given as goal
 
 abbrev pub invariant-loop-i : goal.invariant-loop-i

@@ -1,10 +1,7 @@
 -- `farthest_outside`: after i turns the number is the most of the first i entries.
-use Prim.Native.Nat.{ℕ, ◌-◌, ◌≤◌, max}
-use mathlib.Core.Path.{◌≡◌, ap, ◌∙◌}
-use native.Mathlib.Omega.{arith}
-use native.Mathlib.Numerals.{add-one}
+use Prim.Native.Nat.{◌-◌, ◌≤◌, max}
+use mathlib.Core.Path.{◌≡◌}
 use lib.ListN.{length, get_or}
-use borrow.Author.Rules.{rules}
 use Rattle.model.specs.Yard as Yard
 use Rattle.lists.proofs.find.farthest_outside.Given as goal
 

@@ -2,7 +2,6 @@
 use Prim.Native.Nat.{◌-◌}
 use native.Mathlib.Omega.{arith}
 use lib.ListN.{get_or}
-use borrow.Author.Rules.{rules}
 use borrow.Author.Tests.{le-ltb}
 use Rattle.laws.proofs.Found.{missed}
 use Rattle.laws.proofs.Sums.{most_le}
@@ -10,6 +9,5 @@ use Rattle.lists.proofs.find.first_below.Goals as goal
 
 pub returns-then-farthest_below-eq0 : goal.returns-then-farthest_below-eq0
 returns-then-farthest_below-eq0 c =
-    
     let a = c.args in
     missed _ _ _ (λ v l. le-ltb (get_or a.list.now v 0) (get_or a.other.now v 0) (omega (arith, c.farthest_below.ensures, c.if-farthest_below-eq0.true, most_le (λ w. get_or a.other.now w 0 - get_or a.list.now w 0) _ v l)))

@@ -3,7 +3,6 @@ use Prim.Native.Nat.{◌-◌, max}
 use mathlib.Core.Path.{refl}
 use native.Mathlib.Omega.{arith}
 use lib.ListN.{get_or}
-use borrow.Author.Rules.{rules}
 use borrow.Author.Tests.{le-leb}
 use Rattle.laws.proofs.Found.{missed}
 use Rattle.laws.proofs.Sums.{most_le}
@@ -11,7 +10,6 @@ use Rattle.lists.proofs.find.first_outside.Goals as goal
 
 pub returns-then-farthest_outside-eq0 : goal.returns-then-farthest_outside-eq0
 returns-then-farthest_outside-eq0 c =
-    
     let a = c.args in
     missed _ _ _ (λ v l.
     let near = most_le (λ w. max (a.low - get_or a.list.now w 0) (get_or a.list.now w 0 - a.high)) _ v l in

@@ -1,16 +1,16 @@
 -- `first_own`: no index before it, from `start` on, is its own entry, so the first one met is the lowest, and past
 -- the end there is none.
-use Prim.Native.Nat.{ℕ, ◌-◌, ◌<◌, ◌≤◌}
+use Prim.Native.Nat.{ℕ, ◌≤◌}
 use mathlib.Core.Path.{◌≡◌}
-use mathlib.Core.Bool.{Bool, true, false, ◌&&◌, and-false}
+use mathlib.Core.Bool.{true}
 use mathlib.Core.List.{List}
 use native.Mathlib.Omega.{arith}
-use lib.ListN.{length, get_or}
-use lib.Dec.{leb, eqb}
-use borrow.Author.Tests.{eq-eqb, ne_eqb, le-leb, lt-leb}
-use Rattle.laws.proofs.Found.{found, missed, none_next}
+use lib.ListN.{get_or}
+use borrow.Author.Tests.{eq-eqb, le-leb}
+use Rattle.laws.proofs.Found.{found, missed}
 use Rattle.lists.proofs.find.first_own.Invariants.{own}
 use Rattle.lists.proofs.find.first_own.Goals as goal
+
 -- no goal for overflow-cast-if1
 
 own_is : (list : List ℕ) (start v : ℕ) → start ≤ v → get_or list v 0 ≡ v → own list start v ≡ true

@@ -1,13 +1,9 @@
 -- `look_below`: no entry before the index is below the other's, so the first one met is the lowest, and past the end there is none.
-use Prim.Native.Nat.{ℕ, ◌-◌, ◌<◌, ◌≤◌}
 use mathlib.Core.Path.{◌≡◌, ◌∙◌}
-use mathlib.Core.Bool.{false}
 use native.Mathlib.Omega.{arith}
-use lib.ListN.{length, get_or}
-use lib.Dec.{ltb}
-use borrow.Author.Rules.{rules}
-use borrow.Author.Tests.{lt-ltb, le-ltb}
-use Rattle.laws.proofs.Found.{found, missed, none_next}
+use lib.ListN.{length}
+use borrow.Author.Tests.{lt-ltb}
+use Rattle.laws.proofs.Found.{found, missed}
 use Rattle.lists.proofs.find.look_below.Goals as goal
 
 pub returns-then-list-i : goal.returns-then-list-i

@@ -1,14 +1,13 @@
 -- `look_for`: every entry before the index is below the limit, so the first one met is the lowest, and past the
 -- end there is none.
-use Prim.Native.Nat.{ℕ, ◌-◌, ◌<◌, ◌≤◌}
+use Prim.Native.Nat.{ℕ}
 use mathlib.Core.Path.{◌≡◌, ◌∙◌}
-use mathlib.Core.Bool.{false}
 use native.Mathlib.Omega.{arith}
 use lib.ListN.{length, get_or}
-use lib.Dec.{leb}
-use borrow.Author.Tests.{le-leb, lt-leb}
-use Rattle.laws.proofs.Found.{found, missed, none_next}
+use borrow.Author.Tests.{le-leb}
+use Rattle.laws.proofs.Found.{found, missed}
 use Rattle.lists.proofs.find.look_for.Goals as goal
+
 -- no goal for overflow-cast-if1
 
 -- the entry at the index
@@ -17,7 +16,6 @@ entry_then_list_i c = get_or c.args.list.now c.loop-i.i 0
 
 pub returns-then-list-i : goal.returns-then-list-i
 returns-then-list-i c =
-    
     found _ _ _ _ (omega arith) c.loop-i.invariant.1 (le-leb c.args.limit (entry_then_list_i c) (omega arith))
 
 pub returns : goal.returns

@@ -1,13 +1,10 @@
 -- `look_for`: every entry before the index is below the limit, so the first one met is the lowest, and past the
 -- end there is none.
 use Prim.Native.Nat.{ℕ, ◌-◌, ◌<◌, ◌≤◌}
-use mathlib.Core.Path.{◌≡◌, ◌∙◌}
+use mathlib.Core.Path.{◌≡◌}
 use mathlib.Core.Bool.{false}
-use native.Mathlib.Omega.{arith}
 use lib.ListN.{length, get_or}
 use lib.Dec.{leb}
-use borrow.Author.Tests.{le-leb, lt-leb}
-use Rattle.laws.proofs.Found.{found, missed, none_next}
 use Rattle.lists.proofs.find.look_for.Given as goal
 
 abbrev pub invariant-loop-i : goal.invariant-loop-i

@@ -2,11 +2,11 @@
 use borrow.Author.Rules.{rules}
 use native.Mathlib.Omega.{arith}
 use native.Mathlib.Numerals.{add-one}
-use Prim.Native.Nat.{ℕ, ◌-◌, ◌*◌, ◌≤◌, ◌<◌}
-use mathlib.Core.Path.{◌≡◌, ap, ◌∙◌}
-use lib.ListN.{length, get_or}
+use Prim.Native.Nat.{◌<◌}
+use lib.ListN.{get_or}
 use Rattle.model.specs.Yard.{sum}
 use Rattle.lists.proofs.total.total.Goals as goal
+
 -- no goal for overflow-cast-count
 
 byte : (c : goal.After-shared_slice_known-1) → get_or c.args.list.now c.loop-i.i 0 < 256

@@ -1,9 +1,6 @@
 -- `total` is the sum: after i turns the count is the sum of the first i entries. Each is at most 255, and there are at most 256, so it fits.
-use borrow.Author.Rules.{rules}
-use native.Mathlib.Omega.{arith}
-use native.Mathlib.Numerals.{add-one}
-use Prim.Native.Nat.{ℕ, ◌-◌, ◌*◌, ◌≤◌, ◌<◌}
-use mathlib.Core.Path.{◌≡◌, ap, ◌∙◌}
+use Prim.Native.Nat.{◌-◌, ◌*◌, ◌≤◌}
+use mathlib.Core.Path.{◌≡◌}
 use lib.ListN.{length, get_or}
 use Rattle.model.specs.Yard.{sum}
 use Rattle.lists.proofs.total.total.Given as goal
