@@ -24,7 +24,7 @@ use Rattle.laws.proofs.Ranges.{listed}
 use Rattle.laws.proofs.Judged.{facts}
 use Rattle.laws.proofs.Distance.{distance_lt}
 use Rattle.laws.proofs.Nearest.{is_nearest}
-use Rattle.distance.specs.Far.{unknown, Unknown, Asked, Least, is_within, nearest_or_none}
+use Rattle.distance.specs.Far.{unknown, Unknown, Distances, Asked, Least, is_within, nearest_or_none}
 
 -- nothing is known at first
 abbrev pub blanks : List ℕ
@@ -32,6 +32,11 @@ blanks = replicate 256 256
 
 pub blank : Unknown blanks
 blank v l = get_or-replicate 256 v 256 0 (omega (arith, length-replicate {A = ℕ} 256 256))
+
+-- where the yard is accepted and the node is one, its distances are known
+pub asked : {y : Yard} {a : ℕ} {pebbles far : List ℕ}
+    → Tree y → a < size y → y.pebbles ≡ pebbles → (Tree y → a < size y → Distances y a far) → Asked y a pebbles far
+asked t l p d = record { tree = t; node = l; counts = p; distances = d t l }
 
 -- past refusals 1 to 6 and 19
 pub nearest_rest : (y : Yard) (a : ℕ) → Tree y → a < size y → nearest_answer y a ≡ nearest_or_none y a

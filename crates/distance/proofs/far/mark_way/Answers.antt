@@ -1,29 +1,11 @@
--- `distance::far::mark_way` meets its contract: those that it passes lead to where it is (the laws are in Climbing), and in a tree the steps are the distances (Marking).
-use mathlib.Core.Path.{refl, sym, ◌∙◌}
+-- `distance::far::mark_way` meets its contract: those that it passes lead to where it is (the laws are in Climbing), and in a tree the
+-- steps are the distances (Marking).
+use mathlib.Core.Path.{refl, ◌∙◌}
 use mathlib.Core.Bool.{false≢true}
-use Prim.Native.Nat.{◌+◌, ◌-◌, ◌<◌}
 use native.Mathlib.Omega.{arith}
-use lib.ListN.{length, get_or, set}
-use Rattle.model.specs.Yard.{Yard}
-use Rattle.distance.specs.Far.{From}
-use Rattle.distance.proofs.Climbing.{Leading, lead_first, lead_entries, lead_root, lead_next}
-use Rattle.distance.proofs.Marking.{as_long, up_is, own_root, root_own, Marking, mark_first, mark_few, mark_next, mark_last}
-use Rattle.distance.proofs.far.mark_way.Goals.{After-shared_slice_known-1, At-loop-w, Else-p-w, Else-steps-parents, Then-steps-parents}
+use Rattle.distance.proofs.Climbing.{lead_first, lead_entries, lead_root, lead_next}
+use Rattle.distance.proofs.Marking.{as_long, up_is, own_root, root_own, mark_first, mark_few, mark_next, mark_last}
 use Rattle.distance.proofs.far.mark_way.Goals as goal
--- no goal for same-length
--- no goal for same-length-2
-
--- up to the next, in a tree
-onward_then_steps_parents : (c : Then-steps-parents) (y : Yard)
-    → let s = c.args in
-    (f : From y s.parents.now s.node) → Marking f s.list.now (set c.loop-w.list c.loop-w.w c.loop-w.steps) (get_or s.parents.now c.loop-w.w 0) (c.loop-w.steps + 1)
-onward_then_steps_parents c y f = rw (up_is f c.loop-w.w) (mark_next f (c.loop-w.invariant.1 y f) (λ q. c.if-p-w.false (root_own f _ q)))
-
--- up to the next, in a tree
-onward_else_steps_parents : (c : Else-steps-parents) (y : Yard)
-    → let s = c.args in
-    (f : From y s.parents.now s.node) → Marking f s.list.now (set c.loop-w.list c.loop-w.w c.loop-w.steps) (get_or s.parents.now c.loop-w.w 0) (c.loop-w.steps + 1)
-onward_else_steps_parents c y f = rw (up_is f c.loop-w.w) (mark_next f (c.loop-w.invariant.1 y f) (λ q. c.if-p-w.false (root_own f _ q)))
 
 pub loop-w-init : goal.loop-w-init
 loop-w-init c = let p = c.requires in (lead_first p.0 p.1 p.2 p.3, λ y f. mark_first f (p.1.long ∙ as_long f))
@@ -33,14 +15,21 @@ returns-then-p-w c =
     let p = c.requires in
     let h = c.loop-w.invariant.0 in record {
       entries = (lead_entries p.0 h, λ _. (_, lead_root p.0 h c.if-p-w.true));
-      value = λ y f. let m = c.loop-w.invariant.1 y f in (refl, mark_last f m p.2 (p.1.long ∙ as_long f) (own_root f _ m.climbed.node_lt c.if-p-w.true));
+      value = λ y f.
+          let m = c.loop-w.invariant.1 y f in
+          (refl, mark_last f m p.2 (p.1.long ∙ as_long f) (own_root f _ m.climbed.node_lt c.if-p-w.true));
     }
 
 pub returns-then-steps-parents : goal.returns-then-steps-parents
 returns-then-steps-parents c = record {
-      entries = (lead_entries c.requires.0 c.loop-w.invariant.0, λ q. absurd (false≢true q));
-      value = λ y f. absurd (omega (arith, mark_few f (onward_then_steps_parents c y f), c.if-steps-parents.true, as_long f));
-    }
+  entries = (lead_entries c.requires.0 c.loop-w.invariant.0, λ q. absurd (false≢true q));
+  value = λ y f.
+      let next = mark_next f (c.loop-w.invariant.1 y f) (λ q. c.if-p-w.false (root_own f _ q)) in
+      absurd (omega (arith, mark_few f next, c.if-steps-parents.true, as_long f));
+}
 
 pub loop-w-preserved : goal.loop-w-preserved
-loop-w-preserved c = (lead_next c.requires.0 c.loop-w.invariant.0 c.if-steps-parents.false, λ y f. onward_else_steps_parents c y f)
+loop-w-preserved c = (
+  lead_next c.requires.0 c.loop-w.invariant.0 c.if-steps-parents.false,
+  λ y f. rw (up_is f c.loop-w.w) (mark_next f (c.loop-w.invariant.1 y f) (λ q. c.if-p-w.false (root_own f _ q))),
+)

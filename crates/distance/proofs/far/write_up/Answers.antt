@@ -1,17 +1,9 @@
--- `distance::far::write_up` meets its contract: what it writes leads to a node that was known (the laws are in Climbing), in a tree by its distance (Marking).
-use mathlib.Core.Path.{◌≡◌, sym, ◌∙◌}
-use Prim.Native.Nat.{ℕ, ◌<◌}
+-- `distance::far::write_up` meets its contract: what it writes leads to a node that was known (the laws are in Climbing), in a tree by its
+-- distance (Marking).
 use native.Mathlib.Omega.{arith}
-use lib.ListN.{length}
-use Rattle.model.specs.Yard.{Yard}
-use Rattle.model.specs.Distance.{distance}
-use Rattle.distance.specs.Far.{From, Partly}
-use Rattle.distance.proofs.Climbing.{Writes, writes_first, steps_some, writes_next, writes_last}
-use Rattle.distance.proofs.Marking.{as_long, up_is, Writing, write_next}
-use Rattle.distance.proofs.far.write_up.Goals.{After-shared_slice_known-1-unread, After-slice_known-1, At-loop-list, In-loop-list}
+use Rattle.distance.proofs.Climbing.{steps_some, writes_next, writes_last}
+use Rattle.distance.proofs.Marking.{up_is, write_next}
 use Rattle.distance.proofs.far.write_up.Goals as goal
--- no goal for overflow-cast-w
--- no goal for same-length
 
 pub overflow_sub-steps : goal.overflow_sub-steps
 overflow_sub-steps c = omega (arith, steps_some c.loop-list.invariant.0 c.loop-list-test.true)
@@ -22,8 +14,10 @@ loop-list-smaller c = omega (arith, steps_some c.loop-list.invariant.0 c.loop-li
 pub loop-list-preserved : goal.loop-list-preserved
 loop-list-preserved c =
     let i = c.loop-list.invariant in
-    let p = c.requires in
-    (writes_next i.0 c.loop-list-test.true p.0, λ y a f q e. rw (up_is f c.loop-list.w) (write_next f (i.1 y a f q e) c.loop-list-test.true))
+    let p = c.requires in (
+      writes_next i.0 c.loop-list-test.true p.0,
+      λ y a f q e. rw (up_is f c.loop-list.w) (write_next f (i.1 y a f q e) c.loop-list-test.true),
+    )
 
 pub returns : goal.returns
 returns c =

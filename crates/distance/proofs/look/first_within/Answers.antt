@@ -1,13 +1,10 @@
 -- `distance::look::first_within` meets its contract: no node passed holds a pebble within reach.
 use mathlib.Core.Path.{◌≡◌, refl, sym, ◌∙◌}
-use mathlib.Core.Logic.{◌≢◌}
 use mathlib.Core.Bool.{Bool, true, false}
-use Prim.Native.Nat.{ℕ, ◌-◌, ◌≤◌, ◌<◌}
 use native.Mathlib.Omega.{arith}
 use lib.ListN.{length}
-use borrow.Author.Rules.{rules}
 use Rattle.model.specs.Yard.{one}
-use Rattle.laws.proofs.Found.{found, missed, none_next}
+use Rattle.laws.proofs.Found.{found, missed}
 use Rattle.distance.specs.Far.{is_within}
 use Rattle.distance.proofs.look.first_within.Goals as goal
 
@@ -18,7 +15,8 @@ is_one false e = absurd (omega (arith, e))
 pub returns-then-in_reach-eq1 : goal.returns-then-in_reach-eq1
 returns-then-in_reach-eq1 c =
     let s = c.args in
-    found _ _ _ (is_within s.pebbles.now s.far.now s.reach) c.loop-v-test.true c.loop-v.invariant.1 (is_one _ (sym c.in_reach.ensures ∙ c.if-in_reach-eq1.true))
+    let e = is_one _ (sym c.in_reach.ensures ∙ c.if-in_reach-eq1.true) in
+    found _ _ _ (is_within s.pebbles.now s.far.now s.reach) c.loop-v-test.true c.loop-v.invariant.1 e
 
 pub returns : goal.returns
 returns c =

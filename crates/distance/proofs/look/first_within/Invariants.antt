@@ -1,13 +1,8 @@
 -- `distance::look::first_within` meets its contract: no node passed holds a pebble within reach.
-use mathlib.Core.Path.{◌≡◌, refl, sym, ◌∙◌}
-use mathlib.Core.Logic.{◌≢◌}
-use mathlib.Core.Bool.{Bool, true, false}
+use mathlib.Core.Path.{◌≡◌}
+use mathlib.Core.Bool.{false}
 use Prim.Native.Nat.{ℕ, ◌-◌, ◌≤◌, ◌<◌}
-use native.Mathlib.Omega.{arith}
 use lib.ListN.{length}
-use borrow.Author.Rules.{rules}
-use Rattle.model.specs.Yard.{one}
-use Rattle.laws.proofs.Found.{found, missed, none_next}
 use Rattle.distance.specs.Far.{is_within}
 use Rattle.distance.proofs.look.first_within.Given as goal
 

@@ -1,5 +1,4 @@
 -- `distance::look::nearest_of` meets its contract (the laws are in Pebbles).
-use borrow.Author.Rules.{rules}
 use native.Mathlib.Omega.{arith}
 use Rattle.distance.proofs.Pebbles.{as_many, least_none, least_first}
 use Rattle.distance.proofs.look.nearest_of.Goals as goal
