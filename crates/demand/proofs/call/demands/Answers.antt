@@ -1,6 +1,5 @@
 -- `demands` is refused as the lists are, and then if its own list has another length than theirs; or else `fill`, whose requirements these
 -- tests are, writes the demands.
-use borrow.Author.Rules.{rules}
 use native.Mathlib.Omega.{arith}
 use Rattle.model.specs.Yard.{Yard, yard_of}
 use Rattle.model.specs.Judge.{Tree}

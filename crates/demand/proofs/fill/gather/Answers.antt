@@ -1,10 +1,9 @@
 -- `gather` writes the demands of a tree. The state is `Partial` all the way: no node before v is ready, and in a climb none up to v but u, so none is left
 -- where the climb ends, and in the end none at all. Each step of a climb leaves one node less that waits, so it ends.
-use borrow.Author.Count.{below_more}
 use native.Mathlib.Omega.{arith}
-use Prim.Native.Nat.{ℕ, ◌+◌, ◌-◌, ◌≤◌, ◌<◌}
+use Prim.Native.Nat.{ℕ, ◌<◌}
 use mathlib.Core.List.{List}
-use mathlib.Core.Path.{◌≡◌, refl, sym, ap, ◌∙◌}
+use mathlib.Core.Path.{◌≡◌, sym, ap, ◌∙◌}
 use lib.IntN.{ℤ, pos, nat_abs, ◌+ℤ◌}
 use lib.ListN.{length, get_or}
 use mir.Syntax.{w16}

@@ -1,5 +1,4 @@
 -- `tree_demands` is refused as the lists are, then as the parents' shape is where gathering leaves more than the root; or else what is gathered are the demands.
-use borrow.Author.Rules.{rules}
 use native.Mathlib.Omega.{arith}
 use Prim.Native.Nat.{ℕ, ◌≤◌}
 use mathlib.Core.Path.{◌≡◌, sym, ap, ◌∙◌}
@@ -75,7 +74,7 @@ returns-then-left-ne1 c =
     let y = yard_after_test_shape c in
     let g = c.gather-left in
     let room : length y.parents ≤ length (g.new.list ++ drop (length y.parents) c.args.list.now) =
-        omega (arith, length-append {A = ℤ} g.new.list (drop (length y.parents) c.args.list.now), g.ensures.long) in record {
+    omega (arith, length-append {A = ℤ} g.new.list (drop (length y.parents) c.args.list.now), g.ensures.long) in record {
       result_value = c.test_shape.ensures ∙ judge_shape y (sym (passed_after_test_shape c));
       list_value = ap (λ (rest : List ℤ). c.clear.new.list ++ rest) (drop_at g.new.list _ (length y.parents) g.ensures.long)
           ∙ then-shape y _ (passed_after_test_shape c) (λ t. c.if-left-ne1.true (g.ensures.tree t))
