@@ -24,16 +24,16 @@ pub slice_bounds-list-end : goal.slice_bounds-list-end
 slice_bounds-list-end c = demands-room (yard_after_shared_slice_known_4_1 c) c.requires
 
 pub slice_bounds-fill-end : goal.slice_bounds-fill-end
-slice_bounds-fill-end c = sym (length-take-le _ _ (array-borrow-prefix-list c))
+slice_bounds-fill-end c = sym (length-take-le _ _ (demands-room (yard_of c.args.parents.now c.args.pebbles.now c.args.targets.now c.args.depths.now) c.requires))
 
 pub fill-requires : goal.fill-requires
-fill-requires c = (c.requires, length-take-le _ _ (array-borrow-prefix-list c))
+fill-requires c = (c.requires, length-take-le _ _ (demands-room (yard_of c.args.parents.now c.args.pebbles.now c.args.targets.now c.args.depths.now) c.requires))
 
 pub slice_bounds-list-end-2 : goal.slice_bounds-list-end-2
 slice_bounds-list-end-2 c = simp length-append (omega (arith, demands_long (yard_after_list_2_1 c) c.fill.ensures))
 
 pub slice_bounds-sizes-end : goal.slice_bounds-sizes-end
-slice_bounds-sizes-end c = sym (length-take-le _ _ (array-share-prefix-list c))
+slice_bounds-sizes-end c = sym (length-take-le _ _ (simp length-append (omega (arith, demands_long (yard_of c.args.parents.now c.args.pebbles.now c.args.targets.now c.args.depths.now) c.fill.ensures))))
 
 pub sizes-requires : goal.sizes-requires
 sizes-requires c =

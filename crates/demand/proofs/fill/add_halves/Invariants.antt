@@ -1,10 +1,7 @@
 -- `add_halves` adds: after u turns the first u numbers are 1 and their two counts, since a turn writes entry u and no other. That is 257 at most and fits.
-use borrow.Author.Count.{below_more}
-use native.Mathlib.Omega.{arith}
 use Prim.Native.Nat.{ℕ, ◌+◌, ◌-◌, ◌≤◌, ◌<◌}
-use mathlib.Core.Path.{◌≡◌, refl, ◌∙◌}
-use lib.ListN.{length, get_or, length-set}
-use lib.Seq.{get_or-set_same, get_or-set_other}
+use mathlib.Core.Path.{◌≡◌}
+use lib.ListN.{length, get_or}
 use Rattle.demand.proofs.fill.add_halves.Given as goal
 
 abbrev pub invariant-loop-u : goal.invariant-loop-u

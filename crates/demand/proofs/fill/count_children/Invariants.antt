@@ -1,18 +1,11 @@
 -- `count_children` counts: after v turns each count is how many of the first v nodes have their place there, since a turn adds 1 at one place. That is
 -- 256 at most and fits. A node's place is its parent's in one of the halves, so both counts of u together are how many nodes have parent u.
-use native.Mathlib.Omega.{arith}
-use native.Mathlib.Numerals.{add-one}
-use native.Mathlib.Decide.{ℕ_discrete}
 use Prim.Native.Nat.{ℕ, ◌+◌, ◌-◌, ◌*◌, ◌%◌, ◌≤◌, ◌<◌}
 use mathlib.Core.List.{List}
-use mathlib.Core.Path.{◌≡◌, refl, sym, ap, ◌∙◌}
-use lib.ListN.{length, get_or, length-set, get_or-replicate}
+use mathlib.Core.Path.{◌≡◌}
+use lib.ListN.{length, get_or}
 use lib.Dec.{eqb}
-use borrow.Author.Tests.{eq-eqb, ne_eqb}
 use Rattle.model.specs.Yard.{up, one, sum}
-use Rattle.laws.proofs.Basics.{one_le, eqb_sym}
-use Rattle.laws.proofs.Sums.{sum_le, sum_add, sum_cong}
-use Rattle.demand.proofs.Lists.{stored}
 use Rattle.demand.proofs.fill.count_children.Given as goal
 
 -- the place of node v

@@ -1,10 +1,10 @@
 -- `fill` gathers a list that meets equation 2 at every node of a tree: the list of the demands.
-use borrow.Author.Rules.{rules}
 use Rattle.model.specs.Yard.{Yard, yard_of}
 use Rattle.laws.proofs.Judged.{tree_lists}
 use Rattle.laws.proofs.Equation2.{only_demands}
 use Rattle.demand.proofs.fill.fill.Goals.{After-gather-arg-1, After-list-1}
 use Rattle.demand.proofs.fill.fill.Goals as goal
+
 -- no goal for same-length
 
 abbrev yard_after_gather_arg_1 : After-gather-arg-1 → Yard

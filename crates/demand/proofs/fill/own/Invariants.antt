@@ -1,14 +1,9 @@
 -- `own` writes the differences: after v turns the first v entries are those of their marks, since a turn writes entry v, as `difference`
 -- gives it, and no other.
-use borrow.Author.Count.{below_more}
-use native.Mathlib.Omega.{arith}
 use Prim.Native.Nat.{ℕ, ◌-◌, ◌≤◌, ◌<◌}
-use mathlib.Core.Path.{◌≡◌, refl, ◌∙◌}
+use mathlib.Core.Path.{◌≡◌}
 use lib.IntN.{pos, sub_ℕ}
-use lib.ListN.{length, get_or, length-set}
-use lib.Seq.{get_or-set_same, get_or-set_other}
-use mir.Syntax.{w16}
-use mir.ValLaws.{to_z-of_z}
+use lib.ListN.{length, get_or}
 use Rattle.demand.proofs.fill.own.Given as goal
 
 abbrev pub invariant-loop-v : goal.invariant-loop-v

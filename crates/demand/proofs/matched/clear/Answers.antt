@@ -1,12 +1,11 @@
 -- `clear` writes zeros: after i turns the first i entries are 0, since a turn writes entry i and no other.
-use borrow.Author.Count.{below_more}
 use native.Mathlib.Omega.{arith}
-use Prim.Native.Nat.{ℕ, ◌-◌, ◌≤◌, ◌<◌}
-use mathlib.Core.Path.{◌≡◌, refl, sym, ◌∙◌}
+use mathlib.Core.Path.{sym, ◌∙◌}
 use lib.IntN.{ℤ, pos}
-use lib.ListN.{length, get_or, length-set, length-replicate, get_or-replicate}
-use lib.Seq.{get_or-set_same, get_or-set_other, ext_get_or}
+use lib.ListN.{length, length-replicate, get_or-replicate}
+use lib.Seq.{ext_get_or}
 use Rattle.demand.proofs.matched.clear.Goals as goal
+
 -- no goal for same-length
 
 pub returns : goal.returns

@@ -1,11 +1,8 @@
 -- `clear` writes zeros: after i turns the first i entries are 0, since a turn writes entry i and no other.
-use borrow.Author.Count.{below_more}
-use native.Mathlib.Omega.{arith}
 use Prim.Native.Nat.{ℕ, ◌-◌, ◌≤◌, ◌<◌}
-use mathlib.Core.Path.{◌≡◌, refl, sym, ◌∙◌}
-use lib.IntN.{ℤ, pos}
-use lib.ListN.{length, get_or, length-set, length-replicate, get_or-replicate}
-use lib.Seq.{get_or-set_same, get_or-set_other, ext_get_or}
+use mathlib.Core.Path.{◌≡◌}
+use lib.IntN.{pos}
+use lib.ListN.{length, get_or}
 use Rattle.demand.proofs.matched.clear.Given as goal
 
 abbrev pub invariant-loop-i : goal.invariant-loop-i

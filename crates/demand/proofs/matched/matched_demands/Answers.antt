@@ -1,5 +1,4 @@
 -- `matched_demands` is refused as the yard is, then by the root's demand.
-use borrow.Author.Rules.{rules}
 use native.Mathlib.Omega.{arith}
 use Prim.Native.Nat.{◌<◌}
 use mathlib.Core.Path.{◌≡◌, sym, ap, ◌∙◌}
@@ -19,6 +18,7 @@ use Rattle.demand.proofs.Answers.{demands-at, then-front}
 use Rattle.demand.proofs.Refused.{root_demand}
 use Rattle.demand.proofs.matched.matched_demands.Goals.{After-first_own-root, Else-list-root-ne0, Then-list-root-ne0}
 use Rattle.demand.proofs.matched.matched_demands.Goals as goal
+
 -- no goal for enum-known-tested
 -- no goal for same-length
 -- no goal for enum-told
@@ -75,9 +75,9 @@ matched c =
 
 pub returns-in-Refused : goal.returns-in-Refused
 returns-in-Refused c = record {
-      result_value = sym (matched_refused _ (sees c.tree_demands-tested.ensures.result_value c.in-Refused.is));
-      list_value = c.tree_demands-tested.ensures.list_value;
-    }
+  result_value = sym (matched_refused _ (sees c.tree_demands-tested.ensures.result_value c.in-Refused.is));
+  list_value = c.tree_demands-tested.ensures.list_value;
+}
 
 pub offset_bounds-list-root : goal.offset_bounds-list-root
 offset_bounds-list-root c = omega (arith, within c)
@@ -94,6 +94,6 @@ returns-then-list-root-ne0 c =
 
 pub returns : goal.returns
 returns c = record {
-      result_value = sym (matched_none (yard_else_list_root_ne0 c) (tree_else_list_root_ne0 c) (matched c));
-      list_value = c.tree_demands-tested.ensures.list_value;
-    }
+  result_value = sym (matched_none (yard_else_list_root_ne0 c) (tree_else_list_root_ne0 c) (matched c));
+  list_value = c.tree_demands-tested.ensures.list_value;
+}

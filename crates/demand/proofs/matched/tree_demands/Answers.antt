@@ -1,7 +1,6 @@
 -- `tree_demands` is refused as the lists are, then as the parents' shape is where gathering leaves more than the root; or else what is gathered are the demands.
-use borrow.Author.Rules.{rules}
 use native.Mathlib.Omega.{arith}
-use Prim.Native.Nat.{ℕ}
+use Prim.Native.Nat.{ℕ, ◌≤◌}
 use mathlib.Core.Path.{◌≡◌, sym, ap, ◌∙◌}
 use mathlib.Core.Option.{none}
 use mathlib.Core.List.{List, ◌++◌}
@@ -18,10 +17,6 @@ use Rattle.laws.proofs.Equation2.{only_demands}
 use Rattle.demand.proofs.Answers.{then-lists, then-shape, then_tree}
 use Rattle.demand.proofs.matched.tree_demands.Goals.{After-gather-arg-1, After-list-then-left-ne1-1, After-test_shape, Else-left-ne1, In_default}
 use Rattle.demand.proofs.matched.tree_demands.Goals as goal
--- no goal for enum-known-lists
--- no goal for enum-told
--- no goal for same-length
--- no goal for same-length-2
 
 abbrev yard_after_test_shape : After-test_shape → Yard
 yard_after_test_shape e = let a = e.args in yard_of a.parents.now a.pebbles.now a.targets.now a.depths.now
@@ -76,11 +71,14 @@ test_shape-requires c = let f = lists_after_list_then_left_ne1_1 c in record { f
 
 pub returns-then-left-ne1 : goal.returns-then-left-ne1
 returns-then-left-ne1 c =
-    let y = yard_after_test_shape c in record {
+    let y = yard_after_test_shape c in
+    let g = c.gather-left in
+    let room : length y.parents ≤ length (g.new.list ++ drop (length y.parents) c.args.list.now) =
+    omega (arith, length-append {A = ℤ} g.new.list (drop (length y.parents) c.args.list.now), g.ensures.long) in record {
       result_value = c.test_shape.ensures ∙ judge_shape y (sym (passed_after_test_shape c));
-      list_value = ap (λ (rest : List ℤ). c.clear.new.list ++ rest) (drop_at c.gather-left.new.list _ (length y.parents) c.gather-left.ensures.long)
-          ∙ then-shape y _ (passed_after_test_shape c) (λ t. c.if-left-ne1.true (c.gather-left.ensures.tree t))
-          (c.clear.ensures ∙ ap (λ (n : ℕ). replicate n (pos 0)) (length-take-le _ _ (slice-relend-prefix-clear c)));
+      list_value = ap (λ (rest : List ℤ). c.clear.new.list ++ rest) (drop_at g.new.list _ (length y.parents) g.ensures.long)
+          ∙ then-shape y _ (passed_after_test_shape c) (λ t. c.if-left-ne1.true (g.ensures.tree t))
+          (c.clear.ensures ∙ ap (λ (n : ℕ). replicate n (pos 0)) (length-take-le _ _ room));
     }
 
 pub returns : goal.returns

@@ -1,17 +1,10 @@
 -- `sizes` is the sum: after i turns the total is the sum of the sizes of the first i demands. Each is at most 2,048, and there are at most 256,
 -- so it fits.
-use borrow.Author.Rules.{rules}
-use native.Mathlib.Omega.{arith}
-use native.Mathlib.Numerals.{add-one}
-use Prim.Native.Nat.{ℕ, ◌-◌, ◌*◌, ◌≤◌}
-use mathlib.Core.Path.{◌≡◌, ap, ◌∙◌}
-use lib.IntN.{ℤ, pos, nat_abs}
+use Prim.Native.Nat.{◌-◌, ◌*◌, ◌≤◌}
+use mathlib.Core.Path.{◌≡◌}
+use lib.IntN.{pos, nat_abs}
 use lib.ListN.{length, get_or}
-use mir.Syntax.{w16}
-use mir.Val.{to_z, of_z}
-use mir.ValLaws.{to_z-of_z}
-use Rattle.model.specs.Yard.{sum, max_demand}
-use Rattle.demand.proofs.Numbers.{small_fits}
+use Rattle.model.specs.Yard.{sum}
 use Rattle.demand.proofs.signed.sizes.Given as goal
 
 abbrev pub invariant-loop-i : goal.invariant-loop-i
