@@ -21,17 +21,15 @@ declared() { sed -n 's/^uint32_t \(javendriky_[a-z_]*\)(.*/\1/p' "$top/include/j
 
 # A checksum of all that the kit proves and compiles.
 sources() {
-    (cd "$top" && find crates.txt crates -path '*/must-fail' -prune -o -type f -print0 | LC_ALL=C sort -z |
+    (cd "$top" && find crates.txt crates \( -path '*/must-fail' -o -path '*/out' \) -prune -o -type f -print0 | LC_ALL=C sort -z |
         xargs -0 sha256sum | sha256sum | cut -d ' ' -f 1)
 }
 
 # Builds the programs and the library in target/ where they are missing, or were made from other
-# sources or with another kit. The kit tells of the programs what they were made from; of the
-# library a file here does, as the kit proves it anew each time. Without the kit, what was made from
-# these sources is taken.
+# sources or with another kit, of which a file there tells. Without the kit, what was made from these
+# sources is taken.
 build_all() {
     local made=$top/target/made-from sum kit
-    kit_run() { (cd "$top" && rt "$@" 2>&1) | sed -un "/ proved (unchanged /d; /^rt: ok, /d; s/^rt: /$name: /p" >&2; } # WORD…
     sum=$(sources)
     if ! command -v rt >/dev/null; then
         case $(cat "$made" 2>/dev/null) in *" $sum") return 0 ;; esac
@@ -39,10 +37,10 @@ build_all() {
             'put its folder bin/, which holds the command rt, on the PATH'
     fi
     kit=$(rt version)
-    kit_run check "${programs[@]}" || fail "the programs could not be built: run 'rt check ${programs[*]}' to see why"
     if [ ! -e "$top/$library" ] || [ "$(cat "$made" 2>/dev/null)" != "$kit $sum" ]; then
         rm -f "$made"
-        kit_run staticlib javendriky || fail "the library could not be built: run 'rt staticlib javendriky' to see why"
+        "$top/tools/build" "${programs[@]}" javendriky >&2 ||
+            fail "the programs and the library could not be built: run 'tools/build ${programs[*]} javendriky' to see why"
         echo "$kit $sum" >"$made"
     fi
 }

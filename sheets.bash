@@ -66,14 +66,13 @@ build() { # PROGRAM WHAT CRATE…
         return 0
     fi
     crates=("${@:3}" "$1")
-    newer() { (cd "$top" && find crates.txt "${crates[@]/#/crates/}" -newer "$program" -print -quit); }
+    newer() { (cd "$top" && find crates.txt "${crates[@]/#/crates/}" -path '*/out' -prune -o -newer "$program" -print -quit); }
     if [ -x "$program" ] && [ -z "$(newer)" ]; then return; fi
     command -v rt >/dev/null ||
-        fail "the Rattle kit is missing, and $what is still to be built with it: unpack the kit (rattle-kit-5b)" \
+        fail "the Rattle kit is missing, and $what is still to be built with it: unpack the kit (rattle-kit-13f)" \
             "and put its folder bin/, which holds the command rt, on the PATH"
     say "proving and building $what; the first time takes a few minutes"
-    (cd "$top" && rt check "$1" 2>&1) | sed -un "s/^rt: /$name: /p" >&2 ||
-        fail "$what could not be built: run 'rt check $1' in $top to see why"
+    "$top/tools/build" "$1" >/dev/null 2>&1 || fail "$what could not be built: run 'tools/build $1' in $top to see why"
     touch "$program"
 }
 
