@@ -1,16 +1,12 @@
 -- `put_decimal` writes the digits of a number from the last to the first: what is left to write, written over the list so far, is the number
 -- written over the list as it was. The measure is what is left of the number.
-use mathlib.Core.Path.{◌≡◌, refl, ◌∙◌}
-use Prim.Native.Nat.{◌+◌, ◌/◌, ◌<◌}
+use mathlib.Core.Path.{refl, ◌∙◌}
+use Prim.Native.Nat.{◌/◌}
 use native.Mathlib.Omega.{arith}
-use lib.ListN.{length, length-set}
-use lib.Seq.{sets}
-use borrow.Author.Rules.{rules}
-use Rattle.model.specs.Sheets.{decimal}
+use lib.ListN.{length-set}
 use Rattle.sheet.proofs.Decimals.{length_high, length_some}
 use Rattle.sheet.proofs.Writing.{put_digit, put_first}
 use Rattle.sheet.proofs.decimal.put_decimal.Goals as goal
--- no goal for same-length
 
 pub overflow_sub-i : goal.overflow_sub-i
 overflow_sub-i c = omega (arith, length_some c.args.n)

@@ -1,9 +1,7 @@
 -- `put_text` copies a text byte by byte: those from `i` on are left. The measure is how many.
 use Prim.Native.Nat.{◌+◌, ◌-◌, ◌≤◌}
-use native.Mathlib.Nat.{add-zero, add_assoc}
-use native.Mathlib.Omega.{arith}
-use lib.ListN.{length, drop, drop_of_length-le}
-use Rattle.sheet.proofs.Writing.{written_byte, Left, left_all, left_length, left_next, left_none, drop_next}
+use lib.ListN.{length, drop}
+use Rattle.sheet.proofs.Writing.{Left}
 use Rattle.sheet.proofs.decimal.put_text.Given as goal
 
 abbrev pub invariant-loop-i : goal.invariant-loop-i

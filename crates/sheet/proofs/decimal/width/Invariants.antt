@@ -1,10 +1,8 @@
 -- `width` counts the digits of a number: each tenth has one fewer, and a number below 10 has one. The measure is what is left of the number.
 use mathlib.Core.Path.{◌≡◌}
 use Prim.Native.Nat.{◌+◌, ◌≤◌}
-use native.Mathlib.Omega.{arith}
 use lib.ListN.{length}
 use Rattle.model.specs.Sheets.{decimal}
-use Rattle.sheet.proofs.Decimals.{length_low, length_high}
 use Rattle.sheet.proofs.decimal.width.Given as goal
 
 abbrev pub invariant-loop-rest : goal.invariant-loop-rest

@@ -1,13 +1,8 @@
 -- `put_line` writes value after value, each with the byte that ends it: the line from value `i` on is left. The measure is the values left.
-use mathlib.Core.Path.{◌≡◌, ap}
-use mathlib.Core.List.{[], ◌∷◌}
-use Prim.Native.Nat.{ℕ, ◌+◌, ◌-◌, ◌≤◌, ◌<◌}
-use native.Mathlib.Omega.{arith}
-use lib.ListN.{length, drop, get_or}
-use borrow.Author.Rules.{rules}
-use Rattle.model.specs.Sheets.{decimal, line}
-use Rattle.sheet.proofs.Rows.{line_next, length_line_next, line_end}
-use Rattle.sheet.proofs.Writing.{written_append, written_as, written_byte, Left, left_all, left_length, left_next, left_none}
+use Prim.Native.Nat.{◌-◌, ◌≤◌}
+use lib.ListN.{length, drop}
+use Rattle.model.specs.Sheets.{line}
+use Rattle.sheet.proofs.Writing.{Left}
 use Rattle.sheet.proofs.line.put_line.Given as goal
 
 abbrev pub invariant-loop-i : goal.invariant-loop-i

@@ -1,17 +1,10 @@
 -- `put_moves` writes the head of 8 bytes and then a line for each move: the lines from byte i of the plan on are left. The measure is the bytes left.
-use mathlib.Core.Path.{refl, ◌∙◌}
-use Prim.Native.Nat.{◌+◌, ◌-◌, ◌≤◌}
 use native.Mathlib.Omega.{arith}
-use lib.ListN.{length}
 use Rattle.model.specs.Sheets.{text}
 use Rattle.sheet.specs.Written.{Written}
-use Rattle.sheet.proofs.Rows.{moves, moves_next, moves_end, moves_all, length_moves, length_moves_next}
-use Rattle.sheet.proofs.Writing.{written_as, written_append, Left, left_all, left_length, left_next, left_none}
+use Rattle.sheet.proofs.Rows.{moves_next, moves_end, moves_all, length_moves, length_moves_next}
+use Rattle.sheet.proofs.Writing.{written_as, written_append, left_length, left_next, left_none}
 use Rattle.sheet.proofs.output.put_moves.Goals as goal
--- no goal for slice-aggregate-put-text
--- no goal for overflow-cast-from
--- no goal for overflow-cast-to
--- no goal for same-length
 
 pub put_line-at-requires : goal.put_line-at-requires
 put_line-at-requires c =

@@ -1,10 +1,8 @@
 -- `put_pair` writes the head and a line of two values, which takes at most 14 bytes.
 use native.Mathlib.Omega.{arith}
-use borrow.Author.Rules.{rules}
 use Rattle.sheet.proofs.Rows.{length_pair}
 use Rattle.sheet.proofs.Writing.{written_append, written_front}
 use Rattle.sheet.proofs.output.put_pair.Goals as goal
--- no goal for same-length
 
 pub put_line-requires : goal.put_line-requires
 put_line-requires c =
@@ -13,5 +11,6 @@ put_line-requires c =
 pub returns : goal.returns
 returns c =
     let p = c.put_text-at.ensures in
-    written_front (written_append p c.put_line.ensures)
-    (omega (arith, c.put_line.ensures.end, p.end, c.requires.2, length_pair c.args.first c.args.second c.requires.0 c.requires.1))
+    let short = length_pair c.args.first c.args.second c.requires.0 c.requires.1 in
+    let f = written_front (written_append p c.put_line.ensures) (omega (arith, c.put_line.ensures.end, p.end, c.requires.2, short)) in
+    record { value = f.0; out_value = f.1 }

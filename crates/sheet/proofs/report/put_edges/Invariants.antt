@@ -1,12 +1,8 @@
 -- `put_edges` has written, before each turn, the lines of the edges below v. The measure is the nodes left.
-use mathlib.Core.Path.{◌≡◌, sym, ap}
 use Prim.Native.Nat.{◌-◌, ◌≤◌}
-use native.Mathlib.Omega.{arith}
 use lib.ListN.{length}
 use Rattle.sheet.specs.Report.{edge_lines}
 use Rattle.sheet.specs.Written.{Written}
-use Rattle.sheet.proofs.Edges.{edges_none, edges_next, edges_short}
-use Rattle.sheet.proofs.Writing.{written_as, written_append, written_length, written_none}
 use Rattle.sheet.proofs.report.put_edges.Given as goal
 
 abbrev pub invariant-loop-v : goal.invariant-loop-v
