@@ -119,6 +119,10 @@ module _ (y : Yard) (t : Tree y) (m : Matched y) (bs : List ℕ) where
   unfolding check_fault
   check_moves e = rw (t, (totals_none y).1 m, e)
 
+-- a plan that the checker refuses
+pub check_refused : (y : Yard) (bs : List ℕ) (f : Fault) → check_fault y bs ≡ some f → refused f ≡ check_answer y bs
+check_refused y bs f e = rw e
+
 -- a plan that the checker accepts is of such a tree, and not too short
 module _ (y : Yard) (bs : List ℕ) (e : check_fault y bs ≡ none) where
   pub check_fit : Tree y × Matched y

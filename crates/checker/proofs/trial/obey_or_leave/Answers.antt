@@ -1,0 +1,29 @@
+-- `obey_or_leave` obeys a copy in the first entries of an array, one for each node, and copies them back if no move is refused.
+use mathlib.Core.Path.{sym, ◌∙◌}
+use borrow.Author.Rules.{rules}
+use Rattle.laws.proofs.Judged.{facts}
+use Rattle.laws.proofs.Calls.{sees}
+use Rattle.checker.proofs.Laws.{front_zeros, came_back}
+use Rattle.checker.proofs.trial.obey_or_leave.Goals as goal
+
+pub slice_bounds-counts-end : goal.slice_bounds-counts-end
+slice_bounds-counts-end c = (facts _ c.requires.0).few.1
+
+pub slice_bounds-obey_copy-end : goal.slice_bounds-obey_copy-end
+slice_bounds-obey_copy-end c = sym (front_zeros _ (facts _ c.requires.0).few.1)
+
+pub obey_copy-done-requires : goal.obey_copy-done-requires
+obey_copy-done-requires c =
+    let f = facts _ c.requires.0 in
+    record { tree = c.requires; counts_len = front_zeros _ f.few.1 ∙ sym f.pebbles_size }
+
+pub slice_bounds-counts-end-2 : goal.slice_bounds-counts-end-2
+slice_bounds-counts-end-2 c = (came_back _ _ (facts _ c.requires.0).few.1 c.obey_copy-done.auto.counts).fits
+
+pub slice_bounds-copy-end : goal.slice_bounds-copy-end
+slice_bounds-copy-end c = (came_back _ _ (facts _ c.requires.0).few.1 c.obey_copy-done.auto.counts).long
+
+pub copy-requires : goal.copy-requires
+copy-requires c =
+    let f = facts _ c.requires.0 in
+    f.pebbles_size ∙ (came_back _ _ f.few.1 c.obey_copy-done.auto.counts).long
