@@ -6,7 +6,8 @@ use Rattle.demand.proofs.fill.add_halves.Given as goal
 
 abbrev pub invariant-loop-u : goal.invariant-loop-u
 invariant-loop-u l =
-    (l.u ≤ 256) × (length l.pending ≡ 256) × ((i : ℕ) → i < l.u → get_or l.pending i 0 ≡ 1 + get_or l.counts i 0 + get_or l.counts (256 + i) 0)
+    (l.u ≤ 256) × (length l.pending ≡ 256)
+    × ((i : ℕ) → i < l.u → get_or l.pending i 0 ≡ 1 + get_or l.counts i 0 + get_or l.counts (256 + i) 0)
 
 abbrev pub decreases-loop-u : goal.decreases-loop-u
 decreases-loop-u l = 256 - l.u

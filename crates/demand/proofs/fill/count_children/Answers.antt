@@ -14,11 +14,11 @@ use Rattle.laws.proofs.Basics.{one_le, eqb_sym}
 use Rattle.laws.proofs.Sums.{sum_le, sum_add, sum_cong}
 use Rattle.demand.proofs.Lists.{stored}
 use Rattle.demand.proofs.fill.count_children.Invariants.{at}
-use Rattle.demand.proofs.fill.count_children.Goals.{After-add_halves, After-counts-1, After-place-i}
 use Rattle.demand.proofs.fill.count_children.Goals as goal
 
 -- p in half r is u in one of the halves exactly if p is u
-in-half : (p r u i : ℕ) → p < 256 → r < 2 → u < 256 → i ≡ p + 256 * r → one (eqb i u) + one (eqb i (256 + u)) ≡ one (eqb p u)
+in-half : (p r u i : ℕ) → p < 256 → r < 2 → u < 256 → i ≡ p + 256 * r
+    → one (eqb i u) + one (eqb i (256 + u)) ≡ one (eqb p u)
 in-half p r u i a b l e = go (ℕ_discrete i u) (ℕ_discrete i (256 + u))
   where
     go : Dec (i ≡ u) → Dec (i ≡ 256 + u) → one (eqb i u) + one (eqb i (256 + u)) ≡ one (eqb p u)
@@ -29,24 +29,13 @@ in-half p r u i a b l e = go (ℕ_discrete i u) (ℕ_discrete i (256 + u))
 few : (n : ℕ) (f : ℕ → ℕ) (u : ℕ) → sum n (λ v. one (eqb (f v) u)) ≤ n
 few n f u = sum_le n _ (λ v. one_le (eqb (f v) u))
 
-abbrev parents_after_place_i : After-place-i → List ℕ
-parents_after_place_i c = c.args.parents.now
-
-abbrev parents_after_counts_1 : After-counts-1 → List ℕ
-parents_after_counts_1 c = c.args.parents.now
-
-abbrev parents_after_add_halves : After-add_halves → List ℕ
-parents_after_add_halves c = c.args.parents.now
-
-both_after_counts_1 : (c : After-counts-1) (u : ℕ) → u < 256 → get_or c.loop-v.counts u 0 + get_or c.loop-v.counts (256 + u) 0 ≡ sum c.loop-v.v (λ v. one (eqb (up (parents_after_counts_1 c) v) u))
-both_after_counts_1 c u l =
-    rw (c.loop-v.invariant.2 u (omega arith), c.loop-v.invariant.2 (256 + u) (omega arith))
-    (sym (sum_add c.loop-v.v _ _) ∙ sum_cong c.loop-v.v _ _ (λ v _. in-half (up (parents_after_counts_1 c) v) (v % 2) u _ (c.type_inv.parents v).fits (omega arith) l refl))
-
-both_after_add_halves : (c : After-add_halves) (u : ℕ) → u < 256 → get_or c.loop-v.counts u 0 + get_or c.loop-v.counts (256 + u) 0 ≡ sum c.loop-v.v (λ v. one (eqb (up (parents_after_add_halves c) v) u))
-both_after_add_halves c u l =
-    rw (c.loop-v.invariant.2 u (omega arith), c.loop-v.invariant.2 (256 + u) (omega arith))
-    (sym (sum_add c.loop-v.v _ _) ∙ sum_cong c.loop-v.v _ _ (λ v _. in-half (up (parents_after_add_halves c) v) (v % 2) u _ (c.type_inv.parents v).fits (omega arith) l refl))
+-- both counts of u together, where each count is how many of the first v nodes have their place there
+both : (parents counts : List ℕ) (v u : ℕ) → ((c : ℕ) → up parents c < 256)
+    → ((i : ℕ) → i < 512 → get_or counts i 0 ≡ sum v (λ c. one (eqb (at parents c) i))) → u < 256
+    → get_or counts u 0 + get_or counts (256 + u) 0 ≡ sum v (λ c. one (eqb (up parents c) u))
+both parents counts v u bytes i l =
+    rw (i u (omega arith), i (256 + u) (omega arith))
+    (sym (sum_add v _ _) ∙ sum_cong v _ _ (λ c _. in-half (up parents c) (c % 2) u _ (bytes c) (omega arith) l refl))
 
 pub loop-v-init : goal.loop-v-init
 unfolding sum
@@ -54,7 +43,7 @@ loop-v-init c = (omega arith, refl, λ i l. get_or-replicate 512 i _ 0 l)
 
 pub overflow_add-counts : goal.overflow_add-counts
 overflow_add-counts c =
-    omega (arith, c.loop-v.invariant.2 c.place-i.result (omega arith), few c.loop-v.v (at (parents_after_place_i c)) c.place-i.result)
+    omega (arith, c.loop-v.invariant.2 c.place-i.result (omega arith), few c.loop-v.v (at c.args.parents.now) c.place-i.result)
 
 pub loop-v-preserved : goal.loop-v-preserved
 unfolding sum
@@ -63,13 +52,24 @@ loop-v-preserved c =
     let p = c.place-i.result in (
       omega arith,
       simp length-set loop.invariant.1,
-      λ i l. rw (add-one loop.v, ← c.place-i.ensures.0) (omega (arith, loop.invariant.2 i l, ap one (eqb_sym i p), stored loop.counts p i (get_or loop.counts p 0 + 1) 1 0 (omega arith) (omega arith))),
+      λ i l. let more = stored loop.counts p i (get_or loop.counts p 0 + 1) 1 0 (omega arith) (omega arith) in
+          rw (add-one loop.v, ← c.place-i.ensures.0) (omega (arith, loop.invariant.2 i l, ap one (eqb_sym i p), more)),
     )
 
 pub add_halves-requires : goal.add_halves-requires
-add_halves-requires c = λ u l. omega (arith, both_after_counts_1 c u l, few c.loop-v.v (up (parents_after_counts_1 c)) u)
+add_halves-requires c = λ u l.
+    let loop = c.loop-v in
+    let parents = c.args.parents.now in
+    let sum_of = both parents loop.counts loop.v u (λ v. (c.type_inv.parents v).fits) loop.invariant.2 l in
+    omega (arith, sum_of, few loop.v (up parents) u)
 
 pub returns : goal.returns
 returns c =
-    let all : c.loop-v.v ≡ length (parents_after_add_halves c) = omega arith in
-    (c.add_halves.ensures.0, λ u l. omega (arith, c.add_halves.ensures.1 u l, both_after_add_halves c u l, ap (λ (n : ℕ). sum n (λ v. one (eqb (up (parents_after_add_halves c) v) u))) all))
+    let loop = c.loop-v in
+    let parents = c.args.parents.now in
+    let all : loop.v ≡ length parents = omega arith in (
+      c.add_halves.ensures.0,
+      λ u l.
+          let sum_of = both parents loop.counts loop.v u (λ v. (c.type_inv.parents v).fits) loop.invariant.2 l in
+          omega (arith, c.add_halves.ensures.1 u l, sum_of, ap (λ (n : ℕ). sum n (λ v. one (eqb (up parents v) u))) all),
+    )

@@ -14,7 +14,8 @@ at parents v = up parents v + 256 * (v % 2)
 
 abbrev pub invariant-loop-v : goal.invariant-loop-v
 invariant-loop-v l =
-    (l.v ≤ length l.parents) × (length l.counts ≡ 512) × ((i : ℕ) → i < 512 → get_or l.counts i 0 ≡ sum l.v (λ c. one (eqb (at l.parents c) i)))
+    (l.v ≤ length l.parents) × (length l.counts ≡ 512)
+    × ((i : ℕ) → i < 512 → get_or l.counts i 0 ≡ sum l.v (λ c. one (eqb (at l.parents c) i)))
 
 abbrev pub decreases-loop-v : goal.decreases-loop-v
 decreases-loop-v l = length l.parents - l.v

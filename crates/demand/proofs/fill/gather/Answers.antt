@@ -14,7 +14,7 @@ use Rattle.laws.proofs.Judged.{flat, shape_wood}
 use Rattle.demand.proofs.Numbers.{small_fits}
 use Rattle.demand.proofs.Partial.{waiting, Ready, small, starts, all_wait, parent_lt, parent_waits, waits, above_waits, fewer}
 use Rattle.demand.proofs.Partial.{joined_small, adds, only, left_wood, left_meets, root_left}
-use Rattle.demand.proofs.fill.gather.Goals.{After-count_children-pending, After-loop-v, After-plus, After-plus-arg-in-loop-pending-1}
+use Rattle.demand.proofs.fill.gather.Goals.{After-plus}
 use Rattle.demand.proofs.fill.gather.Goals as goal
 
 -- both entries of a climb's turn are the numbers that their bits give back

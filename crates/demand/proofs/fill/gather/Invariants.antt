@@ -9,7 +9,8 @@ use Rattle.demand.proofs.fill.gather.Given as goal
 
 abbrev pub invariant-loop-pending : goal.invariant-loop-pending
 invariant-loop-pending l =
-    (l.u < length l.parents) × Partial (yard_of l.parents l.pebbles l.targets l.depths) l.pending l.list × ((w : ℕ) → w < l.v + 1 → get_or l.pending w 0 ≡ 1 → w ≡ l.u)
+    (l.u < length l.parents) × Partial (yard_of l.parents l.pebbles l.targets l.depths) l.pending l.list
+    × ((w : ℕ) → w < l.v + 1 → get_or l.pending w 0 ≡ 1 → w ≡ l.u)
     × (l.left ≡ over_waiting (yard_of l.parents l.pebbles l.targets l.depths) l.pending (λ _. 1))
 
 abbrev pub decreases-loop-pending : goal.decreases-loop-pending
@@ -17,7 +18,8 @@ decreases-loop-pending l = l.left
 
 abbrev pub invariant-loop-v : goal.invariant-loop-v
 invariant-loop-v l =
-    (l.v ≤ length l.parents) × Partial (yard_of l.parents l.pebbles l.targets l.depths) l.pending l.list × ((w : ℕ) → w < l.v → get_or l.pending w 0 ≡ 1 → ⊥)
+    (l.v ≤ length l.parents) × Partial (yard_of l.parents l.pebbles l.targets l.depths) l.pending l.list
+    × ((w : ℕ) → w < l.v → get_or l.pending w 0 ≡ 1 → ⊥)
     × (l.left ≡ over_waiting (yard_of l.parents l.pebbles l.targets l.depths) l.pending (λ _. 1))
 
 abbrev pub decreases-loop-v : goal.decreases-loop-v

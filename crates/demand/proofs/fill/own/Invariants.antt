@@ -8,7 +8,8 @@ use Rattle.demand.proofs.fill.own.Given as goal
 
 abbrev pub invariant-loop-v : goal.invariant-loop-v
 invariant-loop-v l =
-    (l.v ≤ length l.list) × (length l.list ≡ length l.initial.list) × ((u : ℕ) → u < l.v → get_or l.list u (pos 0) ≡ sub_ℕ (get_or l.targets u 0) (get_or l.pebbles u 0))
+    (l.v ≤ length l.list) × (length l.list ≡ length l.initial.list)
+    × ((u : ℕ) → u < l.v → get_or l.list u (pos 0) ≡ sub_ℕ (get_or l.targets u 0) (get_or l.pebbles u 0))
 
 abbrev pub decreases-loop-v : goal.decreases-loop-v
 decreases-loop-v l = length l.list - l.v

@@ -6,7 +6,9 @@ use lib.ListN.{length, get_or}
 use Rattle.demand.proofs.matched.clear.Given as goal
 
 abbrev pub invariant-loop-i : goal.invariant-loop-i
-invariant-loop-i l = (l.i ≤ length l.list) × (length l.list ≡ length l.initial.list) × ((u : ℕ) → u < l.i → get_or l.list u (pos 0) ≡ pos 0)
+invariant-loop-i l =
+    (l.i ≤ length l.list) × (length l.list ≡ length l.initial.list)
+    × ((u : ℕ) → u < l.i → get_or l.list u (pos 0) ≡ pos 0)
 
 abbrev pub decreases-loop-i : goal.decreases-loop-i
 decreases-loop-i l = length l.list - l.i

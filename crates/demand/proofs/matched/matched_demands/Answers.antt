@@ -1,14 +1,16 @@
 -- `matched_demands` is refused as the yard is, then by the root's demand.
 use native.Mathlib.Omega.{arith}
-use Prim.Native.Nat.{◌<◌}
+use Prim.Native.Nat.{ℕ, ◌<◌}
+use mathlib.Core.List.{List}
 use mathlib.Core.Path.{◌≡◌, sym, ap, ◌∙◌}
 use lib.ListN.{get_or}
-use lib.IntN.{pos}
+use lib.IntN.{ℤ, pos}
 use mir.Syntax.{w16}
 use mir.Val.{to_z, of_z}
 use mir.ValLaws.{to_z-of_z}
-use Rattle.model.specs.Yard.{Yard, yard_of, root, demand, Matched}
+use Rattle.model.specs.Yard.{Yard, yard_of, root, demand}
 use Rattle.model.specs.Judge.{Tree}
+use Rattle.demand.specs.Filling.{demands_then}
 use Rattle.laws.proofs.Judged.{facts, wood}
 use Rattle.laws.proofs.Calls.{sees, matched_refused, matched_totals, matched_none}
 use Rattle.laws.proofs.Signed.{demand_range}
@@ -16,62 +18,20 @@ use Rattle.lists.proofs.Root.{root_found}
 use Rattle.demand.proofs.Numbers.{small_fits}
 use Rattle.demand.proofs.Answers.{demands-at, then-front}
 use Rattle.demand.proofs.Refused.{root_demand}
-use Rattle.demand.proofs.matched.matched_demands.Goals.{After-first_own-root, Else-list-root-ne0, Then-list-root-ne0}
+use Rattle.demand.proofs.matched.matched_demands.Goals.{After-first_own-root}
 use Rattle.demand.proofs.matched.matched_demands.Goals as goal
 
--- no goal for enum-known-tested
--- no goal for same-length
--- no goal for enum-told
--- no goal for same-length-2
--- no goal for same-length-3
-
-abbrev yard_then_list_root_ne0 : Then-list-root-ne0 → Yard
-yard_then_list_root_ne0 e = let a = e.args in yard_of a.parents.now a.pebbles.now a.targets.now a.depths.now
-
-abbrev yard_else_list_root_ne0 : Else-list-root-ne0 → Yard
-yard_else_list_root_ne0 e = let a = e.args in yard_of a.parents.now a.pebbles.now a.targets.now a.depths.now
-
-abbrev yard_after_first_own_root : After-first_own-root → Yard
-yard_after_first_own_root e = let a = e.args in yard_of a.parents.now a.pebbles.now a.targets.now a.depths.now
-
-tree_then_list_root_ne0 : (e : Then-list-root-ne0) → Tree (yard_then_list_root_ne0 e)
-tree_then_list_root_ne0 e = sees e.tree_demands-tested.ensures.result_value e.in_default.is
-
-tree_else_list_root_ne0 : (e : Else-list-root-ne0) → Tree (yard_else_list_root_ne0 e)
-tree_else_list_root_ne0 e = sees e.tree_demands-tested.ensures.result_value e.in_default.is
-
-tree_after_first_own_root : (e : After-first_own-root) → Tree (yard_after_first_own_root e)
-tree_after_first_own_root e = sees e.tree_demands-tested.ensures.result_value e.in_default.is
-
-found : (c : After-first_own-root) → c.first_own-root.result ≡ root (yard_after_first_own_root c)
-found c = root_found (yard_after_first_own_root c) (tree_after_first_own_root c) _ c.first_own-root.ensures
-
-found_then_list_root_ne0 : (c : Then-list-root-ne0) → c.first_own-root.result ≡ root (yard_then_list_root_ne0 c)
-found_then_list_root_ne0 c = root_found (yard_then_list_root_ne0 c) (tree_then_list_root_ne0 c) _ c.first_own-root.ensures
-
-found_else_list_root_ne0 : (c : Else-list-root-ne0) → c.first_own-root.result ≡ root (yard_else_list_root_ne0 c)
-found_else_list_root_ne0 c = root_found (yard_else_list_root_ne0 c) (tree_else_list_root_ne0 c) _ c.first_own-root.ensures
+-- the root's entry
+entry : (y : Yard) (list : List ℤ) {now : List ℤ} {v : ℕ} → Tree y → now ≡ demands_then y list → v ≡ root y
+    → get_or now v (pos 0) ≡ demand y (root y)
+entry y list t e found = rw found (demands-at y _ (root y) (then-front y list e t) (wood y t).root_lt)
 
 within : (c : After-first_own-root) → c.first_own-root.result < 256
-within c = omega (arith, found c, (wood (yard_after_first_own_root c) (tree_after_first_own_root c)).root_lt, (facts (yard_after_first_own_root c) (tree_after_first_own_root c)).few)
-
--- the root's entry
-entry_then_list_root_ne0 : (c : Then-list-root-ne0) → get_or c.tree_demands-tested.new.list c.first_own-root.result (pos 0) ≡ demand (yard_then_list_root_ne0 c) (root (yard_then_list_root_ne0 c))
-entry_then_list_root_ne0 c =
-    rw (found_then_list_root_ne0 c) (demands-at (yard_then_list_root_ne0 c) _ (root (yard_then_list_root_ne0 c)) (then-front (yard_then_list_root_ne0 c) _ c.tree_demands-tested.ensures.list_value (tree_then_list_root_ne0 c)) (wood (yard_then_list_root_ne0 c) (tree_then_list_root_ne0 c)).root_lt)
-
--- the root's entry
-entry_else_list_root_ne0 : (c : Else-list-root-ne0) → get_or c.tree_demands-tested.new.list c.first_own-root.result (pos 0) ≡ demand (yard_else_list_root_ne0 c) (root (yard_else_list_root_ne0 c))
-entry_else_list_root_ne0 c =
-    rw (found_else_list_root_ne0 c) (demands-at (yard_else_list_root_ne0 c) _ (root (yard_else_list_root_ne0 c)) (then-front (yard_else_list_root_ne0 c) _ c.tree_demands-tested.ensures.list_value (tree_else_list_root_ne0 c)) (wood (yard_else_list_root_ne0 c) (tree_else_list_root_ne0 c)).root_lt)
-
--- where the totals agree
-matched : (c : Else-list-root-ne0) → Matched (yard_else_list_root_ne0 c)
-matched c =
-    let y = yard_else_list_root_ne0 c in
-    let z = entry_else_list_root_ne0 c in
-    (root_demand y (tree_else_list_root_ne0 c)).1
-    (sym z ∙ sym (to_z-of_z w16 _ (small_fits _ (rw z (demand_range y (tree_else_list_root_ne0 c) (root y))))) ∙ ap (to_z w16) c.if-list-root-ne0.false)
+within c =
+    let a = c.args in
+    let y = yard_of a.parents.now a.pebbles.now a.targets.now a.depths.now in
+    let t = sees c.tree_demands-tested.ensures.result_value c.in_default.is in
+    omega (arith, root_found y t _ c.first_own-root.ensures, (wood y t).root_lt, (facts y t).few)
 
 pub returns-in-Refused : goal.returns-in-Refused
 returns-in-Refused c = record {
@@ -87,13 +47,26 @@ slice_copy_out-t-13 c = omega (arith, within c, c.requires, c.list-1.given)
 
 pub returns-then-list-root-ne0 : goal.returns-then-list-root-ne0
 returns-then-list-root-ne0 c =
-    let y = yard_then_list_root_ne0 c in record {
-      result_value = sym (matched_totals y (tree_then_list_root_ne0 c) (λ m. c.if-list-root-ne0.true (ap (of_z w16) (entry_then_list_root_ne0 c ∙ (root_demand y (tree_then_list_root_ne0 c)).0 m))));
-      list_value = c.tree_demands-tested.ensures.list_value;
+    let a = c.args in
+    let y = yard_of a.parents.now a.pebbles.now a.targets.now a.depths.now in
+    let t = sees c.tree_demands-tested.ensures.result_value c.in_default.is in
+    let e = c.tree_demands-tested.ensures.list_value in
+    let z = entry y _ t e (root_found y t _ c.first_own-root.ensures) in
+    record {
+      result_value = sym (matched_totals y t (λ m. c.if-list-root-ne0.true (ap (of_z w16) (z ∙ (root_demand y t).0 m))));
+      list_value = e;
     }
 
+-- where the totals agree
 pub returns : goal.returns
-returns c = record {
-  result_value = sym (matched_none (yard_else_list_root_ne0 c) (tree_else_list_root_ne0 c) (matched c));
-  list_value = c.tree_demands-tested.ensures.list_value;
-}
+returns c =
+    let a = c.args in
+    let y = yard_of a.parents.now a.pebbles.now a.targets.now a.depths.now in
+    let t = sees c.tree_demands-tested.ensures.result_value c.in_default.is in
+    let e = c.tree_demands-tested.ensures.list_value in
+    let z = entry y _ t e (root_found y t _ c.first_own-root.ensures) in
+    let held = sym (to_z-of_z w16 _ (small_fits _ (rw z (demand_range y t (root y))))) in
+    record {
+      result_value = sym (matched_none y t ((root_demand y t).1 (sym z ∙ held ∙ ap (to_z w16) c.if-list-root-ne0.false)));
+      list_value = e;
+    }

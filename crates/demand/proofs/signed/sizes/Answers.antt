@@ -12,7 +12,7 @@ use mir.Val.{to_z, of_z}
 use mir.ValLaws.{to_z-of_z}
 use Rattle.model.specs.Yard.{sum, max_demand}
 use Rattle.demand.proofs.Numbers.{small_fits}
-use Rattle.demand.proofs.signed.sizes.Goals.{After-size-arg-1, After-size-total}
+use Rattle.demand.proofs.signed.sizes.Goals.{After-size-total}
 use Rattle.demand.proofs.signed.sizes.Goals as goal
 
 -- demand i, its size, and the number that its bits give back
