@@ -203,7 +203,7 @@ module _ (y : Yard) (t : Tree y) where
         let n = weight_child (wood y t) q v l k in
         let m = weight_child (wood y t) v (choice (need y b) y v) u.lt c.0 in
         moved_append b ms (crossing y.parents b v ∷ []) (picked_state b p w s)
-        ∙ ap (moved_all b (crossing y.parents b v ∷ [])) (moved_pick r c.1 c.0 u.lt (omega (arith, g, n)) (omega (arith, h, m)) s)
+        ∙ ap (moved_all b (crossing y.parents b v ∷ [])) (moved_pick {q = v} r c.1 c.0 u.lt (omega (arith, g, n)) (omega (arith, h, m)) s)
         ∙ one_pick k l g h (moved_all b ms s)
         ∙ ap (picked_state b p w) (sym (moved_append b ms (crossing y.parents b v ∷ []) s))
 
