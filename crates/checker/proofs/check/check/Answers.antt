@@ -1,7 +1,6 @@
--- `checker::check::check` meets its contract: a plan that is not refused solves the yard, so it has at least the shortest length and the excess does not
--- go below 0. Answering what the model does, the checker is exact.
+-- `checker::check::check` meets its contract: a plan that is not refused solves the yard, so it has at least the shortest
+-- length and the excess does not go below 0. Answering what the model does, the checker is exact.
 use native.Mathlib.Omega.{arith}
-use borrow.Author.Rules.{rules}
 use Rattle.laws.proofs.Calls.{sees}
 use Rattle.laws.proofs.Demand2.{answers_exact}
 use Rattle.checker.proofs.Laws.{check_refused, check_fit, check_long, check_answered}

@@ -1,15 +1,13 @@
--- `obey_to_end` obeys a copy in the first entries of an array, one for each node. If no move is refused they are the counts at the end, and the
--- search for an empty target decides.
+-- `obey_to_end` obeys a copy in the first entries of an array, one for each node. If no move is refused they are the counts at
+-- the end, and the search for an empty target decides.
 use mathlib.Core.Path.{◌≡◌, sym, ap, ◌∙◌}
 use mathlib.Core.List.{List}
-use mathlib.Core.Option.{none}
-use Prim.Native.Nat.{ℕ, ◌≤◌}
+use Prim.Native.Nat.{ℕ}
 use native.Mathlib.Omega.{arith}
 use lib.ListN.{length}
 use lib.Dec.{ltb}
 use Rattle.lists.specs.Find.{firstBelow}
-use borrow.Author.Rules.{rules}
-use Rattle.model.specs.Yard.{Yard, yard_of, pebble, target, below, head_or}
+use Rattle.model.specs.Yard.{Yard, pebble, target, below, head_or}
 use Rattle.model.specs.Judge.{at_lowest, Tree}
 use Rattle.model.specs.Push.{Move, after, run}
 use Rattle.model.specs.Calls.Plans.{moves_of}
@@ -54,12 +52,14 @@ pub returns-then-empty-n : goal.returns-then-empty-n
 returns-then-empty-n c =
     let o = c.obey_copy-done in
     let back = came_back _ _ (facts _ c.requires).few.1 o.auto.counts in
-    let e = ended _ c.requires (moves_of c.args.plan.now) _ (back.is ∙ rw (c.in_default.is, front_all) at o.ensures.counts_value) _ c.first_below-empty.ensures in
+    let at-end = back.is ∙ rw (c.in_default.is, front_all) at o.ensures.counts_value in
+    let e = ended _ c.requires (moves_of c.args.plan.now) _ at-end _ c.first_below-empty.ensures in
     rw (rw front_all at (sees o.ensures.result_value c.in_default.is), lowest_fault _ _ 14 _ e c.if-empty-n.true)
 
 pub returns : goal.returns
 returns c =
     let o = c.obey_copy-done in
     let back = came_back _ _ (facts _ c.requires).few.1 o.auto.counts in
-    let e = ended _ c.requires (moves_of c.args.plan.now) _ (back.is ∙ rw (c.in_default.is, front_all) at o.ensures.counts_value) _ c.first_below-empty.ensures in
+    let at-end = back.is ∙ rw (c.in_default.is, front_all) at o.ensures.counts_value in
+    let e = ended _ c.requires (moves_of c.args.plan.now) _ at-end _ c.first_below-empty.ensures in
     rw (rw front_all at (sees o.ensures.result_value c.in_default.is), ap (at_lowest 14) (lowest_none _ _ _ e c.if-empty-n.false))

@@ -1,6 +1,5 @@
 -- `checker::check::test_matched_plan` meets its contract: it refuses a plan by its length, then by its moves and the yard at the end.
 use mathlib.Core.Path.{sym, ◌∙◌}
-use borrow.Author.Rules.{rules}
 use Rattle.checker.proofs.Laws.{whole, not_whole, check_bytes, check_moves}
 use Rattle.checker.proofs.check.test_matched_plan.Goals as goal
 

@@ -1,6 +1,5 @@
 -- `checker::check::test_plan` meets its contract: refused as a yard with no plan is, or else by the plan.
 use mathlib.Core.Path.{sym}
-use borrow.Author.Rules.{rules}
 use Rattle.laws.proofs.Calls.{matched_tree, check_matched, sees}
 use Rattle.checker.proofs.check.test_plan.Goals as goal
 

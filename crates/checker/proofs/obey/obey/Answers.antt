@@ -2,7 +2,6 @@
 use mathlib.Core.Path.{refl, ◌∙◌}
 use native.Mathlib.Omega.{arith}
 use lib.Seq.{take-take}
-use borrow.Author.Rules.{rules}
 use Rattle.model.specs.Push.{after}
 use Rattle.model.specs.Calls.Plans.{moves_of}
 use Rattle.laws.proofs.Judged.{facts}
@@ -26,7 +25,8 @@ returns-in-Refused c =
     let inv = c.loop-i.invariant.1 in
     let n = front_length a.plan.now a.count c.requires.1 in
     let e = front_at a.plan.now a.count c.requires.1 c.loop-i.i (omega arith) in
-    let r = left_refused _ _ _ _ inv _ (omega (arith, n)) e _ _ (sees c.step-done.ensures.result_value c.in-Refused.is) (omega arith) in record {
+    let refused = sees c.step-done.ensures.result_value c.in-Refused.is in
+    let r = left_refused _ _ _ _ inv _ (omega (arith, n)) e _ _ refused (omega arith) in record {
       result_value = r.0;
       pebbles_value =
           rw (c.step-done.ensures.pebbles_value, c.in-Refused.is, r.1)

@@ -1,5 +1,4 @@
 -- `obey_copy` obeys a copy: the counts are the pebbles where `obey` begins.
-use borrow.Author.Rules.{rules}
 use Rattle.checker.proofs.obey.obey_copy.Goals as goal
 
 pub obey-requires : goal.obey-requires
@@ -7,6 +6,6 @@ obey-requires c = rw c.copy.ensures c.requires.tree
 
 pub returns : goal.returns
 returns c = record {
-      result_value = rw c.copy.ensures at c.obey.ensures.result_value;
-      counts_value = rw c.copy.ensures at c.obey.ensures.pebbles_value;
-    }
+  result_value = rw c.copy.ensures at c.obey.ensures.result_value;
+  counts_value = rw c.copy.ensures at c.obey.ensures.pebbles_value;
+}

@@ -1,8 +1,6 @@
 -- `obey_or_leave` obeys a copy in the first entries of an array, one for each node, and copies them back if no move is refused.
 use mathlib.Core.Path.{sym, ◌∙◌}
-use borrow.Author.Rules.{rules}
 use Rattle.laws.proofs.Judged.{facts}
-use Rattle.laws.proofs.Calls.{sees}
 use Rattle.checker.proofs.Laws.{front_zeros, came_back}
 use Rattle.checker.proofs.trial.obey_or_leave.Goals as goal
 

@@ -1,9 +1,8 @@
--- `trial` refuses the yard, then the plan by its length, then the moves taken: those of the plan that the budget allows. What they leave, or
--- the pebbles as they were, is what the trial leaves.
+-- `trial` refuses the yard, then the plan by its length, then the moves taken: those of the plan that the budget allows. What they
+-- leave, or the pebbles as they were, is what the trial leaves.
 use Prim.Native.Nat.{◌/◌}
 use native.Mathlib.Omega.{arith}
 use lib.ListN.{length}
-use borrow.Author.Rules.{rules}
 use borrow.Author.Tests.{le-leb, lt-leb}
 use Rattle.laws.proofs.Calls.{sees}
 use Rattle.checker.proofs.Laws.{whole, not_whole, trial_refused, trial_answered, trial_judged, trial_bytes, trial_moves}
