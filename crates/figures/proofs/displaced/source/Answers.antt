@@ -10,12 +10,20 @@ use mir.Syntax.{w16}
 use mir.Val.{to_z, of_z}
 use mir.ValLaws.{to_z-of_z}
 use Rattle.figures.specs.Leaving.{source_or}
-use Rattle.figures.proofs.displaced.source.Statement.{statement}
-use Rattle.figures.proofs.displaced.source.Tie as tie
+use Rattle.figures.proofs.displaced.source.Goals.{Else-demand-gt0, Then-demand-gt0, Then-demand-lt0}
+use Rattle.figures.proofs.displaced.source.Goals as goal
 
 -- the number as it is held is the number
-held : (c : tie.Start) → to_z w16 (of_z w16 c.args.demand) ≡ c.args.demand
-held c = to_z-of_z w16 c.args.demand c.ranges.demand
+held_then_demand_lt0 : (c : Then-demand-lt0) → to_z w16 (of_z w16 c.args.demand) ≡ c.args.demand
+held_then_demand_lt0 c = to_z-of_z w16 c.args.demand c.ranges.demand
+
+-- the number as it is held is the number
+held_then_demand_gt0 : (c : Then-demand-gt0) → to_z w16 (of_z w16 c.args.demand) ≡ c.args.demand
+held_then_demand_gt0 c = to_z-of_z w16 c.args.demand c.ranges.demand
+
+-- the number as it is held is the number
+held_else_demand_gt0 : (c : Else-demand-gt0) → to_z w16 (of_z w16 c.args.demand) ≡ c.args.demand
+held_else_demand_gt0 c = to_z-of_z w16 c.args.demand c.ranges.demand
 
 below : (z : ℤ) (v p : ℕ) → lt_z z (pos 0) ≡ true → v ≡ source_or 256 z v p
 unfolding source_or
@@ -34,14 +42,11 @@ neither (negsuc n) v p h k = let no : ◌≡◌ {A = ℕ} 0 1 = cc in absurd (om
 neither (pos zero) v p h k = refl
 neither (pos (suc n)) v p h k = absurd (omega (arith, ltb-false 0 (suc n) k))
 
-returns : tie.Need-returns
-returns c = below _ _ _ (rw (held c.before) at c.if1.true)
+pub returns-then-demand-lt0 : goal.returns-then-demand-lt0
+returns-then-demand-lt0 c = below _ _ _ (rw (held_then_demand_lt0 c) at c.if-demand-lt0.true)
 
-returns-2 : tie.Need-returns-2
-returns-2 c = above _ _ _ (rw (held c.before.before) at c.if2.true)
+pub returns-then-demand-gt0 : goal.returns-then-demand-gt0
+returns-then-demand-gt0 c = above _ _ _ (rw (held_then_demand_gt0 c) at c.if-demand-gt0.true)
 
-returns-3 : tie.Need-returns-3
-returns-3 c = neither _ _ _ (rw (held c.before.before) at c.before.if1.false) (rw (held c.before.before) at c.if2.false)
-
-pub source-spec : {M : Type 1} → statement M
-source-spec = tie.close (tie.spec returns returns-2 returns-3)
+pub returns : goal.returns
+returns c = neither _ _ _ (rw (held_else_demand_gt0 c) at c.if-demand-lt0.false) (rw (held_else_demand_gt0 c) at c.if-demand-gt0.false)
