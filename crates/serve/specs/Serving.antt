@@ -10,7 +10,7 @@ use Rattle.model.specs.Calls.Answers.{overwrite}
 use Rattle.model.specs.Calls.Plans.{bytes}
 use Rattle.laws.specs.Choice.{Child, Neediest}
 use Rattle.laws.proofs.Demands.{weight}
-use Rattle.laws.specs.Algorithms.{crossing, need, Serves, blocked, direct, behind}
+use Rattle.laws.specs.Algorithms.{crossing, need, Serves}
 use Rattle.laws.proofs.Signed.{nextℤ}
 use Rattle.laws.proofs.Serve.{Due}
 

@@ -12,7 +12,8 @@ use Rattle.serve.proofs.Looking.{seen_small, last_entry, last_read}
 use Rattle.serve.proofs.choose.choose.Goals as goal
 
 -- the child served last
-asked : {b : Bool} {y : Yard} {t : List ℕ} {s : List ℤ} {u c : ℕ} → Sees y t s u → get_or s (last_at b u) (pos 0) ≡ pos c → c ≢ u → AskedAfter b y t s u c
+asked : {b : Bool} {y : Yard} {t : List ℕ} {s : List ℤ} {u c : ℕ}
+    → Sees y t s u → get_or s (last_at b u) (pos 0) ≡ pos c → c ≢ u → AskedAfter b y t s u c
 asked {b} w e d = record { sees = w; last = last_read b w e d }
 
 pub last_served-last-requires : goal.last_served-last-requires

@@ -28,7 +28,8 @@ module _ {b : Bool} {y : Yard} {t : List ℕ} {s : List ℤ} {u last : ℕ} (a :
   lowest : {c : ℕ} → c ≡ get_or t (256 + u) 0 → Lowest y.parents u 0 c
   lowest e = rw e (a.sees.tables.first _ a.sees.node)
 
-  next : {c : ℕ} → NextBeyond b y u (last + 1) (to_z w16 (of_z w16 (get_or s last (pos 0)))) c → NextBeyond b y u (last + 1) (demand y last) c
+  next : {c : ℕ} → NextBeyond b y u (last + 1) (to_z w16 (of_z w16 (get_or s last (pos 0)))) c
+      → NextBeyond b y u (last + 1) (demand y last) c
   next n = let m = a.last.child in rw (demand_back a.sees m, a.sees.demands _ m) at n
 
 pub overflow_add-last : goal.overflow_add-last
@@ -84,5 +85,6 @@ returns c y a =
     let s = c.args in
     let n = next a (c.next_beyond-c.ensures y a.sees _ (behind a c.wide.ensures.0)) in
     let level = next_back s.away (get_or s.s.now s.last (pos 0)) (in_range a.sees m) in
+    let r = c.next_beyond.ensures y a.sees 0 (lowest a c.wide-2.ensures.0) in
     last_round a.last n c.if-c-u.false (λ q. c.if-s-last-eq0.false ((zero_demand a.sees m).1 q))
-    (rw (c.nearer.ensures, demand_back a.sees m, level, a.sees.demands _ m) at (c.next_beyond.ensures y a.sees 0 (lowest a c.wide-2.ensures.0)))
+    (rw (c.nearer.ensures, demand_back a.sees m, level, a.sees.demands _ m) at r)

@@ -9,11 +9,12 @@ use lib.IntN.{ℤ}
 use Rattle.model.specs.Yard.{Yard}
 use Rattle.serve.specs.Serving.{Sees, NextBeyond}
 use Rattle.serve.proofs.Siblings.{next_is}
-use Rattle.serve.proofs.Looking.{seen_small, demand_back, Led, led_first, led_last, led_next, led_falls}
+use Rattle.serve.proofs.Looking.{seen_small, demand_back, led_first, led_last, led_next, led_falls}
 use Rattle.serve.proofs.choose.choose_of_all.Goals as goal
 
 -- the next record is a node
-node : {b : Bool} {y : Yard} {t : List ℕ} {s : List ℤ} {u low c : ℕ} {most : ℤ} → Sees y t s u → NextBeyond b y u low most c → c ≢ u → c < 256
+node : {b : Bool} {y : Yard} {t : List ℕ} {s : List ℤ} {u low c : ℕ} {most : ℤ}
+    → Sees y t s u → NextBeyond b y u low most c → c ≢ u → c < 256
 node w n d = seen_small w (n.found d).0.lt
 
 pub overflow_add-u : goal.overflow_add-u

@@ -1,4 +1,5 @@
--- What is known in the loop of `serve::choose::choose_of_all`: the last child that needs more than all before it, and where the next ones begin.
+-- What is known in the loop of `serve::choose::choose_of_all`: the last child that needs more than all before it, and where the
+-- next ones begin.
 use Rattle.model.specs.Yard.{Yard}
 use Rattle.serve.specs.Serving.{Sees}
 use Rattle.serve.proofs.Looking.{Led, left}

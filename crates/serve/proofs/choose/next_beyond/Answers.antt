@@ -13,7 +13,7 @@ use mir.Val.{SFits, to_z, of_z}
 use mir.ValLaws.{to_z-of_z}
 use Rattle.model.specs.Yard.{Yard}
 use Rattle.laws.specs.Choice.{Child}
-use Rattle.serve.specs.Serving.{beyond, Sees, Lowest}
+use Rattle.serve.specs.Serving.{beyond, Sees}
 use Rattle.serve.proofs.Siblings.{next_is, ahead_falls}
 use Rattle.serve.proofs.Looking.{seen_small, demand_back, Scan, scan_first, scan_child, scan_found, scan_next, scan_end}
 use Rattle.serve.proofs.choose.next_beyond.Goals as goal
@@ -64,7 +64,8 @@ pub loop-c-preserved : goal.loop-c-preserved
 loop-c-preserved c y w low a =
     let h = here c.ranges.most (c.loop-c.invariant y w low a) in
     let d = c.loop-c-test.true in
-    rw (c.wide-c.ensures.0, to_z-of_z w16 c.args.most c.ranges.most) (scan_next h d w (answer c.ranges.most _ w (scan_child h d) c.passes.ensures ∙ c.if-passes.false))
+    rw (c.wide-c.ensures.0, to_z-of_z w16 c.args.most c.ranges.most)
+    (scan_next h d w (answer c.ranges.most _ w (scan_child h d) c.passes.ensures ∙ c.if-passes.false))
 
 pub returns : goal.returns
 returns c y w low a = scan_end (rw c.loop-c-test.false at (here c.ranges.most (c.loop-c.invariant y w low a)))

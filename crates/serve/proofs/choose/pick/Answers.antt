@@ -1,14 +1,13 @@
 -- `serve::choose::pick` meets its contract: where a child is chosen, its demand is in range.
 use mathlib.Core.Path.{refl, sym, ◌∙◌}
-use borrow.Author.Rules.{rules}
 use Rattle.serve.proofs.Looking.{seen_small, chosen_child, in_range}
 use Rattle.serve.proofs.choose.pick.Goals as goal
 
 pub returns-then-c-u : goal.returns-then-c-u
 returns-then-c-u c = record {
-    value = (λ y w. sym c.if-c-u.true ∙ c.choose-c.ensures y w);
-    picks = ((λ _. refl), λ d. absurd (d refl));
-  }
+  value = (λ y w. sym c.if-c-u.true ∙ c.choose-c.ensures y w);
+  picks = ((λ _. refl), λ d. absurd (d refl));
+}
 
 pub note_served-requires : goal.note_served-requires
 note_served-requires c =
@@ -18,6 +17,6 @@ note_served-requires c =
 
 pub returns : goal.returns
 returns c = record {
-    value = (λ y w. c.choose-c.ensures y w);
-    picks = ((λ q. absurd (c.if-c-u.false q)), λ _. c.note_served.ensures);
-  }
+  value = (λ y w. c.choose-c.ensures y w);
+  picks = ((λ q. absurd (c.if-c-u.false q)), λ _. c.note_served.ensures);
+}

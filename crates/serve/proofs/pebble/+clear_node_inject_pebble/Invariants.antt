@@ -1,4 +1,5 @@
--- The calls of `serve::pebble::clear_node` and `inject_pebble` end: clearing falls below filling by the place that the move takes, and filling a child below clearing.
+-- The calls of `serve::pebble::clear_node` and `inject_pebble` end: clearing falls below filling by the place that the move takes, and
+-- filling a child below clearing.
 use Prim.Native.Nat.{◌+◌, ◌*◌}
 use Rattle.serve.proofs.pebble.+clear_node_inject_pebble.Given as goal
 

@@ -48,7 +48,8 @@ overflow_sub-result t c = omega (arith, one_place c.requires.1)
 
 pub returns-then-s-v-ne0 : goal.returns-then-s-v-ne0
 returns-then-s-v-ne0 t c y a q =
-    filled_last a (one_less a) c.told-moves q (rw (c.count_pebble.ensures, c.record_move.ensures) (cleared_here a (held a c.if-s-v-ne0.true)))
+    filled_last a (one_less a) c.told-moves q
+    (rw (c.count_pebble.ensures, c.record_move.ensures) (cleared_here a (held a c.if-s-v-ne0.true)))
 
 pub pick-c-requires : goal.pick-c-requires
 pick-c-requires t c = let p = c.requires in (p.0, half_sees p.1.halfway p.1.due.lt)
@@ -62,7 +63,8 @@ extract_pebble-requires t c =
     let a = p.1 in
     let e = empty a c.if-s-v-ne0.false in
     let r = c.pick-c.ensures.value p.0 (half_sees a.halfway a.due.lt) in
-    (omega (arith, c.decreases, one_place a), (p.0, chosen_asked a e r c.pick-c.ensures.picks (one_less a), chosen_up a e r c.pick-c.ensures.picks))
+    let k = c.pick-c.ensures.picks in
+    (omega (arith, c.decreases, one_place a), (p.0, chosen_asked a e r k (one_less a), chosen_up a e r k))
 
 pub returns : goal.returns
 returns t c y a q =

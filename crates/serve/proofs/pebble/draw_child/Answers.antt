@@ -15,7 +15,8 @@ use Rattle.serve.proofs.Serving.{held_free, serve_up, serve_half, serve_asked, s
 use Rattle.serve.proofs.pebble.draw_child.Goals as goal
 
 -- a c that holds a pebble
-held : {y : Yard} {t : List ℕ} {s₀ s : List ℤ} {plan : List ℕ} {u c : ℕ} → AskedServe false y t s₀ s plan u c → (of_z w16 (get_or s (256 + c) (pos 0)) ≡ 0 → ⊥) → blocked y false c ≡ false
+held : {y : Yard} {t : List ℕ} {s₀ s : List ℤ} {plan : List ℕ} {u c : ℕ} → AskedServe false y t s₀ s plan u c
+    → (of_z w16 (get_or s (256 + c) (pos 0)) ≡ 0 → ⊥) → blocked y false c ≡ false
 held {y} a d = held_free y _ (λ e. d (ap (of_z w16) ((serve_half a).pebbles _ a.due.lt) ∙ e))
 
 pub bounds-s-c : goal.bounds-s-c
@@ -46,4 +47,5 @@ hand_over-requires c =
 
 pub returns : goal.returns
 returns c y s₀ a =
-    serve_all a (c.extract_pebble-k.ensures y (serve_asked a) (serve_up a)) c.count_pebble.ensures c.hand_over.ensures.plan_value c.hand_over.ensures.k_value
+    let f = c.extract_pebble-k.ensures y (serve_asked a) (serve_up a) in
+    serve_all a f c.count_pebble.ensures c.hand_over.ensures.plan_value c.hand_over.ensures.k_value

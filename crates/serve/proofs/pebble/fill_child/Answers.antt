@@ -11,7 +11,8 @@ use Rattle.serve.proofs.Serving.{room, free_full, serve_up, serve_half, serve_as
 use Rattle.serve.proofs.pebble.fill_child.Goals as goal
 
 -- what is told of the place
-told : {y : Yard} {t : List ℕ} {s₀ s : List ℤ} {plan : List ℕ} {u c : ℕ} {b : Bool} → AskedServe true y t s₀ s plan u c → ((p d : ℕ) → Room s c p d → b ≡ ltb p d) → full y c ≡ not b
+told : {y : Yard} {t : List ℕ} {s₀ s : List ℤ} {plan : List ℕ} {u c : ℕ} {b : Bool} → AskedServe true y t s₀ s plan u c
+    → ((p d : ℕ) → Room s c p d → b ≡ ltb p d) → full y c ≡ not b
 told {y} {b = b} a h = free_full y _ b (h (pebble y _) (capacity y _) (room (serve_half a) a.due.lt))
 
 pub has_place-requires : goal.has_place-requires
@@ -25,7 +26,8 @@ move_pebble-requires c =
 
 pub returns-then-has_place : goal.returns-then-has_place
 returns-then-has_place c y s₀ a =
-    rw (c.move_pebble.ensures.s_value, c.move_pebble.ensures.plan_value) (serve_one a (told a c.has_place.ensures ∙ ap not c.if-has_place.true))
+    rw (c.move_pebble.ensures.s_value, c.move_pebble.ensures.plan_value)
+    (serve_one a (told a c.has_place.ensures ∙ ap not c.if-has_place.true))
 
 pub inject_pebble-k-requires : goal.inject_pebble-k-requires
 inject_pebble-k-requires c = let p = c.requires in (p.0, serve_asked p.2, serve_up p.2)
@@ -42,4 +44,5 @@ hand_over-requires c =
 
 pub returns : goal.returns
 returns c y s₀ a =
-    serve_all a (c.inject_pebble-k.ensures y (serve_asked a) (serve_up a)) c.count_pebble.ensures c.hand_over.ensures.plan_value c.hand_over.ensures.k_value
+    let f = c.inject_pebble-k.ensures y (serve_asked a) (serve_up a) in
+    serve_all a f c.count_pebble.ensures c.hand_over.ensures.plan_value c.hand_over.ensures.k_value

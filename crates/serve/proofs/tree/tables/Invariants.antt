@@ -1,11 +1,7 @@
--- `serve::tree::tables` meets its contract: linking goes from the highest node down, and each turn is a law of linking (Links).
-use Prim.Native.Nat.{ℕ, ◌+◌, ◌-◌, ◌≤◌, ◌<◌}
-use native.Mathlib.Omega.{arith}
-use mathlib.Core.Path.{◌≡◌}
+-- What is known in the loop of `serve::tree::tables`: the nodes from v on are linked.
+use Prim.Native.Nat.{◌≤◌}
 use lib.ListN.{length}
-use borrow.Author.Rules.{rules}
 use Rattle.serve.specs.Serving.{Linked}
-use Rattle.serve.proofs.Links.{root_link, child_link}
 use Rattle.serve.proofs.tree.tables.Given as goal
 
 abbrev pub invariant-loop-v : goal.invariant-loop-v

@@ -1,9 +1,6 @@
 -- `serve::tree::unlinked` meets its contract: node after node is entered (the laws are in Links).
-use Prim.Native.Nat.{◌-◌, ◌≤◌}
 use native.Mathlib.Omega.{arith}
-use mathlib.Core.Path.{refl}
-use lib.ListN.{length}
-use Rattle.serve.proofs.Links.{Entered, enter, entered}
+use Rattle.serve.proofs.Links.{entered}
 use Rattle.serve.proofs.tree.unlinked.Goals as goal
 
 pub returns : goal.returns

@@ -1,9 +1,7 @@
--- `serve::tree::unlinked` meets its contract: node after node is entered (the laws are in Links).
+-- What is known in the loop of `serve::tree::unlinked`: the nodes below v are entered.
 use Prim.Native.Nat.{◌-◌, ◌≤◌}
-use native.Mathlib.Omega.{arith}
-use mathlib.Core.Path.{refl}
 use lib.ListN.{length}
-use Rattle.serve.proofs.Links.{Entered, enter, entered}
+use Rattle.serve.proofs.Links.{Entered}
 use Rattle.serve.proofs.tree.unlinked.Given as goal
 
 abbrev pub invariant-loop-v : goal.invariant-loop-v
