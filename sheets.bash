@@ -69,7 +69,7 @@ build() { # PROGRAM WHAT CRATE…
     newer() { (cd "$top" && find crates.txt "${crates[@]/#/crates/}" -newer "$program" -print -quit); }
     if [ -x "$program" ] && [ -z "$(newer)" ]; then return; fi
     command -v rt >/dev/null ||
-        fail "the Rattle kit is missing, and $what is still to be built with it: unpack the kit (rattle-kit-5b)" \
+        fail "the Rattle kit is missing, and $what is still to be built with it: unpack the kit (rattle-kit-5)" \
             "and put its folder bin/, which holds the command rt, on the PATH"
     say "proving and building $what; the first time takes a few minutes"
     (cd "$top" && rt check "$1" 2>&1) | sed -un "s/^rt: /$name: /p" >&2 ||
