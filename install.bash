@@ -4,7 +4,7 @@
 
 # The commands for people (each that exists is installed), and the programs below them.
 commands=(movesheet checksheet yardpicture mendsheet yardpage)
-programs=(moves long_moves checks)
+programs=(moves checks)
 
 library=target/staticlib/libjavendriky.a
 # Where an installed tree tells what was put there, below its PREFIX.

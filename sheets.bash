@@ -17,7 +17,6 @@ version() {
         "calls $(awk '/^#define JAVENDRIKY_VERSION / { print $3 }' "$top/include/javendriky.h")," \
         "conformance set $(<"$top/conformance/VERSION")"
 }
-long=0 # whether no plan is too long: see plan
 most_yard=65536 # bytes of a yard sheet that are taken; the move program judges the first 5,200
 
 say() { echo "$name: $*" >&2; }
@@ -78,8 +77,7 @@ build() { # PROGRAM WHAT CRATE…
 
 # Takes one yard sheet: FILE, standard input, or else the worked yard A. More bytes are taken than
 # the move program judges, so that people are told of all lines. Leaves the sheet in $work/sheet,
-# and in $work/out what the move program prints for it, or with long=1 the long move program, which
-# differs only in that no plan is too long for it.
+# and what the move program prints for it in $work/out.
 plan() { # ARGUMENT…
     arguments "$@"
     [ ${#files[@]} -le 1 ] || fail "one yard sheet at a time: '$name --help' tells how it is used"
@@ -91,9 +89,7 @@ plan() { # ARGUMENT…
         say "no yard sheet was given: this is the worked yard A, examples/yards/a.yard"
         cp "$worked" "$work/sheet"
     fi
-    local moves=moves
-    if [ "$long" = 1 ]; then moves=long_moves; fi
-    build "$moves" 'the move program' model refusal lists judge demand serve planner sheet reader move_sheet
+    build moves 'the move program' model refusal lists judge demand serve planner sheet reader
     "$program" <"$work/sheet" >"$work/out" || fail "the move program failed"
 }
 
@@ -106,21 +102,21 @@ end_if_refused() {
     local head number place
     { read -r head && read -r number place; } <"$work/out" || :
     if [ "$head" != 'refusal place' ]; then return 0; fi
-    say_sentence "refused: $(explain "$number" "$place" "$work/sheet")"
+    say "refused: $(explain "$number" "$place" "$work/sheet")."
     faults yard "$number" "$place" "$work/sheet" "$most_yard" "${files[0]-}"
     exit 1
 }
 
 # What is wrong with the yard, and what to mend: the sentence of the C header, by the whole answer
 # where the place tells which fault it is, else by the number, with the place put in. The header is
-# line 1 and berths count from 0, so a berth's line is its number and 2. With 8, which only
-# movesheet meets, there is nothing to mend in the sheet, and another command prints it. WHAT and OF
-# tell which sheet it is, where there are two: 'the yard sheet', ' of my.yard'.
+# line 1 and berths count from 0, so a berth's line is its number and 2. With 8 there is nothing to
+# mend in the sheet, and no list that its keeper lends. WHAT and OF tell which sheet it is, where
+# there are two: 'the yard sheet', ' of my.yard'.
 explain() { # NUMBER PLACE SHEET [WHAT OF]
     local text what=${4-the sheet} of=${5-}
     if [ "$1" -eq 8 ]; then
-        echo "the yard sheet is all right, but its plan has $2 pushes, and without --long a sheet has" \
-            "at most 32768: run: $(typed movesheet) --long $(typed_file "${files[0]-}" yard)"
+        echo "the yard sheet is all right, but its plan has $2 pushes and this program has room for 32768:" \
+            "a C program that lends a longer list gets it, as examples/cabinet.c does"
         return 0
     fi
     text=$(sentence $(($1 * 1000000 + $2)))
@@ -155,7 +151,7 @@ faults() { # KIND NUMBER PLACE SHEET BYTES FILE [WHAT OF]
             "save the ${1%s} sheet from there as plain text."
         return 0
     fi
-    MEND="$(typed mendsheet) $(typed_file "$6" "$1") >mended.$1"
+    MEND="$(mendsheet_command "$6" "$1") >mended.$1"
     if LC_ALL=C awk '/\r[^\r]/ { found = 1; exit } END { exit !found }' "$4"; then
         say "$WHAT has carriage returns that end no line: save it with line feeds alone (line ends 'LF' or 'Unix'), or run: $MEND"
         return 0
@@ -165,22 +161,17 @@ faults() { # KIND NUMBER PLACE SHEET BYTES FILE [WHAT OF]
         if [ "$(wc -c <"$4")" -lt "$5" ]; then UNENDED=1; else CUT=1; fi
     fi
     awk -f "$top/people/mend.awk" -f "$top/people/faults.awk" "$4" >"$work/faults" || fail "the faults of $WHAT could not be told"
-    while IFS= read -r text; do say_sentence "$text"; done <"$work/faults"
+    while IFS= read -r text; do
+        case $text in *', or run: '*) say "$text" ;; *) say "$text." ;; esac
+    done <"$work/faults"
 }
-# Says a sentence; its full stop is left out where it ends with a command.
-say_sentence() { # SENTENCE
-    case $1 in *' run: '*) say "$1" ;; *) say "$1." ;; esac
-}
-# A command and a sheet, as they can be typed where this command was called. KIND is yard or moves.
-typed() { # COMMAND
-    local folder
+# The command that mends a sheet, as it can be typed where this one was called.
+mendsheet_command() { # FILE KIND
+    local folder file=$1
     folder=$(dirname "$0")
-    if [ ! -x "$folder/$1" ]; then folder=$top; fi
-    printf '%q' "$folder/$1"
-}
-typed_file() { # FILE KIND
-    local file=$1
+    if [ ! -x "$folder/mendsheet" ]; then folder=$top; fi
     if [ "$file" = - ] || [ -z "$file" ]; then file=your.$2; fi
+    printf '%q ' "$folder/mendsheet"
     case $file in -*) printf -- '-- ' ;; esac
     printf '%q' "$file"
 }

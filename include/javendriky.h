@@ -109,7 +109,7 @@ extern "C" {
 #define JAVENDRIKY_MAX_PLAN_BYTES 262144
 
 /* The bytes of the longest plan that javendriky_plan writes: 131,072 moves for 256 nodes, two bytes
- * each (proved: longest-most in crates/laws/proofs). A plan list of so many bytes never meets
+ * each (proved: longest_most in crates/laws/proofs). A plan list of so many bytes never meets
  * LIST_TOO_SHORT (8). For one yard javendriky_length_bound tells the bytes needed, mostly far
  * fewer; for a number of nodes javendriky_longest_plan tells the moves. */
 #define JAVENDRIKY_LONGEST_PLAN_BYTES (JAVENDRIKY_MAX_DEPTH * (JAVENDRIKY_MAX_NODES * JAVENDRIKY_MAX_NODES / 4) * 2)
@@ -250,7 +250,7 @@ uint32_t javendriky_plan(const uint8_t *parents, size_t parents_len,
  * its own under the same node numbers. Both nodes of a move lie in one part, and no part disturbs
  * another: two pushers can work in different parts at the same time. The plans may be mingled
  * in any way that keeps the moves of each part in order; the result is a shortest plan
- * (proved: two-pushers in crates/laws/proofs).
+ * (proved: two_pushers in crates/laws/proofs).
  * Answers the number of moves m of all parts, as many as javendriky_plan answers.
  * Writes the plans into the first 2 * m bytes of `plan`, the part with the lowest topmost node
  * first, and no gap between them; the bytes after them stay. Into `parts` it writes for each node
@@ -268,7 +268,7 @@ uint32_t javendriky_plan_parts(const uint8_t *parents, size_t parents_len,
  * Answers their number k, which is below n. It is 0 exactly if the yard is solved.
  * Writes them into the first 2 * k bytes of `list`, each once, ordered by the node that a pebble
  * leaves and then by the node that it enters; the bytes after them stay. After any of them a
- * shortest plan has one move less (proved: every-opening in crates/laws/proofs).
+ * shortest plan has one move less (proved: every_opening in crates/laws/proofs).
  * Refused: yard, TOTALS (7), then LIST_TOO_SHORT (8) with place k if `list` has fewer than 2 * k
  * bytes. */
 uint32_t javendriky_openings(const uint8_t *parents, size_t parents_len,
@@ -401,7 +401,7 @@ uint32_t javendriky_check(const uint8_t *parents, size_t parents_len,
 /* Excess: how many moves an accepted plan has more than a shortest one.
  * Answers that number. It is even: an edge carries spare moves exactly if it is crossed both ways,
  * and the excess is twice the sum, over all edges, of the rarer way's crossings (proved:
- * spare-found in crates/laws/proofs). Writes nothing.
+ * spare_found in crates/laws/proofs). Writes nothing.
  * Refused: as javendriky_check. */
 uint32_t javendriky_excess(const uint8_t *parents, size_t parents_len,
                            const uint8_t *pebbles, size_t pebbles_len,
@@ -412,7 +412,7 @@ uint32_t javendriky_excess(const uint8_t *parents, size_t parents_len,
 /* Wear: how often one edge is crossed, either way, within `width` moves in a row.
  * Answers the most crossings of one edge within any such stretch of an accepted plan. The plan need
  * not be a shortest one. Of a planned sheet as one stretch it is the largest size of a demand
- * (proved: wear-planned in crates/laws/proofs). The time does not depend on the width.
+ * (proved: wear_planned in crates/laws/proofs). The time does not depend on the width.
  * Writes through `first` the number of the move at which the earliest such stretch begins. Writes
  * through `edge` the lowest edge that has as many crossings in it.
  * Refused: as javendriky_check, then WIDTH (28) if `width` is 0 or above the number of moves. */

@@ -105,7 +105,7 @@ static inline uint32_t jv_write_sheet(const jv_yard *yard, void *sheet, size_t s
 
 #ifndef JV_NO_STDIO
 /* Reads the yard sheet that a stream holds up to its end. Of a longer input the first 5,200
- * bytes are read, more than any sheet has; the rest would change no answer (proved, as read-cut
+ * bytes are read, more than any sheet has; the rest would change no answer (proved, as read_cut
  * in crates/laws/proofs). They stand on the stack. JV_FILE_FAILED if the stream cannot be read. */
 static inline uint32_t jv_read_stream(jv_yard *yard, FILE *stream)
 {

@@ -15,9 +15,6 @@ pub const JUDGED_BYTES: usize = 5_200;
 /// The bytes of its plan list: 32,768 moves. Longer plans are refused (request 2.10).
 pub const PROGRAM_PLAN_BYTES: usize = 65_536;
 
-/// The bytes of the long move program's plan list: 131,072 moves, as many as the checker takes.
-pub const LONG_PLAN_BYTES: usize = 262_144;
-
 /// The reader with lists of `lengths` entries lent to it.
 pub fn read(sheet: &[u8], lengths: [usize; 4]) -> Answer<Yard> {
     if lengths.iter().any(|&length| length < MAX_NODES) {
@@ -117,17 +114,8 @@ pub fn refusal_sheet(refusal: Refusal) -> Vec<u8> {
 
 /// What the move program prints for what it is fed.
 pub fn program(input: &[u8]) -> Vec<u8> {
-    printed(input, PROGRAM_PLAN_BYTES)
-}
-
-/// What the long move program prints.
-pub fn long_program(input: &[u8]) -> Vec<u8> {
-    printed(input, LONG_PLAN_BYTES)
-}
-
-fn printed(input: &[u8], room: usize) -> Vec<u8> {
     let judged = &input[..input.len().min(JUDGED_BYTES)];
-    let printed = read(judged, [MAX_NODES; 4]).and_then(|yard| Ok(move_sheet(&yard, &planner::plan(&yard, room)?)));
+    let printed = read(judged, [MAX_NODES; 4]).and_then(|yard| Ok(move_sheet(&yard, &planner::plan(&yard, PROGRAM_PLAN_BYTES)?)));
     printed.unwrap_or_else(refusal_sheet)
 }
 

@@ -1,18 +1,15 @@
-//! Tries a move program, with `--long` a long move program, or with `--checks` a check program, over pipes: yards small and large, input a byte at a
-//! time, none, a megabyte, nonsense, and readers that go away early. Ends at the first answer that is not the unrelated planner's or checker's, or that
-//! takes too long. A long move program is also fed every yard sheet of the conformance set: it must print what is stored there, and the plan where that
-//! is the move program's `LIST_TOO_SHORT` (8).
+//! Tries a move program, or with `--checks` a check program, over pipes: yards small and large, input a byte at a time, none, a megabyte, nonsense, and
+//! readers that go away early. Ends at the first answer that is not the unrelated planner's or checker's, or that takes too long.
 //!
-//!     pipe_test [--long | --checks] PROGRAM [ARGUMENT…]
+//!     pipe_test [--checks] PROGRAM [ARGUMENT…]
 
-use std::path::Path;
 use std::process::ExitCode;
 use std::time::Duration;
 use unrelated::check_sheet::{self, both_sheets, MOST_MOVES_READ, MOVES_HEAD};
 use unrelated::piped::{shown, Outcome, Piped};
 use unrelated::random::Random;
 use unrelated::shapes::{any_yard, every_yard, far, Shape};
-use unrelated::sheet::{self, unjudged, HEADER, LONG_PLAN_BYTES, PROGRAM_PLAN_BYTES};
+use unrelated::sheet::{self, unjudged, HEADER, PROGRAM_PLAN_BYTES};
 use unrelated::yard::{Yard, MAX_DEPTH, MAX_NODES};
 use unrelated::{damage, planner, report};
 
@@ -45,7 +42,7 @@ fn yards(random: &mut Random) -> Vec<Yard> {
     [vec![1], vec![1; 2], vec![1; 3], vec![3], vec![2; 2]].into_iter().flat_map(every_yard).chain(large).collect()
 }
 
-fn for_moves(random: &mut Random, due: fn(&[u8]) -> Vec<u8>, room: usize) -> Inputs {
+fn for_moves(random: &mut Random) -> Inputs {
     let line = unjudged(&far(Shape::Line, MAX_NODES, 1, random));
     let small = unjudged(&far(Shape::Binary, 9, 2, random));
     let refused = small[..small.len() - 1].to_vec();
@@ -63,44 +60,18 @@ fn for_moves(random: &mut Random, due: fn(&[u8]) -> Vec<u8>, room: usize) -> Inp
     // What is printed for a yard, the report too, is the unrelated planner's, which must be the one due.
     let judged = |yard: Yard| {
         let sheet = unjudged(&yard);
-        let planned = planner::plan(&yard, room).is_ok();
-        let found = if planned { report::judge(&yard, &due(&sheet)) } else { Ok(()) };
+        let planned = planner::plan(&yard, PROGRAM_PLAN_BYTES).is_ok();
+        let found = if planned { report::judge(&yard, &sheet::program(&sheet)) } else { Ok(()) };
         (sheet, found)
     };
     Inputs {
-        due,
+        due: sheet::program,
         yards: yards(random).into_iter().map(judged).collect(),
         slow: vec![(small.clone(), 1, 1000), (refused.clone(), 1, 1000), (line.clone(), 1, 20)],
         large,
         nonsense,
         unread: [line, small, refused],
     }
-}
-
-/// The yard sheets of the conformance set with what is stored for them. Where that is the move program's 8, what is due is a plan, with as many moves as
-/// the refusal says and the report that the counts ask for.
-fn conformance() -> Vec<(Vec<u8>, Outcome)> {
-    let folder = Path::new(env!("CARGO_MANIFEST_DIR")).join("../conformance");
-    let stored = |name: &Path| std::fs::read(name).unwrap_or_else(|error| panic!("{}: {error}", name.display()));
-    let entries = std::fs::read_dir(&folder).unwrap_or_else(|error| panic!("{}: {error}", folder.display()));
-    let mut names: Vec<_> =
-        entries.flatten().map(|entry| entry.path()).filter(|name| name.extension().is_some_and(|kind| kind == "yard")).collect();
-    names.sort();
-    let held = |name: &Path| {
-        let (input, stored) = (stored(name), stored(&name.with_extension("moves")));
-        let due = sheet::long_program(&input);
-        let found = match stored.strip_prefix(b"refusal place\n8 ") {
-            None if due == stored => Ok(()),
-            None => Err(format!("stored is {:?}, due is {:?}", shown(&stored), shown(&due))),
-            Some(place) if due.ends_with(&[b"\ntotal\n", place].concat()) => {
-                let yard = sheet::read(&input, [MAX_NODES; 4]).map_err(|refusal| format!("{refusal:?}"));
-                yard.and_then(|yard| report::judge(&yard, &due))
-            }
-            Some(_) => Err(format!("stored is {:?}, due is {:?}", shown(&stored), shown(&due))),
-        };
-        (input, found)
-    };
-    names.iter().map(|name| held(name)).collect()
 }
 
 fn for_checks(random: &mut Random) -> Inputs {
@@ -180,39 +151,32 @@ fn family(name: &str, outcomes: impl Iterator<Item = (Vec<u8>, Outcome)>) -> boo
 
 fn main() -> ExitCode {
     let mut command: Vec<String> = std::env::args().skip(1).collect();
-    let [checks, long] = ["--checks", "--long"].map(|option| command.first().is_some_and(|first| first == option));
-    if checks || long {
+    let checks = command.first().is_some_and(|first| first == "--checks");
+    if checks {
         command.remove(0);
     }
     if command.is_empty() {
-        eprintln!("pipe_test [--long | --checks] PROGRAM [ARGUMENT…]");
+        eprintln!("pipe_test [--checks] PROGRAM [ARGUMENT…]");
         return ExitCode::from(2);
     }
     let mut random = Random::new(201);
-    let inputs = match (checks, long) {
-        (true, _) => for_checks(&mut random),
-        (_, true) => for_moves(&mut random, sheet::long_program, LONG_PLAN_BYTES),
-        _ => for_moves(&mut random, sheet::program, PROGRAM_PLAN_BYTES),
-    };
-    let set = if long { conformance() } else { Vec::new() };
+    let inputs = if checks { for_checks(&mut random) } else { for_moves(&mut random) };
     let tried = Piped { command, due: inputs.due };
     // The last byte left out is one of the report, of the moves and spare, or of the refusal.
     let leaves = |input: &Vec<u8>| [0, 1, 8, 100, 65_536, (inputs.due)(input).len() - 1].map(|read| (input.clone(), read));
     let leaves: Vec<(Vec<u8>, usize)> = inputs.unread.iter().flat_map(leaves).collect();
     let slowly = if checks { "a byte at a time, or some" } else { "a byte at a time" };
 
-    let answers = |(input, found): (Vec<u8>, Outcome)| (input.clone(), found.and_then(|()| tried.answers(&input, input.len())));
-    let passed = (!long
-        || family("the conformance set, and the plans that the move program has no room for", set.into_iter().map(answers)))
-        && family("every tree up to 3 nodes with all counts, six shapes up to 256", inputs.yards.into_iter().map(answers))
-        && family(
-            slowly,
-            inputs
-                .slow
-                .into_iter()
-                .map(|(input, piece, pause)| (input.clone(), tried.answers_slowly(&input, piece, Duration::from_micros(pause)))),
-        )
-        && family("no input", std::iter::once((Vec::new(), tried.answers(&[], 1))))
+    let passed = family(
+        "every tree up to 3 nodes with all counts, six shapes up to 256",
+        inputs.yards.into_iter().map(|(input, found)| (input.clone(), found.and_then(|()| tried.answers(&input, input.len())))),
+    ) && family(
+        slowly,
+        inputs
+            .slow
+            .into_iter()
+            .map(|(input, piece, pause)| (input.clone(), tried.answers_slowly(&input, piece, Duration::from_micros(pause)))),
+    ) && family("no input", std::iter::once((Vec::new(), tried.answers(&[], 1))))
         && family(
             "a megabyte, or about as much as is judged",
             inputs.large.into_iter().map(|input| (input.clone(), tried.answers(&input, 1 << 16))),
