@@ -18,7 +18,7 @@ fn main() {
     println!("cargo::rerun-if-changed={}", library.display());
     if !library.is_file() {
         println!(
-            "cargo::error=the proved library {} is not there: build it with `rt staticlib javendriky`, or set JAVENDRIKY_LIB to its folder",
+            "cargo::error=the proved library {} is not there: build it with `tools/build javendriky`, or set JAVENDRIKY_LIB to its folder",
             library.display()
         );
         return;

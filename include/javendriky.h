@@ -82,7 +82,7 @@
  *
  * Stack. No call needs more than 40 KiB of stack. javendriky_plan and javendriky_plan_parts take
  * that on a line of 256 nodes; every other call needs at most 6 KiB (measured with the library that
- * `rt staticlib` builds for x86-64). */
+ * `tools/build` makes for x86-64). */
 #ifndef JAVENDRIKY_H
 #define JAVENDRIKY_H
 
