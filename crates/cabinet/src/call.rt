@@ -112,7 +112,7 @@ fn stepped(
     }
 }
 
-// The step, of registers that are lent: a copy is stepped, and stored back whole. Proved by a walk.
+// The step, of registers that are lent: a copy is stepped, and stored back whole.
 pub fn step_registers(
     parents: &[u8],
     pebbles: &mut [u8],
@@ -129,7 +129,7 @@ pub fn step_registers(
     s.line
 }
 
-// Lends the registers of a block, in a local. Proved by a walk.
+// Lends the registers of a block, in a local.
 fn lend(
     parents: &[u8],
     pebbles: &mut [u8],

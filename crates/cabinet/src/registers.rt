@@ -8,7 +8,7 @@ ghost use Rattle.cabinet.specs.Step.{next_of};
 use model::Registers;
 
 // What a step is told besides: the plan's whole moves, the next of them, and whether its pebble failed to arrive.
-#[derive(Drop)]
+#[derive(Clone, Copy)]
 pub struct Told {
     pub moves: usize,
     pub from: u8,

@@ -1,0 +1,10 @@
+-- `load` reads the nine bytes.
+use borrow.Author.Rules.{rules}
+use native.Mathlib.Omega.{arith}
+use mathlib.Core.Path.{refl}
+use Rattle.model.specs.Calls.Registers.{registers_of}
+use Rattle.cabinet.proofs.block.load.Goals as goal
+
+pub returns : goal.returns
+unfolding registers_of
+returns c = refl

@@ -1,0 +1,6 @@
+-- `jammed` sets the status and the flag.
+use borrow.Author.Rules.{rules}
+use Rattle.cabinet.proofs.registers.jammed.Goals as goal
+
+pub returns : goal.returns
+returns c = rw c.with_stalled.ensures
