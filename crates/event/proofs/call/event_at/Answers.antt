@@ -1,4 +1,5 @@
--- `event_at` is refused as its tests say, and leaves all three lists then. Else the list was the yard's, so that its entries can step, and the mark is altered.
+-- `event_at` is refused as its tests say, and leaves all three lists then. Else the list was the yard's, so that its entries can step,
+-- and the mark is altered.
 use native.Mathlib.Omega.{arith}
 use mathlib.Core.Path.{refl, ap, ◌∙◌}
 use lib.IntN.{ℤ}
@@ -11,7 +12,7 @@ use Rattle.laws.proofs.EventRuns.{accepted, caught_was}
 use Rattle.demand.proofs.Answers.{demands-small}
 use Rattle.event.specs.Change.{stepped_after}
 use Rattle.event.proofs.Steps.{possible_can, more, step_small, step_held, stepped_demands}
-use Rattle.event.proofs.Happened.{by_counts, left_accepted}
+use Rattle.event.proofs.Happened.{left_accepted}
 use Rattle.event.proofs.call.event_at.Goals as goal
 
 pub climb-requires : goal.climb-requires
@@ -21,7 +22,8 @@ climb-requires c =
     let passes = sees c.test_event-tested.ensures c.in_default.is in
     let h = accepted y a.list.now a.event a.node passes in
     let by = ap (λ (k : ℤ). to_z w16 (of_z w16 k)) c.step.ensures ∙ step_held a.event in
-    ((y, h.tree, refl), h.long, h.node_lt, rw by (step_small a.event), (demands-small y h.tree (caught_was y a.list.now a.event a.node passes)).1)
+    let small = demands-small y h.tree (caught_was y a.list.now a.event a.node passes) in
+    ((y, h.tree, refl), h.long, h.node_lt, rw by (step_small a.event), small.1)
 
 pub alter-requires : goal.alter-requires
 alter-requires c =

@@ -1,5 +1,5 @@
--- `test_event` is refused as the yard is, then for the list's length, for the node, if the event cannot happen by the counts there, and where the list first
--- differs from the demands.
+-- `test_event` is refused as the yard is, then for the list's length, for the node, if the event cannot happen by the counts there, and
+-- where the list first differs from the demands.
 use native.Mathlib.Omega.{arith}
 use mathlib.Core.Path.{◌≡◌, sym, ◌∙◌}
 use mathlib.Core.Bool.{Bool, true}
@@ -27,15 +27,16 @@ room : (y : Yard) → Tree y → (n : ℕ) → n ≡ 256 → size y ≤ n
 room y t n e = omega (arith, (facts y t).few)
 
 -- where the tests before 23 are passed
-ready : (y : Yard) (list : List ℤ) (e : Event) (v : ℕ) → Tree y → length list ≡ size y → v < size y → (b : Bool) → b ≡ can e (pebble y v) (target y v) (capacity y v) → b ≡ true
-    → first_of (ready_tests y list e v) ≡ none
+ready : (y : Yard) (list : List ℤ) (e : Event) (v : ℕ) → Tree y → length list ≡ size y → v < size y
+    → (b : Bool) → b ≡ can e (pebble y v) (target y v) (capacity y v) → b ≡ true → first_of (ready_tests y list e v) ≡ none
 ready y list e v t k l b told q = ready_none y list e v t k l (sym (possible_can y e v) ∙ sym told ∙ q)
 
 pub returns-in-Refused : goal.returns-in-Refused
 returns-in-Refused c =
     let a = c.args in
     let y = yard_of a.parents.now a.pebbles.now a.targets.now a.depths.now in
-    sym (event_refused y a.list.now a.event a.node (ready_judge y a.list.now a.event a.node (sees c.tree_demands-tested.ensures.result_value c.in-Refused.is)))
+    let judged = sees c.tree_demands-tested.ensures.result_value c.in-Refused.is in
+    sym (event_refused y a.list.now a.event a.node (ready_judge y a.list.now a.event a.node judged))
 
 pub returns-then-list-n : goal.returns-then-list-n
 returns-then-list-n c =
@@ -74,8 +75,9 @@ returns-then-not-can_happen c =
     let a = c.args in
     let y = yard_of a.parents.now a.pebbles.now a.targets.now a.depths.now in
     let t = sees c.tree_demands-tested.ensures.result_value c.in_default.is in
+    let l : a.node < size y = omega (arith, c.if-node-n.false) in
     let told = sym (possible_can y a.event a.node) ∙ sym c.can_happen.ensures ∙ c.if-not-can_happen.true in
-    sym (event_refused y a.list.now a.event a.node (ready_already y a.list.now a.event a.node t c.if-list-n.false (omega (arith, c.if-node-n.false)) told))
+    sym (event_refused y a.list.now a.event a.node (ready_already y a.list.now a.event a.node t c.if-list-n.false l told))
 
 pub slice_bounds-fresh-end : goal.slice_bounds-fresh-end
 slice_bounds-fresh-end c =
@@ -102,7 +104,8 @@ returns-then-stale-n c =
     let y = yard_of a.parents.now a.pebbles.now a.targets.now a.depths.now in
     let t = sees c.tree_demands-tested.ensures.result_value c.in_default.is in
     let r = ready y a.list.now a.event a.node t c.if-list-n.false (omega arith) _ c.can_happen.ensures c.if-not-can_happen.false in
-    sym (stale_refused y a.list.now a.event a.node r (then-front y _ c.tree_demands-tested.ensures.list_value t) c.first_difference-stale.ensures c.if-stale-n.true)
+    let d = then-front y _ c.tree_demands-tested.ensures.list_value t in
+    sym (stale_refused y a.list.now a.event a.node r d c.first_difference-stale.ensures c.if-stale-n.true)
 
 pub returns : goal.returns
 returns c =
@@ -110,4 +113,5 @@ returns c =
     let y = yard_of a.parents.now a.pebbles.now a.targets.now a.depths.now in
     let t = sees c.tree_demands-tested.ensures.result_value c.in_default.is in
     let r = ready y a.list.now a.event a.node t c.if-list-n.false (omega arith) _ c.can_happen.ensures c.if-not-can_happen.false in
-    sym (stale_passed y a.list.now a.event a.node r (then-front y _ c.tree_demands-tested.ensures.list_value t) c.first_difference-stale.ensures (omega (arith, c.if-stale-n.false)))
+    let d = then-front y _ c.tree_demands-tested.ensures.list_value t in
+    sym (stale_passed y a.list.now a.event a.node r d c.first_difference-stale.ensures (omega (arith, c.if-stale-n.false)))

@@ -1,5 +1,5 @@
--- `climb` steps the entries of the nodes on the way: when it has come to w, those below w are stepped (`Climbed`). The way from w is one node shorter with
--- each turn, and at the root one entry is left.
+-- `climb` steps the entries of the nodes on the way: when it has come to w, those below w are stepped (`Climbed`). The way from w is one
+-- node shorter with each turn, and at the root one entry is left.
 use mathlib.Core.Path.{◌≡◌, ap, ◌∙◌}
 use Prim.Native.Nat.{◌≤◌}
 use native.Mathlib.Omega.{arith}
@@ -47,5 +47,6 @@ returns c =
     let t = rails c.requires.0 in
     let now = climb_entry t.1 _ (pos 0) a.node c.requires.2 a.list.now l.list l.w l.invariant in
     rw (written _ _ a.by now (c.requires.4 l.w) c.requires.3)
-    (climb_end t.1 _ (pos 0) a.node c.requires.2 a.list.now l.list l.w l.invariant (t.1.root_only l.w l.invariant.node_lt c.loop-w-test.false)
+    (climb_end t.1 _ (pos 0) a.node c.requires.2 a.list.now l.list l.w l.invariant (t.1.root_only l.w l.invariant.node_lt
+    c.loop-w-test.false)
     ∙ ap (λ (b : ℤ). stepped_after a.parents.now b a.node a.list.now) (held a.by (omega (arith, c.requires.3))))

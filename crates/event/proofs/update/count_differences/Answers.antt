@@ -1,6 +1,6 @@
 -- `count_differences` is the sum: after v turns the count is that of the first v entries. There are at most 256, so it fits.
 use mathlib.Core.Path.{◌≡◌, ap}
-use Prim.Native.Nat.{ℕ, ◌≤◌, ◌+◌}
+use Prim.Native.Nat.{ℕ, ◌+◌}
 use native.Mathlib.Omega.{arith}
 use native.Mathlib.Numerals.{add-one}
 use Rattle.model.specs.Yard.{one, sum, entry}
@@ -25,9 +25,11 @@ pub loop-v-preserved : goal.loop-v-preserved
 unfolding sum
 loop-v-preserved c =
     let a = c.args in
+    let x = entry a.list.now c.loop-v.v in
+    let y = entry a.other.now c.loop-v.v in
     let count : c.if-list-v.count ≡ c.loop-v.count + one (differ_at a.list.now a.other.now c.loop-v.v) =
-          elim c.if-list-v.branch [ 
-            then-list-v w ↦ omega (arith, ap one (other_bits (entry a.list.now c.loop-v.v) (entry a.other.now c.loop-v.v) (omega arith) (omega arith) w.if-list-v.true))
-            | else-list-v w ↦ omega (arith, ap one (same_bits (entry a.list.now c.loop-v.v) (entry a.other.now c.loop-v.v) (omega arith) (omega arith) w.if-list-v.false))
-          ]
+    elim c.if-list-v.branch [
+      | then-list-v w ↦ omega (arith, ap one (other_bits x y (omega arith) (omega arith) w.if-list-v.true))
+      | else-list-v w ↦ omega (arith, ap one (same_bits x y (omega arith) (omega arith) w.if-list-v.false))
+    ]
     in (omega arith, rw add-one (omega (arith, count, c.loop-v.invariant.1)))

@@ -12,9 +12,10 @@ use Rattle.event.proofs.update.first_difference.Goals as goal
 pub returns-then-count_differences-eq0 : goal.returns-then-count_differences-eq0
 returns-then-count_differences-eq0 c =
     let a = c.args in
-    let none : sum (length a.list.now) (λ v. one (differ_at a.list.now a.other.now v)) ≡ 0 = sym c.count_differences.ensures ∙ c.if-count_differences-eq0.true in
-    missed _ _ (differ_at a.list.now a.other.now) (λ v l.
-    one_false (differ_at a.list.now a.other.now v) (omega (arith, none, sum_term (length a.list.now) v (λ v. one (differ_at a.list.now a.other.now v)) l)))
+    let differs = differ_at a.list.now a.other.now in
+    let none : sum (length a.list.now) (λ v. one (differs v)) ≡ 0 =
+    sym c.count_differences.ensures ∙ c.if-count_differences-eq0.true
+    in missed _ _ differs (λ v l. one_false (differs v) (omega (arith, none, sum_term (length a.list.now) v (λ v. one (differs v)) l)))
 
 pub returns-then-list-v : goal.returns-then-list-v
 returns-then-list-v c =

@@ -1,14 +1,9 @@
 -- `first_difference`: where none is counted there is none; else it looks at one entry after another.
-use mathlib.Core.Path.{◌≡◌, sym, ◌∙◌}
+use mathlib.Core.Path.{◌≡◌}
 use mathlib.Core.Bool.{false}
 use Prim.Native.Nat.{ℕ, ◌≤◌, ◌<◌, ◌-◌}
-use native.Mathlib.Omega.{arith}
 use lib.ListN.{length}
-use Rattle.model.specs.Yard.{one, sum, entry}
-use Rattle.laws.proofs.Sums.{sum_term}
-use Rattle.laws.proofs.Found.{found, missed, none_next}
 use Rattle.event.specs.Change.{differ_at}
-use Rattle.event.proofs.Steps.{one_false, same_bits, other_bits}
 use Rattle.event.proofs.update.first_difference.Given as goal
 
 abbrev pub invariant-loop-v : goal.invariant-loop-v

@@ -1,36 +1,33 @@
--- `leaving` counts: after v turns a node's count is that of the pebbles that leave it over the first v edges, since a turn adds a demand's size at the node that
--- its edge is crossed from. No count is more than 2,048 for each of them.
+-- `leaving` counts: after v turns a node's count is that of the pebbles that leave it over the first v edges, since a turn adds a
+-- demand's size at the node that its edge is crossed from. No count is more than 2,048 for each of them.
 use native.Mathlib.Omega.{arith}
 use native.Mathlib.Numerals.{add-one}
-use Prim.Native.Nat.{ℕ, zero, suc, ◌+◌, ◌-◌, ◌*◌, ◌≤◌, ◌<◌}
+use Prim.Native.Nat.{ℕ, zero, suc, ◌+◌, ◌*◌, ◌≤◌, ◌<◌}
 use mathlib.Core.Path.{◌≡◌, refl, ap, ◌∙◌}
 use mathlib.Core.Bool.{Bool, true, false}
-use lib.ListN.{length, get_or, set, replicate, length-set}
+use lib.ListN.{get_or, set, replicate, length-set}
 use lib.Dec.{eqb}
 use lib.IntN.{ℤ, nat_abs}
 use mir.Syntax.{w16}
 use mir.ValLaws.{to_z-of_z}
 use Rattle.model.specs.Yard.{up, one, sum, entry}
 use Rattle.demand.proofs.Numbers.{small_fits}
-use Rattle.figures.specs.Leaving.{source_or, leaving}
+use Rattle.figures.specs.Leaving.{source_or}
 use Rattle.figures.proofs.Leaving.{source_lt, counted}
-use Rattle.figures.proofs.displaced.leaving.Goals.{After-shared_slice_known-in-loop-v-1, After-size}
+use Rattle.figures.proofs.displaced.leaving.Goals.{After-size}
 use Rattle.figures.proofs.displaced.leaving.Goals as goal
 
--- the parent of node v
-byte_after_size : (c : After-size) → up c.args.parents.now c.loop-v.v < 256
-byte_after_size c = (c.type_inv.parents c.loop-v.v).fits
-
 -- where the edge of v is crossed from
-found_after_size : (c : After-size) → let a = c.args in let v = c.loop-v.v in
+found : (c : After-size) → let a = c.args in let v = c.loop-v.v in
     c.source-u.result ≡ source_or 256 (entry a.demands.now v) v (up a.parents.now v)
-found_after_size c =
+found c =
     let v = c.loop-v.v in
-    c.source-u.ensures ∙ ap (λ (z : ℤ). source_or 256 z v (up c.args.parents.now v)) (to_z-of_z w16 _ (small_fits _ (c.requires.by_index v)))
+    c.source-u.ensures
+    ∙ ap (λ (z : ℤ). source_or 256 z v (up c.args.parents.now v)) (to_z-of_z w16 _ (small_fits _ (c.requires.by_index v)))
 
-within_after_size : (c : After-size) → let a = c.args in let v = c.loop-v.v in
+within : (c : After-size) → let a = c.args in let v = c.loop-v.v in
     source_or 256 (entry a.demands.now v) v (up a.parents.now v) < 257
-within_after_size c = source_lt _ _ _ (omega (arith, c.requires.parents_len_bound)) (byte_after_size c)
+within c = source_lt _ _ _ (omega (arith, c.requires.parents_len_bound)) (c.type_inv.parents c.loop-v.v).fits
 
 -- how many cross it
 sized : (c : After-size) → let v = c.loop-v.v in
@@ -51,13 +48,13 @@ loop-v-init c = (omega arith, refl, zeros 257, λ u. omega (arith, zeros 257 u))
     zeros (suc n) (suc u) = zeros n u
 
 pub offset_bounds-counts-u : goal.offset_bounds-counts-u
-offset_bounds-counts-u c = omega (arith, found_after_size c, within_after_size c)
+offset_bounds-counts-u c = omega (arith, found c, within c)
 
 pub bounds-counts-u : goal.bounds-counts-u
-bounds-counts-u c = omega (arith, found_after_size c, within_after_size c)
+bounds-counts-u c = omega (arith, found c, within c)
 
 pub bounds-counts-u-in-loop-v : goal.bounds-counts-u-in-loop-v
-bounds-counts-u-in-loop-v c = omega (arith, found_after_size c, within_after_size c)
+bounds-counts-u-in-loop-v c = omega (arith, found c, within c)
 
 pub loop-v-preserved : goal.loop-v-preserved
 unfolding sum
@@ -66,12 +63,16 @@ loop-v-preserved c =
     let loop = c.loop-v in
     let d = entry a.demands.now loop.v in
     let p = up a.parents.now loop.v in
-    let h = within_after_size c in
-    let next : (u : ℕ) → get_or (set loop.counts (source_or 256 d loop.v p) (get_or loop.counts (source_or 256 d loop.v p) 0 + nat_abs d)) u 0 ≡ get_or loop.counts u 0 + one (eqb (source_or 256 d loop.v p) u) * nat_abs d = λ u. counted loop.counts d loop.v p u (get_or loop.counts u 0) (omega (arith, h, loop.invariant.1)) refl in (
+    let h = within c in
+    let from = source_or 256 d loop.v p in
+    let next : (u : ℕ) → get_or (set loop.counts from (get_or loop.counts from 0 + nat_abs d)) u 0
+    ≡ get_or loop.counts u 0 + one (eqb from u) * nat_abs d =
+    λ u. counted loop.counts d loop.v p u (get_or loop.counts u 0) (omega (arith, h, loop.invariant.1)) refl
+    in (
       omega arith,
       simp length-set loop.invariant.1,
-      (λ u. rw (add-one loop.v, found_after_size c, (sized c).0) (next u ∙ rw (loop.invariant.2 u))),
-      λ u. rw (found_after_size c, (sized c).0) (omega (arith, next u, loop.invariant.3 u, one-times (eqb (source_or 256 d loop.v p) u) (nat_abs d), sized c)),
+      (λ u. rw (add-one loop.v, found c, (sized c).0) (next u ∙ rw (loop.invariant.2 u))),
+      λ u. rw (found c, (sized c).0) (omega (arith, next u, loop.invariant.3 u, one-times (eqb from u) (nat_abs d), sized c)),
     )
   where
     one-times : (b : Bool) (n : ℕ) → one b * n ≤ n

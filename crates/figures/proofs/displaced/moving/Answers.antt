@@ -3,25 +3,17 @@
 use borrow.Author.Rules.{rules}
 use native.Mathlib.Omega.{arith}
 use native.Mathlib.Numerals.{add-one}
-use Prim.Native.Nat.{ℕ, ◌+◌, ◌-◌, ◌*◌, ◌≤◌, ◌<◌}
+use Prim.Native.Nat.{ℕ, ◌+◌, ◌-◌, ◌<◌}
 use mathlib.Core.Path.{◌≡◌, ap, ◌∙◌}
-use lib.ListN.{length, get_or}
+use lib.ListN.{get_or}
 use lib.IntN.{ℤ}
 use mir.Syntax.{w16}
 use mir.ValLaws.{to_z-of_z}
 use Rattle.model.specs.Yard.{sum, entry}
 use Rattle.demand.proofs.Numbers.{small_fits}
 use Rattle.figures.specs.Leaving.{staying_of, moving_at}
-use Rattle.figures.proofs.displaced.moving.Goals.{After-above-count, After-shared_slice_known-in-loop-i-1, After-shared_slice_known-in-loop-i-3-1}
+use Rattle.figures.proofs.displaced.moving.Goals.{After-above-count}
 use Rattle.figures.proofs.displaced.moving.Goals as goal
-
--- the pebbles at node i, a byte
-byte : (c : After-shared_slice_known-in-loop-i-1) → get_or c.args.pebbles.now c.loop-i.i 0 < 256
-byte c = (c.type_inv.pebbles c.loop-i.i).fits
-
--- the pebbles at node i, a byte
-byte_after_above_count : (c : After-above-count) → get_or c.args.pebbles.now c.loop-i.i 0 < 256
-byte_after_above_count c = (c.type_inv.pebbles c.loop-i.i).fits
 
 -- what node i adds, which is no more than its pebbles
 adds : (c : After-above-count) → let a = c.args in
@@ -31,8 +23,9 @@ adds c =
     let i = c.loop-i.i in
     let d = entry a.demands.now i in
     let p = get_or a.pebbles.now i 0 in
-    let stays : c.staying.result ≡ staying_of (get_or a.depths.now i 0) p d (get_or a.out.now i 0) = c.staying.ensures ∙ ap (λ (z : ℤ). staying_of (get_or a.depths.now i 0) p z (get_or a.out.now i 0)) (to_z-of_z w16 d (small_fits d (c.requires.by_index i))) in
-    (c.above-count.ensures ∙ ap (λ (x : ℕ). p - x) stays, omega (arith, c.above-count.ensures, byte_after_above_count c))
+    let f = λ (z : ℤ). staying_of (get_or a.depths.now i 0) p z (get_or a.out.now i 0) in
+    let stays : c.staying.result ≡ f d = c.staying.ensures ∙ ap f (to_z-of_z w16 d (small_fits d (c.requires.by_index i))) in
+    (c.above-count.ensures ∙ ap (λ (x : ℕ). p - x) stays, omega (arith, c.above-count.ensures, (c.type_inv.pebbles i).fits))
 
 pub loop-i-init : goal.loop-i-init
 unfolding sum
@@ -43,5 +36,5 @@ unfolding sum
 loop-i-preserved c =
     let a = c.args in
     let f : ℕ → ℕ = moving_at a.pebbles.now a.depths.now a.demands.now a.out.now in
-    let next : c.loop-i.count + c.above-count.result ≡ sum c.loop-i.i f + f c.loop-i.i = ap (λ (n : ℕ). n + c.above-count.result) c.loop-i.invariant.1 ∙ ap (λ (n : ℕ). sum c.loop-i.i f + n) (adds c).0 in
+    let next : c.loop-i.count + c.above-count.result ≡ sum c.loop-i.i f + f c.loop-i.i = omega (arith, c.loop-i.invariant.1, adds c) in
     (omega arith, rw add-one next, omega (arith, (adds c).1))

@@ -7,23 +7,9 @@ use lib.IntN.{ℤ, pos, negsuc}
 use lib.Signed.{lt_z}
 use borrow.Author.Tests.{ltb-true, ltb-false}
 use mir.Syntax.{w16}
-use mir.Val.{to_z, of_z}
 use mir.ValLaws.{to_z-of_z}
 use Rattle.figures.specs.Leaving.{source_or}
-use Rattle.figures.proofs.displaced.source.Goals.{Else-demand-gt0, Then-demand-gt0, Then-demand-lt0}
 use Rattle.figures.proofs.displaced.source.Goals as goal
-
--- the number as it is held is the number
-held_then_demand_lt0 : (c : Then-demand-lt0) → to_z w16 (of_z w16 c.args.demand) ≡ c.args.demand
-held_then_demand_lt0 c = to_z-of_z w16 c.args.demand c.ranges.demand
-
--- the number as it is held is the number
-held_then_demand_gt0 : (c : Then-demand-gt0) → to_z w16 (of_z w16 c.args.demand) ≡ c.args.demand
-held_then_demand_gt0 c = to_z-of_z w16 c.args.demand c.ranges.demand
-
--- the number as it is held is the number
-held_else_demand_gt0 : (c : Else-demand-gt0) → to_z w16 (of_z w16 c.args.demand) ≡ c.args.demand
-held_else_demand_gt0 c = to_z-of_z w16 c.args.demand c.ranges.demand
 
 below : (z : ℤ) (v p : ℕ) → lt_z z (pos 0) ≡ true → v ≡ source_or 256 z v p
 unfolding source_or
@@ -43,10 +29,12 @@ neither (pos zero) v p h k = refl
 neither (pos (suc n)) v p h k = absurd (omega (arith, ltb-false 0 (suc n) k))
 
 pub returns-then-demand-lt0 : goal.returns-then-demand-lt0
-returns-then-demand-lt0 c = below _ _ _ (rw (held_then_demand_lt0 c) at c.if-demand-lt0.true)
+returns-then-demand-lt0 c = below _ _ _ (rw (to_z-of_z w16 c.args.demand c.ranges.demand) at c.if-demand-lt0.true)
 
 pub returns-then-demand-gt0 : goal.returns-then-demand-gt0
-returns-then-demand-gt0 c = above _ _ _ (rw (held_then_demand_gt0 c) at c.if-demand-gt0.true)
+returns-then-demand-gt0 c = above _ _ _ (rw (to_z-of_z w16 c.args.demand c.ranges.demand) at c.if-demand-gt0.true)
 
 pub returns : goal.returns
-returns c = neither _ _ _ (rw (held_else_demand_gt0 c) at c.if-demand-lt0.false) (rw (held_else_demand_gt0 c) at c.if-demand-gt0.false)
+returns c =
+    let held = to_z-of_z w16 c.args.demand c.ranges.demand in
+    neither _ _ _ (rw held at c.if-demand-lt0.false) (rw held at c.if-demand-gt0.false)
