@@ -1,6 +1,4 @@
 -- `load` reads the nine bytes.
-use borrow.Author.Rules.{rules}
-use native.Mathlib.Omega.{arith}
 use mathlib.Core.Path.{refl}
 use Rattle.model.specs.Calls.Registers.{registers_of}
 use Rattle.cabinet.proofs.block.load.Goals as goal

@@ -1,7 +1,5 @@
 -- `store` writes the nine bytes.
 use borrow.Author.Rules.{rules}
-use native.Mathlib.Omega.{arith}
-use lib.ListN.{length-set}
 use Rattle.model.specs.Calls.Registers.{block_of}
 use Rattle.cabinet.proofs.Laws.{nine}
 use Rattle.cabinet.proofs.block.store.Goals as goal

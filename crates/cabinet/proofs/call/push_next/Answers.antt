@@ -1,5 +1,4 @@
 -- `push_next` goes by command, status and what it is told; a step with place 0 is a push.
-use borrow.Author.Rules.{rules}
 use borrow.Author.Tests.{ne_eqb}
 use Rattle.model.specs.Push.{push}
 use Rattle.model.specs.Calls.Registers.{pebbles_then}

@@ -1,5 +1,5 @@
--- `step_block`: a block of another length is refused, behind the yard; of nine bytes the registers are read, lent to the step and written back.
-use native.Mathlib.Omega.{arith}
+-- `step_block`: a block of another length is refused, behind the yard; of nine bytes the registers are read, lent to the step and
+-- written back.
 use borrow.Author.Rules.{rules}
 use Rattle.laws.proofs.Calls.{sees}
 use Rattle.laws.proofs.Sheets.{Bytes}

@@ -14,7 +14,7 @@ pub bounds-plan-i : goal.bounds-plan-i
 bounds-plan-i c = omega (arith, next_lt c.args.plan.now c.args.r (omega arith) c.requires)
 
 pub bounds-plan-i-2 : goal.bounds-plan-i-2
-bounds-plan-i-2 c = next_lt c.args.plan.now c.args.r (omega arith) c.requires
+bounds-plan-i-2 c = omega (arith, next_lt c.args.plan.now c.args.r (omega arith) c.requires)
 
 pub returns : goal.returns
 returns c = told_next c.args.plan.now c.args.r c.args.failed (omega arith) c.requires

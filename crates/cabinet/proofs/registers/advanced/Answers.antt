@@ -1,5 +1,4 @@
 -- `advanced` shows the move and counts down.
-use borrow.Author.Rules.{rules}
 use mathlib.Core.Path.{◌∙◌}
 use Rattle.cabinet.proofs.registers.advanced.Goals as goal
 

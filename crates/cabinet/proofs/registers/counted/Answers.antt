@@ -1,5 +1,4 @@
 -- `counted` goes by whether a move is left.
-use borrow.Author.Rules.{rules}
 use borrow.Author.Tests.{ne_eqb}
 use Rattle.cabinet.proofs.registers.counted.Goals as goal
 

@@ -1,5 +1,4 @@
 -- `jammed` sets the status and the flag.
-use borrow.Author.Rules.{rules}
 use Rattle.cabinet.proofs.registers.jammed.Goals as goal
 
 pub returns : goal.returns

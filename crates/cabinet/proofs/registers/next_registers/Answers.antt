@@ -1,5 +1,4 @@
 -- `next_registers` goes by the command, the status and what it is told.
-use borrow.Author.Rules.{rules}
 use mathlib.Core.Path.{◌∙◌}
 use borrow.Author.Tests.{ne_eqb}
 use Rattle.model.specs.Calls.Registers.{registers_then}

@@ -1,5 +1,4 @@
 -- `raised` asks both bits.
-use borrow.Author.Rules.{rules}
 use mathlib.Core.Path.{sym, ◌∙◌}
 use Rattle.model.specs.Calls.Registers.{bit, raised}
 use Rattle.cabinet.proofs.registers.raised.Goals as goal

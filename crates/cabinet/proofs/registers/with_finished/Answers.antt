@@ -1,5 +1,4 @@
 -- `with_finished` writes bit 0 as the definition does.
-use borrow.Author.Rules.{rules}
 use mathlib.Core.Path.{refl}
 use Rattle.model.specs.Calls.Registers.{set_bit}
 use Rattle.cabinet.proofs.registers.with_finished.Goals as goal

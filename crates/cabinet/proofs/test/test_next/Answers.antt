@@ -12,7 +12,7 @@ pub bounds-plan-i : goal.bounds-plan-i
 bounds-plan-i c = omega (arith, next_lt c.args.plan.now c.args.r c.requires.1 c.requires.2)
 
 pub bounds-plan-i-2 : goal.bounds-plan-i-2
-bounds-plan-i-2 c = next_lt c.args.plan.now c.args.r c.requires.1 c.requires.2
+bounds-plan-i-2 c = omega (arith, next_lt c.args.plan.now c.args.r c.requires.1 c.requires.2)
 
 pub test_move-requires : goal.test_move-requires
 test_move-requires c =

@@ -30,9 +30,9 @@ returns-in-Refused-right c =
 
 pub test_task-requires : goal.test_task-requires
 test_task-requires c = (
-      sees c.test_yard-tested.ensures c.in_default.is,
-      told c.args.plan.now c.args.r (sees c.test_registers-right.ensures c.in_default-right.is),
-    )
+  sees c.test_yard-tested.ensures c.in_default.is,
+  told c.args.plan.now c.args.r (sees c.test_registers-right.ensures c.in_default-right.is),
+)
 
 pub returns : goal.returns
 unfolding step_fault

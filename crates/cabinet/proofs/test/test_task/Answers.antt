@@ -1,5 +1,4 @@
 -- `test_task` goes by the command and the status.
-use borrow.Author.Rules.{rules}
 use mathlib.Core.Path.{sym, ◌∙◌}
 use borrow.Author.Tests.{ne_eqb}
 use Rattle.model.specs.Calls.Registers.{whole_moves, task_fault}
