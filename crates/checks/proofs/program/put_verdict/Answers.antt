@@ -1,0 +1,23 @@
+-- `put_verdict` prints by the case of the checker's answer: accepted moves, or the refusal.
+use mathlib.Core.Path.{◌≡◌, refl, sym}
+use native.Mathlib.Omega.{arith}
+use borrow.Author.Rules.{rules}
+use Rattle.model.specs.Yard.{Yard, yard_of}
+use Rattle.model.specs.Calls.Answers.{answered, refused}
+use Rattle.model.specs.Calls.Checks.{check_answer}
+use Rattle.model.specs.Paper.{paper}
+use Rattle.sheet.proofs.Writing.{printed_as}
+use Rattle.checks.specs.Verdicts.{verdict, Accepted}
+use Rattle.checks.proofs.Printed.{agreed, refusal}
+use Rattle.checks.proofs.program.put_verdict.Goals as goal
+
+pub put_refused-requires : goal.put_refused-requires
+put_refused-requires c =
+    let e = rw c.in-Refused.is at c.check.ensures.result_value in
+    ((refusal _ c.args.plan.now e).0, omega (arith, c.requires))
+
+pub returns-in-Refused : goal.returns-in-Refused
+returns-in-Refused c =
+    let e = rw c.in-Refused.is at c.check.ensures.result_value in
+    let f = printed_as c.args.out.now (refusal _ c.args.plan.now e).1 (c.put_refused.ensures.value, c.put_refused.ensures.out_value) in
+    record { value = f.0; out_value = f.1 }
