@@ -27,13 +27,15 @@ list_apart-count-requires c =
 pub hand_over-requires : goal.hand_over-requires
 hand_over-requires c =
     let s = c.args in
-    let m = matched_tree (yard_of s.parents.now s.pebbles.now s.targets.now s.depths.now) (sees c.matched_demands-tested.ensures.result_value c.in_default.is) in
+    let y = yard_of s.parents.now s.pebbles.now s.targets.now s.depths.now in
+    let m = matched_tree y (sees c.matched_demands-tested.ensures.result_value c.in_default.is) in
     (listed_fits _ m.0 m.1 c.list_apart-count.ensures, omega (arith, c.list_apart-count.ensures.room))
 
 pub returns : goal.returns
 returns c =
     let s = c.args in
-    let m = matched_tree (yard_of s.parents.now s.pebbles.now s.targets.now s.depths.now) (sees c.matched_demands-tested.ensures.result_value c.in_default.is) in
+    let y = yard_of s.parents.now s.pebbles.now s.targets.now s.depths.now in
+    let m = matched_tree y (sees c.matched_demands-tested.ensures.result_value c.in_default.is) in
     record {
       result_value = c.hand_over.ensures.result_value ∙ answer_is _ m.0 m.1 c.list_apart-count.ensures s.list.now;
       list_value = c.hand_over.ensures.list_value ∙ list_is _ m.0 m.1 c.list_apart-count.ensures s.list.now;

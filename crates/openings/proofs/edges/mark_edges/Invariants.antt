@@ -1,13 +1,9 @@
--- `mark_edges`: from the highest node down each edge is marked by its demand and counts, which tell its opening, and linked if one comes down (the laws are in Marking).
-use mathlib.Core.Path.{◌≡◌, ◌∙◌}
-use Prim.Native.Nat.{◌+◌, ◌-◌, ◌≤◌, ◌<◌}
-use native.Mathlib.Omega.{arith}
+-- `mark_edges`: from the highest node down each edge is marked by its demand and counts, which tell its opening, and linked if one comes
+-- down (the laws are in Marking).
+use Prim.Native.Nat.{◌≤◌}
 use lib.ListN.{length}
-use borrow.Author.Rules.{rules}
-use Rattle.model.specs.Yard.{Yard, yard_of}
-use Rattle.laws.proofs.Judged.{facts, wood}
-use Rattle.openings.specs.Listing.{way_of, Marked}
-use Rattle.openings.proofs.Marking.{way_marked, marked_none, marked_other, marked_linked}
+use Rattle.model.specs.Yard.{yard_of}
+use Rattle.openings.specs.Listing.{Marked}
 use Rattle.openings.proofs.edges.mark_edges.Given as goal
 
 abbrev pub invariant-loop-v : goal.invariant-loop-v

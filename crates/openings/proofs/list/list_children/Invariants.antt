@@ -1,13 +1,9 @@
 -- `list_children`: from child to child, each opening is written behind those before (the laws are in Listing).
-use Prim.Native.Nat.{ℕ, ◌<◌}
-use native.Mathlib.Omega.{arith}
-use borrow.Author.Rules.{rules}
+use Prim.Native.Nat.{ℕ}
 use Rattle.model.specs.Yard.{Yard}
-use Rattle.laws.specs.Choice.{Child}
-use Rattle.laws.proofs.Judged.{facts}
 use Rattle.serve.proofs.Siblings.{ahead}
 use Rattle.openings.specs.Listing.{AskedChildren}
-use Rattle.openings.proofs.Listing.{falls, Walking, walk_first, walk_end, walk_child, walk_past, walk_room, next_child, walk_next}
+use Rattle.openings.proofs.Listing.{Walking}
 use Rattle.openings.proofs.list.list_children.Given as goal
 
 abbrev pub invariant-loop-c : goal.invariant-loop-c
