@@ -2,27 +2,24 @@
 -- at the end, and the search for an empty target decides.
 use mathlib.Core.Path.{◌≡◌, sym, ap, ◌∙◌}
 use mathlib.Core.List.{List}
-use mathlib.Core.Option.{Option}
 use Prim.Native.Nat.{ℕ}
 use lib.ListN.{length}
 use lib.Dec.{ltb}
 use Rattle.lists.specs.Find.{firstBelow}
 use Rattle.model.specs.Yard.{Yard, pebble, target, below, head_or}
-use Rattle.model.specs.Judge.{Fault, at_lowest, Tree}
+use Rattle.model.specs.Judge.{at_lowest, Tree}
 use Rattle.model.specs.Push.{Move, after, run}
-use Rattle.model.specs.Calls.Plans.{moves_of}
-use Rattle.model.specs.Paper.{paper_worn}
 use Rattle.laws.proofs.Found.{lowest_fault, lowest_none}
 use Rattle.laws.proofs.Judged.{facts}
 use Rattle.laws.proofs.Runs.{obeys, run_tree}
 use Rattle.laws.proofs.Calls.{answer_answered, answer_refused}
 use Rattle.checker.proofs.Laws.{front_zeros, came_back}
-use Rattle.wear.specs.Wearing.{obeyed_of}
 use Rattle.wear.proofs.call.wear_to_end.Goals as goal
 
 -- a search in the counts that the moves leave is one in the yard at the end
-ended : (y : Yard) → Tree y → (ms : List Move) (ps qs : List ℕ) → ps ≡ qs → qs ≡ after y ms → (r : ℕ) → r ≡ firstBelow ps y.targets
-    → let z = run y ms in r ≡ head_or (length y.parents) (below (length y.parents) (λ v. ltb (pebble z v) (target z v)))
+ended : (y : Yard) → Tree y → (ms : List Move) (ps qs : List ℕ) → ps ≡ qs → qs ≡ after y ms → (r : ℕ)
+    → r ≡ firstBelow ps y.targets
+    → let n = length y.parents in let z = run y ms in r ≡ head_or n (below n (λ v. ltb (pebble z v) (target z v)))
 ended y t ms ps qs b e r h = rw (b ∙ e, (facts (run y ms) (run_tree (obeys ms y t) t)).pebbles_size) at h
 
 pub slice_bounds-counts-end : goal.slice_bounds-counts-end
@@ -54,16 +51,14 @@ pub returns-then-empty-n : goal.returns-then-empty-n
 returns-then-empty-n c =
     let o = c.count_copy-worn in
     let back = came_back _ _ (facts _ c.requires.0).few.1 o.auto.counts in
-    let free = (answer_answered _ _ _ (sym o.ensures.result_value ∙ ap paper_worn c.in_default.is)).0 in
-    let at-end = rw free at o.ensures.counts_value in
-    let e = ended _ c.requires.0 (moves_of c.args.plan.now) _ _ back.is at-end _ c.first_below-empty.ensures in
+    let free = (answer_answered _ _ _ (sym c.in_default.ensures.result_value)).0 in
+    let e = ended _ c.requires.0 _ _ _ back.is (rw free at o.ensures.counts_value) _ c.first_below-empty.ensures in
     rw (free, lowest_fault _ _ 14 _ e c.if-empty-n.true)
 
 pub returns : goal.returns
 returns c =
     let o = c.count_copy-worn in
     let back = came_back _ _ (facts _ c.requires.0).few.1 o.auto.counts in
-    let free = (answer_answered _ _ _ (sym o.ensures.result_value ∙ ap paper_worn c.in_default.is)).0 in
-    let at-end = rw free at o.ensures.counts_value in
-    let e = ended _ c.requires.0 (moves_of c.args.plan.now) _ _ back.is at-end _ c.first_below-empty.ensures in
+    let free = (answer_answered _ _ _ (sym c.in_default.ensures.result_value)).0 in
+    let e = ended _ c.requires.0 _ _ _ back.is (rw free at o.ensures.counts_value) _ c.first_below-empty.ensures in
     o.ensures.result_value ∙ rw (free, ap (at_lowest 14) (lowest_none _ _ _ e c.if-empty-n.false))
