@@ -2,7 +2,7 @@
 -- has fewer nodes inside, so the height that bounds them falls (the laws are in Stretches, Siblings and Children).
 use mathlib.Core.Path.{◌≡◌, sym, ◌∙◌}
 use mathlib.Core.Logic.{◌≢◌}
-use mathlib.Core.Bool.{Bool, true, and-eq-true_iff}
+use mathlib.Core.Bool.{Bool, and-eq-true_iff}
 use mathlib.Core.List.{List}
 use Prim.Native.Nat.{ℕ, ◌+◌, ◌*◌, ◌≤◌, ◌<◌}
 use native.Mathlib.Omega.{arith}
@@ -87,7 +87,8 @@ balance_subtrees-m-requires t c =
     let l = c.loop-c.invariant p.0 _ (ended p.1 (c.settle-k.ensures p.0 p.1)) in
     let d = c.loop-c-test.true in
     let k = left_child p.1 l d in
-    (omega (arith, c.decreases, p.2, child_lower p.1 k), (_, child_asked p.1 k (left_here p.1 l d), omega (arith, p.2, child_lower p.1 k), p.3))
+    let f = child_lower p.1 k in
+    (omega (arith, c.decreases, p.2, f), (_, child_asked p.1 k (left_here p.1 l d), omega (arith, p.2, f), p.3))
 
 pub overflow_add-k : goal.overflow_add-k
 overflow_add-k t c =
@@ -112,7 +113,8 @@ loop-c-preserved-then-enters t c y before a =
     let k = left_child a.asked l d in
     let h = left_here a.asked l d in
     let q = ((and-eq-true_iff _ _).0 (sym c.enters.ensures ∙ c.if-enters.true)).0 in
-    left_behind a.asked l d c.wide-c-in-loop-c.ensures.0 (left_next a.asked k h q (c.balance_subtrees-m.ensures _ (child_asked a.asked k h)))
+    let n = left_next a.asked k h q (c.balance_subtrees-m.ensures _ (child_asked a.asked k h)) in
+    left_behind a.asked l d c.wide-c-in-loop-c.ensures.0 n
 
 pub loop-c-smaller : goal.loop-c-smaller
 loop-c-smaller t c =
@@ -121,7 +123,8 @@ loop-c-smaller t c =
 
 pub loop-c-preserved : goal.loop-c-preserved
 loop-c-preserved t c y before a =
-    left_passed a.asked (c.loop-c.invariant y before a) c.loop-c-test.true c.wide-c-in-loop-c.ensures.0 (sym c.enters.ensures ∙ c.if-enters.false)
+    let l = c.loop-c.invariant y before a in
+    left_passed a.asked l c.loop-c-test.true c.wide-c-in-loop-c.ensures.0 (sym c.enters.ensures ∙ c.if-enters.false)
 
 pub returns : goal.returns
 returns t c y a = left_last a (c.loop-c.invariant y _ (ended a (c.settle-k.ensures y a))) c.loop-c-test.false

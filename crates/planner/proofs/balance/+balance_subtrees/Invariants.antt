@@ -1,4 +1,5 @@
--- The calls of `planner::balance::balance_subtrees` end, as the height falls; and what is known in its loop: the children from the one at hand on are left.
+-- The calls of `planner::balance::balance_subtrees` end, as the height falls; and what is known in its loop: the children from the
+-- one at hand on are left.
 use mathlib.Core.List.{List}
 use Prim.Native.Nat.{ℕ}
 use Rattle.model.specs.Yard.{Yard}
@@ -12,7 +13,8 @@ decreases-balance_subtrees l = l.height
 
 abbrev pub invariant-loop-c : goal.invariant-loop-c
 invariant-loop-c l =
-    (y : Yard) (before : List ℕ) → LoopEnded y before l.t l.initial.s l.initial.plan l.initial.k l.u → LeftFrom (entered l.parts) y l.u l.s before l.plan l.k l.c
+    (y : Yard) (before : List ℕ) → LoopEnded y before l.t l.initial.s l.initial.plan l.initial.k l.u
+    → LeftFrom (entered l.parts) y l.u l.s before l.plan l.k l.c
 
 abbrev pub decreases-loop-c : goal.decreases-loop-c
 decreases-loop-c l = ahead l.u l.c

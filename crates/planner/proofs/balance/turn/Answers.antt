@@ -1,6 +1,4 @@
 -- `planner::balance::turn` meets its contract: where u is empty, or no child lacks a pebble, it is a turn that draws; else one that fills (the laws are in Settle).
-use borrow.Author.Rules.{rules}
-use mathlib.Core.Path.{◌∙◌}
 use native.Mathlib.Omega.{arith}
 use Rattle.serve.proofs.Looking.{node_small}
 use Rattle.planner.proofs.Settle.{draws, side_empty, fills_held, filled, none_filled, drawn}

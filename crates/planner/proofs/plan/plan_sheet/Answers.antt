@@ -1,19 +1,13 @@
 -- `planner::plan::plan_sheet` meets its contract: refused as a yard with no plan is; else the sizes of the demands are the shortest length, which is the
 -- plan's, and balancing the root gives the plan (the laws are in Planning).
-use mathlib.Core.Path.{◌≡◌, refl, sym, ◌∙◌}
-use mathlib.Core.Option.{none}
-use mathlib.Core.List.{List}
-use Prim.Native.Nat.{ℕ, ◌/◌, ◌≤◌, ◌<◌}
+use mathlib.Core.Path.{refl, sym, ◌∙◌}
+use Prim.Native.Nat.{◌/◌, ◌≤◌, ◌<◌}
 use native.Mathlib.Omega.{arith}
-use lib.ListN.{length, get_or, take}
-use lib.IntN.{ℤ, pos, nat_abs}
-use Rattle.model.specs.Yard.{Yard, size, sum, root, shortest, Matched}
-use Rattle.model.specs.Judge.{Tree, matched_fault}
+use lib.ListN.{length}
 use Rattle.laws.proofs.Judged.{facts, wood}
 use Rattle.laws.proofs.Demands.{weight_le}
 use Rattle.laws.proofs.Calls.{sees, matched_tree, plan_matched}
 use Rattle.lists.proofs.Root.{root_found}
-use Rattle.serve.specs.Serving.{Kept}
 use Rattle.planner.proofs.Planning.{front_length, front_long, sizes_range, sizes_shortest, plan_short, root_asked, plan_accepted, plan_written}
 use Rattle.planner.proofs.plan.plan_sheet.Goals as goal
 
