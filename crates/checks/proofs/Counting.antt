@@ -1,8 +1,8 @@
 -- Counting crossings move by move: a move raises the counts of the edges that it crosses, and so many moves cross an edge at most so often.
-use mathlib.Core.Path.{◌≡◌, refl, sym, ap, ◌∙◌}
+use mathlib.Core.Path.{◌≡◌, refl, sym, ◌∙◌}
 use mathlib.Core.Bool.{Bool, true, false, ◌&&◌}
 use mathlib.Core.List.{List, [], ◌∷◌}
-use Prim.Native.Nat.{ℕ, zero, suc, ◌+◌, ◌≤◌, ◌<◌}
+use Prim.Native.Nat.{ℕ, zero, suc, ◌+◌, ◌*◌, ◌/◌, ◌≤◌, ◌<◌}
 use native.Mathlib.Numerals.{add-one}
 use native.Mathlib.Omega.{arith}
 use native.Mathlib.Decide.{ℕ_discrete}
@@ -14,7 +14,9 @@ use Rattle.model.specs.Yard.{up, one}
 use Rattle.model.specs.Push.{Move, push, is_up, is_down, count}
 use Rattle.laws.proofs.Basics.{eqb_sym}
 use Rattle.laws.proofs.Wear.{count_append, count_le}
-use Rattle.checks.specs.Crossings.{raised, bare, CrossingsOf}
+use Rattle.model.specs.Calls.Plans.{moves_of}
+use Rattle.laws.proofs.Calls.{moves_of_half}
+use Rattle.checks.specs.Crossings.{raised, bare, InYard, CrossingsOf}
 
 -- one more at v
 pub length_raised : (v : ℕ) (b : Bool) (xs : List ℕ) → length (raised v b xs) ≡ length xs
@@ -68,6 +70,20 @@ module _ (ps : List ℕ) where
   crossed_few ms k us ds l c v =
       let n = length-take-le k ms l in
       (omega (arith, (c v).0, count_le (is_up (bare ps) v) (take k ms), n), omega (arith, (c v).1, count_le (is_down (bare ps) v) (take k ms), n))
+
+-- a move of the plan: its two nodes are of the yard, and no count is large
+module _ {ps plan : List ℕ} (y : InYard ps plan) (k : ℕ) (l : k < length plan / 2) where
+  pub turn : (2 * k + 1 < length plan) × (k < length (moves_of plan))
+  turn = (omega (arith, l), omega (arith, l, moves_of_half plan))
+
+  pub nodes : (get_or plan (2 * k) 0 < length ps) × (get_or plan (2 * k + 1) 0 < length ps) × (length ps ≤ 256)
+  nodes = (y.node _ (omega (arith, l)), y.node _ (omega (arith, l)), y.few)
+
+  pub few : (us ds : List ℕ) → CrossingsOf ps (take k (moves_of plan)) us ds
+      → (v : ℕ) → (get_or us v 0 < 1_000_000) × (get_or ds v 0 < 1_000_000)
+  few us ds c v =
+      let f = crossed_few ps (moves_of plan) k us ds (omega (arith, turn.1)) c v in
+      (omega (arith, f.0, turn.0, y.short), omega (arith, f.1, turn.0, y.short))
 
 -- an array of zeros
 pub zero_entry : (n v : ℕ) → get_or (replicate {A = ℕ} n 0) v 0 ≡ 0

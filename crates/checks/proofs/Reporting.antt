@@ -1,16 +1,16 @@
 -- The report of accepted moves: their nodes are of the yard, their crossings are counted, and there is room for it.
-use mathlib.Core.Path.{◌≡◌, refl, sym, ap, ◌∙◌}
+use mathlib.Core.Path.{◌≡◌, refl, sym, ap, subst, ◌∙◌}
 use mathlib.Core.List.{List, [], ◌∷◌, ◌++◌, append_assoc}
 use Prim.Native.Nat.{ℕ, zero, suc, ◌+◌, ◌*◌, ◌/◌, ◌%◌, ◌≤◌, ◌<◌}
 use native.Mathlib.Omega.{arith}
 use native.Mathlib.Decide.{ℕ_discrete, dec_lt}
 use lib.ListN.{length, get_or, take, get_or-eq_default}
 use lib.Seq.{get_or-take, length-take-le}
-use Rattle.model.specs.Yard.{Yard, size, max_size, root}
+use Rattle.model.specs.Yard.{Yard, size, root}
 use Rattle.model.specs.Push.{Move, push, is_up, is_down, count}
-use Rattle.model.specs.Calls.Answers.{answered, rowUnit}
+use Rattle.model.specs.Calls.Answers.{rowUnit}
 use Rattle.model.specs.Calls.Plans.{moves_of}
-use Rattle.model.specs.Calls.Checks.{Verdict, check_tests, check_fault, check_answer}
+use Rattle.model.specs.Calls.Checks.{Verdict, check_tests, check_fault}
 use Rattle.model.specs.Sheets.{text, line, report}
 use Rattle.model.specs.CheckSheets.{verdict_sheet}
 use Rattle.laws.proofs.Basics.{none_all}
@@ -18,16 +18,20 @@ use Rattle.laws.proofs.Judged.{facts}
 use Rattle.laws.proofs.Step.{ends}
 use Rattle.laws.proofs.Runs.{Obeys}
 use Rattle.laws.proofs.Moves.{accepted_obeys}
-use Rattle.laws.proofs.Calls.{answer_answered, moves_of_half, move_at}
+use Rattle.laws.proofs.Calls.{answer_answered, move_at}
 use Rattle.laws.proofs.Cabinet.{bytes_fault_whole}
 use Rattle.laws.proofs.Places.{checked_small, excess_small}
 use Rattle.laws.proofs.Demand2.{check_excess}
 use Rattle.laws.proofs.Spare.{check_solves}
 use Rattle.laws.proofs.Wear.{count_le}
 use Rattle.sheet.specs.Report.{Columns, report_of}
+use Rattle.lists.specs.Find.{firstOwn}
+use Rattle.lists.proofs.Root.{root_found}
+use Rattle.sheet.specs.Written.{Written}
 use Rattle.sheet.proofs.Edges.{report_is}
+use Rattle.sheet.proofs.Writing.{written_as, written_append}
 use Rattle.checks.specs.Crossings.{InYard, bare, Counted}
-use Rattle.checks.specs.Verdicts.{Accepted, accepted_sheet}
+use Rattle.checks.specs.Verdicts.{verdict, Accepted, accepted_sheet}
 
 -- the nodes of moves that are obeyed
 obeys_nodes : {y z : Yard} {ms : List Move} → Obeys y ms z → (k : ℕ) → k < length ms → let m = get_or ms k (push 0 0) in (m.from < size y) × (m.to < size y)
@@ -71,6 +75,10 @@ module _ (y : Yard) {ps plan : List ℕ} {v : Verdict} (h : Accepted y ps plan v
             let k : length (take (length ps) xs) ≤ w = omega (arith, length-take-le (length ps) xs (omega (arith, e, in_yard.few))) in
             rw (get_or-eq_default (take (length ps) xs) 0 k) (omega arith)
 
+    -- and the two arrays have an entry for each node
+    pub columns_room : (length ps ≤ length us) × (length ps ≤ length ds)
+    columns_room = (omega (arith, in_yard.few, c.up_length), omega (arith, in_yard.few, c.down_length))
+
     pub accepted_columns : Columns (take (length ps) us) (take (length ps) ds)
     accepted_columns =
         let n = in_yard.few in
@@ -98,3 +106,17 @@ accepted_report y {plan} {v} h {us} {ds} c n r e q =
 pub accepted_sheet_law : (y : Yard) (plan : List ℕ) (v : Verdict) → (text "moves spare\n" ++ line (v.moves ∷ v.excess ∷ [])) ++ report y (moves_of plan) ≡ accepted_sheet y plan v
 unfolding verdict_sheet
 accepted_sheet_law y plan v = append_assoc (text "moves spare\n") (line (v.moves ∷ v.excess ∷ [])) (report y (moves_of plan))
+
+-- what is written of accepted moves, for whatever such yard: the head and the two values, and behind them the report
+pub accepted_written : (y : Yard) {ps plan us ds out mid new : List ℕ} {moves excess root at r : ℕ}
+    → Accepted y ps plan (verdict moves excess) → Counted ps plan us ds → root ≡ firstOwn ps 0
+    → Written (text "moves spare\n" ++ line (moves ∷ excess ∷ [])) 0 out at mid
+    → Written (report_of (take (length ps) us) (take (length ps) ds) root moves) at mid r new
+    → Written (accepted_sheet y plan (verdict moves excess)) 0 out r new
+accepted_written y {ps} {plan} {us} {ds} {moves = moves} {excess} {root} h c f w x =
+    let v = verdict moves excess in
+    let own : Accepted y y.parents plan v = record { is = refl; answer = h.answer } in
+    let n = subst (λ (qs : List ℕ). Counted qs plan us ds) (sym h.is) c in
+    let q = root_found y (check_solves y plan v h.answer).0 root (f ∙ ap (λ (qs : List ℕ). firstOwn qs 0) (sym h.is)) in
+    let e = accepted_report y own n (length ps) root (ap length (sym h.is)) q in
+    written_as (accepted_sheet_law y plan v) (written_append w (written_as e x))

@@ -1,6 +1,5 @@
 -- `digit_at` compares the byte, if there is one.
 use native.Mathlib.Omega.{arith}
-use borrow.Author.Rules.{rules}
 use Rattle.checks.proofs.YardEnd.{digit_behind, digit_low, digit_high}
 use Rattle.checks.proofs.part.digit_at.Goals as goal
 

@@ -1,7 +1,6 @@
 -- `ends_yard` compares the byte, and asks for a digit behind it.
 use mathlib.Core.Path.{ap}
 use mathlib.Core.Bool.{not}
-use borrow.Author.Rules.{rules}
 use borrow.Author.Tests.{eq-eqb, ne_eqb}
 use Rattle.checks.proofs.part.ends_yard.Goals as goal
 

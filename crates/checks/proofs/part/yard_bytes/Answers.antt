@@ -1,9 +1,6 @@
 -- `yard_bytes` goes on from byte to byte: the part is the i bytes before and what is left of it. The measure is the bytes left.
-use mathlib.Core.Path.{◌≡◌, sym, ◌∙◌}
-use Prim.Native.Nat.{◌+◌, ◌-◌, ◌≤◌}
+use mathlib.Core.Path.{sym, ◌∙◌}
 use native.Mathlib.Omega.{arith}
-use lib.ListN.{length, drop}
-use Rattle.model.specs.CheckSheets.{yard_part}
 use Rattle.checks.proofs.YardEnd.{part_last, part_on, part_end}
 use Rattle.checks.proofs.part.yard_bytes.Goals as goal
 
@@ -15,7 +12,8 @@ returns-then-ends_yard c =
 pub loop-i-preserved : goal.loop-i-preserved
 loop-i-preserved c =
     let input = c.args.input.now in
-    (omega arith, omega (arith, c.loop-i.invariant.1, part_on input c.loop-i.i (omega arith) (sym c.ends_yard.ensures ∙ c.if-ends_yard.false)))
+    let e = part_on input c.loop-i.i (omega arith) (sym c.ends_yard.ensures ∙ c.if-ends_yard.false) in
+    (omega arith, omega (arith, c.loop-i.invariant.1, e))
 
 pub returns : goal.returns
 returns c = omega (arith, c.loop-i.invariant.1, part_end c.args.input.now c.loop-i.i (omega arith))

@@ -1,10 +1,8 @@
 -- `yard_bytes` goes on from byte to byte: the part is the i bytes before and what is left of it. The measure is the bytes left.
-use mathlib.Core.Path.{◌≡◌, sym, ◌∙◌}
+use mathlib.Core.Path.{◌≡◌}
 use Prim.Native.Nat.{◌+◌, ◌-◌, ◌≤◌}
-use native.Mathlib.Omega.{arith}
 use lib.ListN.{length, drop}
 use Rattle.model.specs.CheckSheets.{yard_part}
-use Rattle.checks.proofs.YardEnd.{part_last, part_on, part_end}
 use Rattle.checks.proofs.part.yard_bytes.Given as goal
 
 abbrev pub invariant-loop-i : goal.invariant-loop-i

@@ -1,27 +1,24 @@
--- `read_moves` takes line after line: the list holds the first m moves, and the bytes from `next` on are the other lines. The measure is the moves that are
--- still read.
+-- `read_moves` takes line after line: the list holds the first m moves, and the bytes from `next` on are the other lines. The measure
+-- is the moves that are still read.
 use mathlib.Core.Path.{sym, ◌∙◌}
-use Prim.Native.Nat.{◌-◌, ◌≤◌}
 use native.Mathlib.Omega.{arith}
-use lib.ListN.{length-set, drop_of_length-le}
-use borrow.Author.Rules.{rules}
-use Rattle.model.specs.CheckSheets.{moves_read}
+use lib.ListN.{drop_of_length-le}
 use Rattle.reader.specs.Reading.{line_in}
 use Rattle.reader.proofs.ReadLines.{seen}
-use Rattle.checks.proofs.MovesRead.{SoFar, so_far_none, so_far_end, so_far_report, so_far_many, so_far_shape, so_far_next}
+use Rattle.checks.proofs.MovesRead.{so_far_end, so_far_report, so_far_many, so_far_shape, so_far_next}
 use Rattle.checks.proofs.plan.read_moves.Goals as goal
 
 pub returns-then-next-input : goal.returns-then-next-input
 returns-then-next-input c = record {
-    plan_value = so_far_end c.loop-m.invariant.1 (drop_of_length-le _ c.if-next-input.true);
-    result_bound = c.loop-m.invariant.0;
-  }
+  plan_value = so_far_end c.loop-m.invariant.1 (drop_of_length-le _ c.if-next-input.true);
+  result_bound = c.loop-m.invariant.0;
+}
 
 pub returns-then-report_at : goal.returns-then-report_at
 returns-then-report_at c = record {
-    plan_value = so_far_report c.loop-m.invariant.1 (sym c.report_at.ensures ∙ c.if-report_at.true);
-    result_bound = c.loop-m.invariant.0;
-  }
+  plan_value = so_far_report c.loop-m.invariant.1 (sym c.report_at.ensures ∙ c.if-report_at.true);
+  result_bound = c.loop-m.invariant.0;
+}
 
 pub returns-in_default : goal.returns-in_default
 returns-in_default c =
@@ -41,6 +38,6 @@ loop-m-preserved c =
 
 pub returns : goal.returns
 returns c = record {
-    plan_value = so_far_many c.loop-m.invariant.1 (omega arith);
-    result_bound = c.loop-m.invariant.0;
-  }
+  plan_value = so_far_many c.loop-m.invariant.1 (omega arith);
+  result_bound = c.loop-m.invariant.0;
+}

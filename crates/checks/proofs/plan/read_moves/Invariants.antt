@@ -1,14 +1,8 @@
--- `read_moves` takes line after line: the list holds the first m moves, and the bytes from `next` on are the other lines. The measure is the moves that are
--- still read.
-use mathlib.Core.Path.{sym, ◌∙◌}
+-- `read_moves` takes line after line: the list holds the first m moves, and the bytes from `next` on are the other lines. The measure
+-- is the moves that are still read.
 use Prim.Native.Nat.{◌-◌, ◌≤◌}
-use native.Mathlib.Omega.{arith}
-use lib.ListN.{length-set, drop_of_length-le}
-use borrow.Author.Rules.{rules}
 use Rattle.model.specs.CheckSheets.{moves_read}
-use Rattle.reader.specs.Reading.{line_in}
-use Rattle.reader.proofs.ReadLines.{seen}
-use Rattle.checks.proofs.MovesRead.{SoFar, so_far_none, so_far_end, so_far_report, so_far_many, so_far_shape, so_far_next}
+use Rattle.checks.proofs.MovesRead.{SoFar}
 use Rattle.checks.proofs.plan.read_moves.Given as goal
 
 abbrev pub invariant-loop-m : goal.invariant-loop-m

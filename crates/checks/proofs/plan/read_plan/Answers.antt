@@ -4,7 +4,6 @@ use native.Mathlib.Numerals.{add-one}
 use native.Mathlib.Omega.{arith}
 use lib.ListN.{drop}
 use lib.Seq.{drop-drop}
-use borrow.Author.Rules.{rules}
 use Rattle.model.specs.Sheets.{text}
 use Rattle.checks.proofs.MovesRead.{plan_headless, plan_headed}
 use Rattle.checks.proofs.plan.read_plan.Goals as goal

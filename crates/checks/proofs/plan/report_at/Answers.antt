@@ -1,5 +1,4 @@
 -- `report_at` asks for the report's head.
-use borrow.Author.Rules.{rules}
 use Rattle.model.specs.Sheets.{text}
 use Rattle.checks.proofs.plan.report_at.Goals as goal
 

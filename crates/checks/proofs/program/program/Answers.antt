@@ -1,19 +1,12 @@
 -- `program` prints what its input says: the yard sheet in front is read, then the move sheet behind it; a refusal of the reader is printed.
-use mathlib.Core.Path.{◌≡◌, sym}
-use mathlib.Core.List.{List}
-use Prim.Native.Nat.{ℕ, ◌≤◌}
+use mathlib.Core.Path.{sym}
 use native.Mathlib.Omega.{arith}
-use lib.ListN.{length, take}
 use lib.Seq.{length-take-le}
 use borrow.Author.Rules.{rules}
-use Rattle.model.specs.Calls.Answers.{refused}
-use Rattle.model.specs.Sheets.{read_answer}
-use Rattle.model.specs.CheckSheets.{yard_part}
-use Rattle.model.specs.Paper.{paper}
 use Rattle.laws.proofs.Sheets.{read_sizes}
 use Rattle.laws.proofs.YardPart.{yard_part_front}
 use Rattle.sheet.proofs.Writing.{printed_as}
-use Rattle.reader.proofs.Blank.{blank, Found, read_number, read_refused}
+use Rattle.reader.proofs.Blank.{read_number, read_refused}
 use Rattle.checks.proofs.Printed.{checked, unread}
 use Rattle.checks.proofs.program.program.Goals as goal
 

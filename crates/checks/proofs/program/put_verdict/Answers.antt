@@ -1,14 +1,7 @@
 -- `put_verdict` prints by the case of the checker's answer: accepted moves, or the refusal.
-use mathlib.Core.Path.{◌≡◌, refl, sym}
 use native.Mathlib.Omega.{arith}
-use borrow.Author.Rules.{rules}
-use Rattle.model.specs.Yard.{Yard, yard_of}
-use Rattle.model.specs.Calls.Answers.{answered, refused}
-use Rattle.model.specs.Calls.Checks.{check_answer}
-use Rattle.model.specs.Paper.{paper}
 use Rattle.sheet.proofs.Writing.{printed_as}
-use Rattle.checks.specs.Verdicts.{verdict, Accepted}
-use Rattle.checks.proofs.Printed.{agreed, refusal}
+use Rattle.checks.proofs.Printed.{refusal}
 use Rattle.checks.proofs.program.put_verdict.Goals as goal
 
 pub put_refused-requires : goal.put_refused-requires
