@@ -2,9 +2,9 @@
 use mathlib.Core.Path.{◌≡◌, refl, sym, ap, ◌∙◌}
 use mathlib.Core.Logic.{◌≢◌}
 use mathlib.Core.Bool.{not}
-use mathlib.Core.List.{List, [], ◌∷◌, map}
+use mathlib.Core.List.{List, map}
 use mathlib.Core.Option.{none, some}
-use Prim.Native.Nat.{ℕ, suc, ◌+◌, ◌-◌, ◌*◌, ◌/◌, ◌≤◌, ◌<◌}
+use Prim.Native.Nat.{ℕ, suc, ◌+◌, ◌/◌, ◌≤◌, ◌<◌}
 use native.Mathlib.Omega.{arith}
 use lib.ListN.{length, get_or}
 use lib.Dec.{eqb}
@@ -12,7 +12,7 @@ use lib.IntN.{ℤ}
 use Rattle.model.specs.Yard.{Yard, size, shortest, Matched}
 use Rattle.model.specs.Judge.{Fault, fault, Tree}
 use Rattle.model.specs.Push.{after, run}
-use Rattle.model.specs.Parts.{topmost, parts_plan}
+use Rattle.model.specs.Parts.{topmost}
 use Rattle.model.specs.Calls.Answers.{refused, range}
 use Rattle.model.specs.Calls.Parts.{parts_fault, parts_answer, parts_plan_list, parts_list}
 use Rattle.laws.specs.Parts.{Top}
@@ -21,11 +21,12 @@ use Rattle.laws.proofs.Shortest.{Good, good_nil, keeps}
 use Rattle.laws.proofs.PartTurns.{top_even, parts_before, parts_before_none, parts_before_all, parts_pass, parts_turn}
 use Rattle.laws.proofs.Demand3.{plan_length}
 use Rattle.laws.proofs.PartsCall.{parts_fault_law, parts_none}
-use Rattle.serve.specs.Serving.{Made}
+use Rattle.serve.specs.Serving.{Kept, Tables, Made}
 use Rattle.serve.proofs.Moving.{made_nil}
 use Rattle.serve.proofs.Stretches.{rest, back, made_append, room_left, describes_after}
 use Rattle.planner.specs.Balancing.{entered, AskedEven, Balanced}
-use Rattle.planner.proofs.Planning.{plan_short, room}
+use Rattle.planner.proofs.Planning.{front_long, plan_short, room}
+use Rattle.parts.specs.Naming.{AskedNames}
 use Rattle.parts.specs.Planning.{AskedParts, PlannedParts}
 
 -- the call's refusals
@@ -39,6 +40,15 @@ module _ (y : Yard) (list parts : List ℕ) where
 
     pub parts_accepted : l ≤ length list / 2 → parts_fault y list parts ≡ none
     parts_accepted h = (parts_none y list parts).1 (t, m, n, omega (arith, room y t m list l e h, plan_length y t m))
+
+-- what naming the parts asks holds of an accepted yard, and what planning them asks of what naming leaves
+module _ (y : Yard) (t : Tree y) (m : Matched y) (s : List ℤ) (k : Kept y s) where
+  pub names_asked : (parts : List ℕ) → length parts ≡ size y → AskedNames y y.parents s parts
+  names_asked parts n = record { tree = t; matched = m; parents_are = refl; demands_are = k.demands; demands_long = front_long y t s k; long = n }
+
+  pub parts_asked : (tables : List ℕ) → Tables y.parents tables → (list : List ℕ) (l : ℕ) → l ≡ shortest y → l ≤ length list / 2
+      → (parts : List ℕ) → parts ≡ map (topmost y) (range 0 (size y)) → AskedParts y tables s list parts
+  parts_asked tables d list l e h parts n = record { described = record { tree = t; tables = d; kept = k }; matched = m; room = room y t m list l e h; named = n }
 
 -- the parts before i are planned
 pub record Before (y : Yard) (s : List ℤ) (before plan : List ℕ) (k i : ℕ) : Type 0 where
