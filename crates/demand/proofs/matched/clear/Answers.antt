@@ -6,7 +6,6 @@ use lib.ListN.{length, length-replicate, get_or-replicate}
 use lib.Seq.{ext_get_or}
 use Rattle.demand.proofs.matched.clear.Goals as goal
 
--- no goal for same-length
 
 pub returns : goal.returns
 returns c =

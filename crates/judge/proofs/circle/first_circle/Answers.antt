@@ -6,6 +6,7 @@ use native.Mathlib.Numerals.{add-one}
 use Prim.Native.Nat.{ℕ, ◌≤◌, ◌<◌, ◌+◌}
 use mathlib.Core.Path.{◌≡◌, refl, sym, ap, ◌∙◌, subst}
 use mathlib.Core.Bool.{not}
+use mathlib.Core.List.{List}
 use mathlib.Core.Logic.{⊎_elim}
 use lib.ListN.{length, get_or, replicate}
 use lib.Seq.{get_or-set_same}
@@ -18,40 +19,18 @@ use Rattle.laws.proofs.Found.{found, missed}
 use Rattle.judge.proofs.circle.first_circle.Invariants.{Reaches}
 use Rattle.judge.proofs.circle.first_circle.Goals as goal
 
--- no goal for overflow-cast-if1
--- no goal for overflow-cast-u
-
--- node k of the climb under way
-abbrev node_after_shared_slice_known_in_loop_u_1 : goal.After-shared_slice_known-in-loop-u-1 → ℕ → ℕ
-node_after_shared_slice_known_in_loop_u_1 c k = above k c.args.parents.now c.nodes.v
-
--- node k of the climb under way
-abbrev node_after_mark : goal.After-mark → ℕ → ℕ
-node_after_mark c k = above k c.args.parents.now c.nodes.v
-
--- node k of the climb under way
-abbrev node_then_steps_n : goal.Then-steps-n → ℕ → ℕ
-node_then_steps_n c k = above k c.args.parents.now c.nodes.v
-
--- its first steps + 1 nodes are not the root, if the last of them is not known
-unmet_after_shared_slice_known_in_loop_u_1 : (c : goal.After-shared_slice_known-in-loop-u-1) (j : ℕ) → j < c.loop-u.steps + 1 → node_after_shared_slice_known_in_loop_u_1 c j ≡ c.args.root → ⊥
-unmet_after_shared_slice_known_in_loop_u_1 c =
-    let known = c.nodes.known in
-    below_more _ _ c.loop-u.invariant.4 (λ e. omega (arith, ap (λ (u : ℕ). get_or known u 0) (sym c.loop-u.invariant.3 ∙ e)))
-
--- its first steps + 1 nodes are not the root, if the last of them is not known
-unmet_then_steps_n : (c : goal.Then-steps-n) (j : ℕ) → j < c.loop-u.steps + 1 → node_then_steps_n c j ≡ c.args.root → ⊥
-unmet_then_steps_n c =
-    let known = c.nodes.known in
-    below_more _ _ c.loop-u.invariant.4 (λ e. omega (arith, ap (λ (u : ℕ). get_or known u 0) (sym c.loop-u.invariant.3 ∙ e)))
+-- the first steps + 1 nodes of a climb from v are not the root, if the last of them, u, is not known
+unmet : (ps known : List ℕ) (v root u steps : ℕ) → get_or known root 0 ≡ 1 → get_or known u 0 ≡ 0 → above steps ps v ≡ u
+    → ((j : ℕ) → j < steps → above j ps v ≡ root → ⊥) → (j : ℕ) → j < steps + 1 → above j ps v ≡ root → ⊥
+unmet ps known v root u steps r z a b = below_more _ _ b (λ e. omega (arith, r, z, ap (λ (w : ℕ). get_or known w 0) (sym a ∙ e)))
 
 -- they reach the root, if it is
-reached_after_mark : (c : goal.After-mark) (k : ℕ) → k ≤ c.loop-u.steps
-    → Reaches c.args.parents.now c.args.root (node_after_mark c k)
-reached_after_mark c k l =
+reached : (c : goal.After-mark) (k : ℕ) → k ≤ c.loop-u.steps → Reaches c.args.parents.now c.args.root (above k c.args.parents.now c.nodes.v)
+reached c k l =
     let nodes = c.nodes in
     let loop = c.loop-u in
-    above_reaches c.args.parents.now c.requires.0.node c.args.root loop.steps k nodes.v (omega arith) l (rw loop.invariant.3 (nodes.invariant.3 loop.u c.loop-u-test.false))
+    above_reaches c.args.parents.now c.requires.0.node c.args.root loop.steps k nodes.v (omega arith) l
+    (rw loop.invariant.3 (nodes.invariant.3 loop.u c.loop-u-test.false))
 
 pub nodes-init : goal.nodes-init
 nodes-init c =
@@ -88,7 +67,7 @@ loop-u-preserved c =
       omega arith,
       c.requires.0.node loop.u loop.invariant.2,
       rw add-one (above_next loop.steps ps nodes.v ∙ ap (up ps) loop.invariant.3),
-      unmet_after_shared_slice_known_in_loop_u_1 c,
+      unmet ps nodes.known nodes.v c.args.root loop.u loop.steps nodes.invariant.2 c.loop-u-test.true loop.invariant.3 loop.invariant.4,
     )
 
 pub nodes-preserved : goal.nodes-preserved
@@ -98,8 +77,8 @@ nodes-preserved c =
       omega arith,
       c.loop-u.invariant.0 ∙ nodes.invariant.1,
       ⊎_elim (λ e. e ∙ nodes.invariant.2) (λ e. e.0) (c.mark.ensures _),
-      λ w h. ⊎_elim (λ e. nodes.invariant.3 w (λ z. h (e ∙ z))) (λ e. rw e.1.2 at (reached_after_mark c e.1.0 (omega arith))) (c.mark.ensures w),
-      below_more _ _ nodes.invariant.4 (reached_after_mark c 0 (omega arith)),
+      λ w h. ⊎_elim (λ e. nodes.invariant.3 w (λ z. h (e ∙ z))) (λ e. rw e.1.2 at (reached c e.1.0 (omega arith))) (c.mark.ensures w),
+      below_more _ _ nodes.invariant.4 (reached c 0 (omega arith)),
     )
 
 pub returns-after-nodes : goal.returns-after-nodes
@@ -112,5 +91,7 @@ returns-then-steps-n c =
     let ps = c.args.parents.now in
     let root = c.args.root in
     let nodes = c.nodes in
-    let past = climbs_past (length ps) ps nodes.v root (λ j l. unmet_then_steps_n c j (omega arith)) in
+    let loop = c.loop-u in
+    let far = unmet ps nodes.known nodes.v root loop.u loop.steps nodes.invariant.2 c.loop-u-test.true loop.invariant.3 loop.invariant.4 in
+    let past = climbs_past (length ps) ps nodes.v root (λ j l. far j (omega arith)) in
     omega (arith, found (length ps) (length ps) nodes.v (λ v. not (climbs (length ps) ps v root)) (omega arith) (λ w l. ap not (nodes.invariant.4 w l)) (ap not past))

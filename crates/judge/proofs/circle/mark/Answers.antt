@@ -9,8 +9,6 @@ use Rattle.judge.proofs.Lists.{set_either}
 use Rattle.judge.proofs.Climb.{above_next}
 use Rattle.judge.proofs.circle.mark.Goals as goal
 
--- no goal for overflow-cast-u
-
 pub loop-i-init : goal.loop-i-init
 unfolding above
 loop-i-init c = (refl, c.requires.1, λ w. inl refl)

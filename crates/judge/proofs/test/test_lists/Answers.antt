@@ -5,9 +5,6 @@ use Rattle.model.specs.Paper.{paper_done}
 use Rattle.laws.proofs.Tests.{passed_lengths, lists_lengths, lists_entries}
 use Rattle.judge.proofs.test.test_lists.Goals as goal
 
--- no goal for enum-known-lengths
--- no goal for enum-told
-
 abbrev yard_in_refused : goal.In-Refused → Yard
 yard_in_refused s = yard_of s.args.parents.now s.args.pebbles.now s.args.targets.now s.args.depths.now
 

@@ -6,9 +6,6 @@ use Rattle.laws.proofs.Judged.{flat}
 use Rattle.laws.proofs.Tests.{judge_lists, judge_shape}
 use Rattle.judge.proofs.test.test_yard.Goals as goal
 
--- no goal for enum-known-lists
--- no goal for enum-told
-
 abbrev yard_in_refused : goal.In-Refused → Yard
 yard_in_refused s = yard_of s.args.parents.now s.args.pebbles.now s.args.targets.now s.args.depths.now
 

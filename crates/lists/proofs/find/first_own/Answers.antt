@@ -11,8 +11,6 @@ use Rattle.laws.proofs.Found.{found, missed}
 use Rattle.lists.proofs.find.first_own.Invariants.{own}
 use Rattle.lists.proofs.find.first_own.Goals as goal
 
--- no goal for overflow-cast-if1
-
 own_is : (list : List ℕ) (start v : ℕ) → start ≤ v → get_or list v 0 ≡ v → own list start v ≡ true
 own_is list start v l e = rw (le-leb start v l, eq-eqb (get_or list v 0) v e)
 

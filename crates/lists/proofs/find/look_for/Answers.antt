@@ -1,6 +1,5 @@
 -- `look_for`: every entry before the index is below the limit, so the first one met is the lowest, and past the
 -- end there is none.
-use Prim.Native.Nat.{ℕ}
 use mathlib.Core.Path.{◌≡◌, ◌∙◌}
 use native.Mathlib.Omega.{arith}
 use lib.ListN.{length, get_or}
@@ -8,15 +7,9 @@ use borrow.Author.Tests.{le-leb}
 use Rattle.laws.proofs.Found.{found, missed}
 use Rattle.lists.proofs.find.look_for.Goals as goal
 
--- no goal for overflow-cast-if1
-
--- the entry at the index
-abbrev entry_then_list_i : goal.Then-list-i → ℕ
-entry_then_list_i c = get_or c.args.list.now c.loop-i.i 0
-
 pub returns-then-list-i : goal.returns-then-list-i
 returns-then-list-i c =
-    found _ _ _ _ (omega arith) c.loop-i.invariant.1 (le-leb c.args.limit (entry_then_list_i c) (omega arith))
+    found _ _ _ _ (omega arith) c.loop-i.invariant.1 (le-leb c.args.limit (get_or c.args.list.now c.loop-i.i 0) (omega arith))
 
 pub returns : goal.returns
 returns c =

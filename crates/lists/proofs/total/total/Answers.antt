@@ -7,8 +7,6 @@ use lib.ListN.{get_or}
 use Rattle.model.specs.Yard.{sum}
 use Rattle.lists.proofs.total.total.Goals as goal
 
--- no goal for overflow-cast-count
-
 byte : (c : goal.After-shared_slice_known-1) → get_or c.args.list.now c.loop-i.i 0 < 256
 byte c = (c.type_inv.list c.loop-i.i).fits
 
