@@ -44,11 +44,23 @@ module _ (y : Yard) (list parts : List ℕ) where
 -- what naming the parts asks holds of an accepted yard, and what planning them asks of what naming leaves
 module _ (y : Yard) (t : Tree y) (m : Matched y) (s : List ℤ) (k : Kept y s) where
   pub names_asked : (parts : List ℕ) → length parts ≡ size y → AskedNames y y.parents s parts
-  names_asked parts n = record { tree = t; matched = m; parents_are = refl; demands_are = k.demands; demands_long = front_long y t s k; long = n }
+  names_asked parts n = record {
+    tree = t;
+    matched = m;
+    parents_are = refl;
+    demands_are = k.demands;
+    demands_long = front_long y t s k;
+    long = n;
+  }
 
   pub parts_asked : (tables : List ℕ) → Tables y.parents tables → (list : List ℕ) (l : ℕ) → l ≡ shortest y → l ≤ length list / 2
       → (parts : List ℕ) → parts ≡ map (topmost y) (range 0 (size y)) → AskedParts y tables s list parts
-  parts_asked tables d list l e h parts n = record { described = record { tree = t; tables = d; kept = k }; matched = m; room = room y t m list l e h; named = n }
+  parts_asked tables d list l e h parts n = record {
+    described = record { tree = t; tables = d; kept = k };
+    matched = m;
+    room = room y t m list l e h;
+    named = n;
+  }
 
 -- the parts before i are planned
 pub record Before (y : Yard) (s : List ℤ) (before plan : List ℕ) (k i : ℕ) : Type 0 where

@@ -1,4 +1,5 @@
--- `javendriky_check` answers what `test_plan` does, which is small; so it answers 0 where the checker accepts and nowhere else, and the checker is exact.
+-- `javendriky_check` answers what `test_plan` does, which is small; so it answers 0 where the checker accepts and nowhere else, and the
+-- checker is exact.
 use mathlib.Core.Path.{ap, ◌∙◌}
 use Rattle.model.specs.Calls.Answers.{zeroInC}
 use Rattle.laws.proofs.Demand2.{checker_exact_of}

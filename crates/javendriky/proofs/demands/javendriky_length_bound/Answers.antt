@@ -1,4 +1,5 @@
--- `javendriky_length_bound` answers the moves that `length_bound` tells and writes the bytes, both small, or is refused as it is and leaves the number.
+-- `javendriky_length_bound` answers the moves that `length_bound` tells and writes the bytes, both small, or is refused as it is and leaves
+-- the number.
 use native.Mathlib.Omega.{arith}
 use mathlib.Core.Path.{◌≡◌}
 use Rattle.model.specs.Yard.{Yard}

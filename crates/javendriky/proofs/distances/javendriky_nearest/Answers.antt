@@ -1,4 +1,5 @@
--- `javendriky_nearest` answers the node that `nearest` tells and writes the distance, both small, or is refused as it is and leaves the number.
+-- `javendriky_nearest` answers the node that `nearest` tells and writes the distance, both small, or is refused as it is and leaves the
+-- number.
 use native.Mathlib.Omega.{arith}
 use Prim.Native.Nat.{ℕ}
 use mathlib.Core.Path.{◌≡◌}

@@ -1,4 +1,5 @@
--- `javendriky_plan` answers and leaves what `plan` does; its answer is small, so the number tells it, and demands 2 and 3 hold of what it tells.
+-- `javendriky_plan` answers and leaves what `plan` does; its answer is small, so the number tells it, and demands 2 and 3 hold of what it
+-- tells.
 use mathlib.Core.Path.{ap, ◌∙◌}
 use Rattle.model.specs.Calls.Answers.{in_c}
 use Rattle.laws.proofs.Places.{plan_small, tells}

@@ -4,5 +4,6 @@ use Rattle.javendriky.proofs.sheets.javendriky_write_sheet.Goals as goal
 
 pub counted-requires : goal.counted-requires
 counted-requires c =
+    let r = c.type_inv in
     rw c.write_sheet.ensures.result_value
-    (write_small _ ((λ i. (c.type_inv.parents i).fits), (λ i. (c.type_inv.pebbles i).fits), (λ i. (c.type_inv.targets i).fits), λ i. (c.type_inv.depths i).fits) c.args.sheet.now)
+    (write_small _ ((λ i. (r.parents i).fits), (λ i. (r.pebbles i).fits), (λ i. (r.targets i).fits), λ i. (r.depths i).fits) _)

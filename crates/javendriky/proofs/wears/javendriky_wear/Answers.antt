@@ -1,4 +1,5 @@
--- `javendriky_wear` answers the crossings that `wear` tells and writes the other two values, all small, or is refused as it is and leaves the numbers.
+-- `javendriky_wear` answers the crossings that `wear` tells and writes the other two values, all small, or is refused as it is and leaves
+-- the numbers.
 use native.Mathlib.Omega.{arith}
 use Prim.Native.Nat.{ℕ}
 use mathlib.Core.Path.{◌≡◌}

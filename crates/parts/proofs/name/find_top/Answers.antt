@@ -1,4 +1,5 @@
--- `parts::name::find_top` meets its contract: each step comes to a node of the same part with more nodes inside, so there are at most as many as nodes (the laws are in Naming).
+-- `parts::name::find_top` meets its contract: each step comes to a node of the same part with more nodes inside, so there are at most as
+-- many as nodes (the laws are in Naming).
 use mathlib.Core.Path.{sym, ◌∙◌}
 use native.Mathlib.Omega.{arith}
 use Rattle.parts.proofs.Naming.{climb_few, climb_next, climb_last}

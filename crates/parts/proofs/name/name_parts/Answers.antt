@@ -1,4 +1,5 @@
--- `parts::name::name_parts` meets its contract: cut at the edges of demand 0, the list leads up each part; then node by node is named (the laws are in Naming).
+-- `parts::name::name_parts` meets its contract: cut at the edges of demand 0, the list leads up each part; then node by node is named (the
+-- laws are in Naming).
 use native.Mathlib.Omega.{arith}
 use Rattle.parts.proofs.Naming.{asked_cut, cut_leads, names_next, names_all}
 use Rattle.parts.proofs.name.name_parts.Goals as goal

@@ -1,4 +1,5 @@
--- `parts::name::shorten` meets its contract: each turn lets one node more lead to the topmost node of its part, and goes on to where it led before (the laws are in Naming).
+-- `parts::name::shorten` meets its contract: each turn lets one node more lead to the topmost node of its part, and goes on to where it led
+-- before (the laws are in Naming).
 use native.Mathlib.Omega.{arith}
 use Rattle.parts.proofs.Naming.{top_small, short_next, short_last}
 use Rattle.parts.proofs.name.shorten.Goals as goal

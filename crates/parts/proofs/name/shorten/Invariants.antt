@@ -1,4 +1,5 @@
--- `parts::name::shorten` meets its contract: each turn lets one node more lead to the topmost node of its part, and goes on to where it led before (the laws are in Naming).
+-- `parts::name::shorten` meets its contract: each turn lets one node more lead to the topmost node of its part, and goes on to where it led
+-- before (the laws are in Naming).
 use Prim.Native.Nat.{◌-◌}
 use Rattle.model.specs.Yard.{Yard}
 use Rattle.parts.specs.Naming.{AskedShort}

@@ -1,5 +1,5 @@
--- `parts::plan::plan_each` meets its contract: after some nodes the moves so far are the plans of the parts whose topmost nodes are among them (the laws are
--- in Planning).
+-- `parts::plan::plan_each` meets its contract: after some nodes the moves so far are the plans of the parts whose topmost nodes are among
+-- them (the laws are in Planning).
 use native.Mathlib.Omega.{arith}
 use mathlib.Core.Path.{◌≡◌}
 use Prim.Native.Nat.{◌<◌}
@@ -18,7 +18,8 @@ balance_subtrees-m-requires c =
     let p = c.requires in
     let l : c.loop-i.i < size p.0 = omega (arith, c.loop-i-test.true, parts_long p.1) in
     let q : get_or c.args.parts.now c.loop-i.i 0 ≡ c.loop-i.i = omega (arith, c.wide.ensures.0, c.if-wide-v.true) in
-    (_, part_asked p.1 (c.loop-i.invariant p.0 p.1) l q, omega (arith, parts_long p.1, weight_le p.0.parents c.loop-i.i), omega (arith, parts_long p.1))
+    let a = part_asked p.1 (c.loop-i.invariant p.0 p.1) l q in
+    (_, a, omega (arith, parts_long p.1, weight_le p.0.parents c.loop-i.i), omega (arith, parts_long p.1))
 
 pub overflow_add-k : goal.overflow_add-k
 overflow_add-k c =

@@ -1,5 +1,5 @@
--- `parts::plan::plan_each` meets its contract: after some nodes the moves so far are the plans of the parts whose topmost nodes are among them (the laws are
--- in Planning).
+-- `parts::plan::plan_each` meets its contract: after some nodes the moves so far are the plans of the parts whose topmost nodes are among
+-- them (the laws are in Planning).
 use Prim.Native.Nat.{◌-◌}
 use lib.ListN.{length}
 use Rattle.model.specs.Yard.{Yard}

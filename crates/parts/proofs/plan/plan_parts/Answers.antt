@@ -1,5 +1,6 @@
--- `parts::plan::plan_parts` meets its contract: refused as a yard with no plan is, then for the part list, then for the plan list, as the sizes of the demands
--- are the plan's length, and the parts' plans together are as long; else the parts are named and planned (the laws are in Planning).
+-- `parts::plan::plan_parts` meets its contract: refused as a yard with no plan is, then for the part list, then for the plan list, as the
+-- sizes of the demands are the plan's length, and the parts' plans together are as long; else the parts are named and planned (the laws are
+-- in Planning).
 use mathlib.Core.Path.{◌≡◌, refl, sym, ◌∙◌}
 use Prim.Native.Nat.{◌/◌, ◌≤◌, ◌<◌}
 use native.Mathlib.Omega.{arith}
