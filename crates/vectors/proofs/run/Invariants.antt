@@ -1,7 +1,6 @@
 -- The loop's invariant says nothing. The measure is what is left of the input.
 use Prim.Native.Nat.{◌-◌}
 use lib.ListN.{length}
-use borrow.Author.Rules.{rules}
 use Rattle.vectors.proofs.run.Given as goal
 
 abbrev pub invariant-loop-at : goal.invariant-loop-at

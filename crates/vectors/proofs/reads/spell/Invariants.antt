@@ -1,8 +1,7 @@
 -- The loop's invariant: the list keeps its length, and `i` is at most the number of signs. The measure is what is left of these.
 use Prim.Native.Nat.{◌≤◌, ◌-◌}
 use mathlib.Core.Path.{◌≡◌}
-use lib.ListN.{length, length-set}
-use borrow.Author.Rules.{rules}
+use lib.ListN.{length}
 use Rattle.vectors.proofs.reads.spell.Given as goal
 
 abbrev pub invariant-loop-i : goal.invariant-loop-i

@@ -1,7 +1,6 @@
 -- The loop's invariant: `i` is at most the list's length. The measure is what is left of it.
 use Prim.Native.Nat.{◌≤◌, ◌-◌}
 use lib.ListN.{length}
-use borrow.Author.Rules.{rules}
 use Rattle.vectors.proofs.signed.signed_list.Given as goal
 
 abbrev pub invariant-loop-i : goal.invariant-loop-i
