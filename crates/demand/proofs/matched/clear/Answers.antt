@@ -6,7 +6,6 @@ use lib.ListN.{length, length-replicate, get_or-replicate}
 use lib.Seq.{ext_get_or}
 use Rattle.demand.proofs.matched.clear.Goals as goal
 
-
 pub returns : goal.returns
 returns c =
     let l = c.loop-i in

@@ -1,8 +1,7 @@
 -- `put_plan` prints the sheet of the plan that the planner wrote, or its refusal.
 use native.Mathlib.Omega.{arith}
 use lib.ListN.{length-take}
-use lib.Seq.{length-take-le}
-use Rattle.moves.proofs.Steps.{room, plan_number, plan_refused}
+use Rattle.moves.proofs.Steps.{plan_number, plan_refused}
 use Rattle.moves.proofs.program.put_plan.Goals as goal
 
 pub put_planned-requires : goal.put_planned-requires

@@ -1,16 +1,7 @@
 -- `split` has written, before each turn, the first v entries of both columns. The measure is the entries left.
-use borrow.Author.Count.{below_more}
-use native.Mathlib.Omega.{arith}
-use Prim.Native.Nat.{◌-◌, ◌≤◌, ◌<◌}
-use mathlib.Core.Path.{◌≡◌, refl, ap, ◌∙◌}
-use lib.IntN.{ℤ, pos}
-use lib.ListN.{length, get_or, length-set}
-use lib.Seq.{get_or-set_same, get_or-set_other}
-use mir.Syntax.{w16}
-use mir.Val.{to_z, of_z}
-use mir.ValLaws.{to_z-of_z}
-use Rattle.laws.proofs.Signed.{above0, below0}
-use Rattle.demand.proofs.Numbers.{small_fits}
+use Prim.Native.Nat.{◌-◌, ◌≤◌}
+use mathlib.Core.Path.{◌≡◌}
+use lib.ListN.{length}
 use Rattle.moves.specs.Report.{Split}
 use Rattle.moves.proofs.report.split.Given as goal
 
