@@ -37,8 +37,9 @@ lock() { # FILE COPY
 # A fresh copy of a command in the folder fresh, where its program is missing, and a command rt in
 # kit that only says that it was called.
 make_fresh() { # COMMAND
-    mkdir -p fresh/crates kit
+    mkdir -p fresh/crates/model fresh/tools kit
     cp -r "$top/$1" "$top/sheets.bash" "$top/people" "$top/crates.txt" fresh
+    cp "$top/tools/build" fresh/tools/
     printf '#!/bin/sh\necho called >>"%s/called"\nexit 1\n' "$work" >kit/rt
     chmod +x kit/rt
 }
