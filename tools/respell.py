@@ -39,7 +39,8 @@ def files(pattern):
 
 
 def of_one_function(path):
-    return os.path.basename(path) in ("Proof.antt", "Answers.antt", "Invariants.antt")
+    folder, name = os.path.split(path)
+    return name in ("Proof.antt", "Answers.antt", "Invariants.antt") and os.path.basename(folder) != "proofs"
 
 
 def snake(name):

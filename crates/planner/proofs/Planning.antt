@@ -26,7 +26,7 @@ use Rattle.laws.proofs.Balance.{plan_only}
 use Rattle.laws.proofs.Own.{balances_in_all}
 use Rattle.laws.proofs.Calls.{totals_none, plan_none}
 use Rattle.laws.proofs.Demand3.{plan_length}
-use Rattle.demand.proofs.Answers.{demands-at}
+use Rattle.demand.proofs.Answers.{demands_at}
 use Rattle.serve.specs.Serving.{Tables, last_at, Kept}
 use Rattle.planner.specs.Balancing.{entered, AskedEven, Balanced, Placed}
 
@@ -98,7 +98,7 @@ place_next pebbles depths s₀ s v p q r z l e f g x h = record {
 pub placed_kept : (y : Yard) → Tree y → (s₀ s : List ℤ) → take (size y) s₀ ≡ demands_of y → Placed y.pebbles y.depths s₀ s (length y.pebbles) → Kept y s
 placed_kept y t s₀ s e h = record {
   long = h.long;
-  demands = λ v l. h.low v (omega (arith, (facts y t).few)) ∙ demands-at y s₀ v e l;
+  demands = λ v l. h.low v (omega (arith, (facts y t).few)) ∙ demands_at y s₀ v e l;
   pebbles = λ v l. h.high v (omega (arith, (facts y t).pebbles_size));
   lasts = λ b u l. record { node = u; is = h.lasts b u (omega (arith, (facts y t).pebbles_size)); served = λ d. absurd (d refl) };
   depths = λ v l. h.deep v (omega (arith, (facts y t).pebbles_size));

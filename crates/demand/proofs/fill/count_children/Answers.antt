@@ -17,9 +17,9 @@ use Rattle.demand.proofs.fill.count_children.Invariants.{at}
 use Rattle.demand.proofs.fill.count_children.Goals as goal
 
 -- p in half r is u in one of the halves exactly if p is u
-in-half : (p r u i : ℕ) → p < 256 → r < 2 → u < 256 → i ≡ p + 256 * r
+in_half : (p r u i : ℕ) → p < 256 → r < 2 → u < 256 → i ≡ p + 256 * r
     → one (eqb i u) + one (eqb i (256 + u)) ≡ one (eqb p u)
-in-half p r u i a b l e = go (ℕ_discrete i u) (ℕ_discrete i (256 + u))
+in_half p r u i a b l e = go (ℕ_discrete i u) (ℕ_discrete i (256 + u))
   where
     go : Dec (i ≡ u) → Dec (i ≡ 256 + u) → one (eqb i u) + one (eqb i (256 + u)) ≡ one (eqb p u)
     go (yes q) _ = rw (eq-eqb i u q, ne_eqb i (256 + u) (λ s. omega arith), eq-eqb p u (omega arith))
@@ -35,7 +35,7 @@ both : (parents counts : List ℕ) (v u : ℕ) → ((c : ℕ) → up parents c <
     → get_or counts u 0 + get_or counts (256 + u) 0 ≡ sum v (λ c. one (eqb (up parents c) u))
 both parents counts v u bytes i l =
     rw (i u (omega arith), i (256 + u) (omega arith))
-    (sym (sum_add v _ _) ∙ sum_cong v _ _ (λ c _. in-half (up parents c) (c % 2) u _ (bytes c) (omega arith) l refl))
+    (sym (sum_add v _ _) ∙ sum_cong v _ _ (λ c _. in_half (up parents c) (c % 2) u _ (bytes c) (omega arith) l refl))
 
 pub loop-v-init : goal.loop-v-init
 unfolding sum

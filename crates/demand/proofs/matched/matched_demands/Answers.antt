@@ -16,7 +16,7 @@ use Rattle.laws.proofs.Calls.{sees, matched_refused, matched_totals, matched_non
 use Rattle.laws.proofs.Signed.{demand_range}
 use Rattle.lists.proofs.Root.{root_found}
 use Rattle.demand.proofs.Numbers.{small_fits}
-use Rattle.demand.proofs.Answers.{demands-at, then-front}
+use Rattle.demand.proofs.Answers.{demands_at, then_front}
 use Rattle.demand.proofs.Refused.{root_demand}
 use Rattle.demand.proofs.matched.matched_demands.Goals.{After-first_own-root}
 use Rattle.demand.proofs.matched.matched_demands.Goals as goal
@@ -24,7 +24,7 @@ use Rattle.demand.proofs.matched.matched_demands.Goals as goal
 -- the root's entry
 entry : (y : Yard) (list : List ℤ) {now : List ℤ} {v : ℕ} → Tree y → now ≡ demands_then y list → v ≡ root y
     → get_or now v (pos 0) ≡ demand y (root y)
-entry y list t e found = rw found (demands-at y _ (root y) (then-front y list e t) (wood y t).root_lt)
+entry y list t e found = rw found (demands_at y _ (root y) (then_front y list e t) (wood y t).root_lt)
 
 within : (c : After-first_own-root) → c.first_own-root.result < 256
 within c =

@@ -13,7 +13,7 @@ use Rattle.laws.proofs.Tests.{judge_lists, judge_shape}
 use Rattle.laws.proofs.Judged.{flat}
 use Rattle.laws.proofs.Calls.{sees}
 use Rattle.laws.proofs.Equation2.{only_demands}
-use Rattle.demand.proofs.Answers.{then-lists, then-shape, then_tree}
+use Rattle.demand.proofs.Answers.{then_lists, then_shape, then_tree}
 use Rattle.demand.proofs.matched.tree_demands.Goals as goal
 
 pub returns-in-Refused : goal.returns-in-Refused
@@ -22,7 +22,7 @@ returns-in-Refused c =
     let y = yard_of a.parents.now a.pebbles.now a.targets.now a.depths.now in
     let f = sees c.test_lists-lists.ensures c.in-Refused.is in record {
       result_value = judge_lists y _ (sym f);
-      list_value = then-lists y _ f;
+      list_value = then_lists y _ f;
     }
 
 pub test_shape-requires : goal.test_shape-requires
@@ -41,7 +41,7 @@ returns-then-left-ne1 c =
     omega (arith, length-append {A = ℤ} g.new.list (drop (length y.parents) a.list.now), g.ensures.long) in record {
       result_value = c.test_shape.ensures ∙ judge_shape y (sym passed);
       list_value = ap (λ (rest : List ℤ). c.clear.new.list ++ rest) (drop_at g.new.list _ (length y.parents) g.ensures.long)
-          ∙ then-shape y _ passed (λ t. c.if-left-ne1.true (g.ensures.tree t))
+          ∙ then_shape y _ passed (λ t. c.if-left-ne1.true (omega (arith, g.ensures.tree t)))
           (c.clear.ensures ∙ ap (λ (n : ℕ). replicate n (pos 0)) (length-take-le _ _ room));
     }
 

@@ -9,7 +9,7 @@ use Rattle.model.specs.Yard.{yard_of}
 use Rattle.laws.proofs.Judged.{facts}
 use Rattle.laws.proofs.Calls.{sees}
 use Rattle.laws.proofs.EventRuns.{accepted, caught_was}
-use Rattle.demand.proofs.Answers.{demands-small}
+use Rattle.demand.proofs.Answers.{demands_small}
 use Rattle.event.specs.Change.{stepped_after}
 use Rattle.event.proofs.Steps.{possible_can, more, step_small, step_held, stepped_demands}
 use Rattle.event.proofs.Happened.{left_accepted}
@@ -22,7 +22,7 @@ climb-requires c =
     let passes = sees c.test_event-tested.ensures c.in_default.is in
     let h = accepted y a.list.now a.event a.node passes in
     let by = ap (λ (k : ℤ). to_z w16 (of_z w16 k)) c.step.ensures ∙ step_held a.event in
-    let small = demands-small y h.tree (caught_was y a.list.now a.event a.node passes) in
+    let small = demands_small y h.tree (caught_was y a.list.now a.event a.node passes) in
     ((y, h.tree, refl), h.long, h.node_lt, rw by (step_small a.event), small.1)
 
 pub alter-requires : goal.alter-requires

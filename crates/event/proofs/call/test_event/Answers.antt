@@ -16,7 +16,7 @@ use Rattle.model.specs.Calls.Events.{ready_tests}
 use Rattle.laws.proofs.Judged.{facts}
 use Rattle.laws.proofs.Calls.{sees}
 use Rattle.laws.proofs.EventRuns.{ready_judge, ready_length, ready_node, ready_already, ready_none, event_refused}
-use Rattle.demand.proofs.Answers.{then-front}
+use Rattle.demand.proofs.Answers.{then_front}
 use Rattle.event.specs.Change.{can}
 use Rattle.event.proofs.Steps.{possible_can}
 use Rattle.event.proofs.Happened.{stale_refused, stale_passed}
@@ -104,7 +104,7 @@ returns-then-stale-n c =
     let y = yard_of a.parents.now a.pebbles.now a.targets.now a.depths.now in
     let t = sees c.tree_demands-tested.ensures.result_value c.in_default.is in
     let r = ready y a.list.now a.event a.node t c.if-list-n.false (omega arith) _ c.can_happen.ensures c.if-not-can_happen.false in
-    let d = then-front y _ c.tree_demands-tested.ensures.list_value t in
+    let d = then_front y _ c.tree_demands-tested.ensures.list_value t in
     sym (stale_refused y a.list.now a.event a.node r d c.first_difference-stale.ensures c.if-stale-n.true)
 
 pub returns : goal.returns
@@ -113,5 +113,5 @@ returns c =
     let y = yard_of a.parents.now a.pebbles.now a.targets.now a.depths.now in
     let t = sees c.tree_demands-tested.ensures.result_value c.in_default.is in
     let r = ready y a.list.now a.event a.node t c.if-list-n.false (omega arith) _ c.can_happen.ensures c.if-not-can_happen.false in
-    let d = then-front y _ c.tree_demands-tested.ensures.list_value t in
+    let d = then_front y _ c.tree_demands-tested.ensures.list_value t in
     sym (stale_passed y a.list.now a.event a.node r d c.first_difference-stale.ensures (omega (arith, c.if-stale-n.false)))

@@ -11,7 +11,7 @@ use Rattle.laws.proofs.Judged.{facts}
 use Rattle.laws.proofs.Calls.{sees, matched_tree}
 use Rattle.laws.proofs.Signed.{shortest_small}
 use Rattle.laws.proofs.Longest.{bound_answer_law}
-use Rattle.demand.proofs.Answers.{then-front, demands-small, demands-sum}
+use Rattle.demand.proofs.Answers.{then_front, demands_small, demands_sum}
 use Rattle.figures.proofs.bound.length_bound.Goals as goal
 
 -- the demands have an entry for each node
@@ -37,14 +37,14 @@ sizes-moves-requires c =
     let a = c.args in
     let y = yard_of a.parents.now a.pebbles.now a.targets.now a.depths.now in
     let t = matched_tree y (sees c.matched_demands-tested.ensures.result_value c.in_default.is) in
-    demands-small y t.0 (then-front y _ c.matched_demands-tested.ensures.list_value t.0)
+    demands_small y t.0 (then_front y _ c.matched_demands-tested.ensures.list_value t.0)
 
 pub overflow_mul-result : goal.overflow_mul-result
 overflow_mul-result c =
     let a = c.args in
     let y = yard_of a.parents.now a.pebbles.now a.targets.now a.depths.now in
     let t = matched_tree y (sees c.matched_demands-tested.ensures.result_value c.in_default.is) in
-    let measured = c.sizes-moves.ensures ∙ demands-sum y (then-front y _ c.matched_demands-tested.ensures.list_value t.0) in
+    let measured = c.sizes-moves.ensures ∙ demands_sum y (then_front y _ c.matched_demands-tested.ensures.list_value t.0) in
     omega (arith, measured, shortest_small y t.0)
 
 pub returns : goal.returns
@@ -52,5 +52,5 @@ returns c =
     let a = c.args in
     let y = yard_of a.parents.now a.pebbles.now a.targets.now a.depths.now in
     let passes = sees c.matched_demands-tested.ensures.result_value c.in_default.is in
-    let d = then-front y _ c.matched_demands-tested.ensures.list_value (matched_tree y passes).0 in
-    rw (bound_answer_law y, passes) (ap (λ (n : ℕ). answered (length_of n)) (c.sizes-moves.ensures ∙ demands-sum y d))
+    let d = then_front y _ c.matched_demands-tested.ensures.list_value (matched_tree y passes).0 in
+    rw (bound_answer_law y, passes) (ap (λ (n : ℕ). answered (length_of n)) (c.sizes-moves.ensures ∙ demands_sum y d))

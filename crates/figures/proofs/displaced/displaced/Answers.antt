@@ -8,7 +8,7 @@ use Rattle.model.specs.Judge.{Tree}
 use Rattle.model.specs.Calls.Answers.{answered}
 use Rattle.laws.proofs.Judged.{facts}
 use Rattle.laws.proofs.Calls.{sees, matched_tree}
-use Rattle.demand.proofs.Answers.{then-front, demands-small}
+use Rattle.demand.proofs.Answers.{then_front, demands_small}
 use Rattle.figures.proofs.Leaving.{moving_displaced}
 use Rattle.figures.proofs.displaced.displaced.Goals as goal
 
@@ -36,7 +36,7 @@ leaving-out-requires c =
     let y = yard_of a.parents.now a.pebbles.now a.targets.now a.depths.now in
     let t = matched_tree y (sees c.matched_demands-tested.ensures.result_value c.in_default.is) in record {
       parents_len_bound = ((facts y t.0).few.1, length-take-le _ _ (room y t.0 _ (omega arith)));
-      by_index = (demands-small y t.0 (then-front y _ c.matched_demands-tested.ensures.list_value t.0)).1;
+      by_index = (demands_small y t.0 (then_front y _ c.matched_demands-tested.ensures.list_value t.0)).1;
     }
 
 pub slice_bounds-demands-end-2 : goal.slice_bounds-demands-end-2
@@ -65,7 +65,7 @@ moving-count-requires c =
         length-take-le _ _ (room y t.0 _ (omega arith)) ∙ sym f.pebbles_size,
         omega (arith, f.few, f.pebbles_size, c.leaving-out.ensures.0),
       );
-      by_index = (demands-small y t.0 (then-front y _ c.matched_demands-tested.ensures.list_value t.0)).1;
+      by_index = (demands_small y t.0 (then_front y _ c.matched_demands-tested.ensures.list_value t.0)).1;
     }
 
 pub returns : goal.returns
@@ -74,5 +74,5 @@ returns c =
     let y = yard_of a.parents.now a.pebbles.now a.targets.now a.depths.now in
     let passes = sees c.matched_demands-tested.ensures.result_value c.in_default.is in
     let t = matched_tree y passes in
-    let d = then-front y _ c.matched_demands-tested.ensures.list_value t.0 in
+    let d = then_front y _ c.matched_demands-tested.ensures.list_value t.0 in
     rw passes (ap answered (c.moving-count.ensures ∙ moving_displaced y t.0 t.1 c.leaving-out.result d c.leaving-out.ensures))

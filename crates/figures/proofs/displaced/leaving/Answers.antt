@@ -72,9 +72,9 @@ loop-v-preserved c =
       omega arith,
       simp length-set loop.invariant.1,
       (λ u. rw (add-one loop.v, found c, (sized c).0) (next u ∙ rw (loop.invariant.2 u))),
-      λ u. rw (found c, (sized c).0) (omega (arith, next u, loop.invariant.3 u, one-times (eqb from u) (nat_abs d), sized c)),
+      λ u. rw (found c, (sized c).0) (omega (arith, next u, loop.invariant.3 u, one_times (eqb from u) (nat_abs d), sized c)),
     )
   where
-    one-times : (b : Bool) (n : ℕ) → one b * n ≤ n
-    one-times true n = omega arith
-    one-times false n = omega arith
+    one_times : (b : Bool) (n : ℕ) → one b * n ≤ n
+    one_times true n = omega arith
+    one_times false n = omega arith

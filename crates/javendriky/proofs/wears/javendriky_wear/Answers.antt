@@ -12,23 +12,23 @@ use Rattle.laws.proofs.Places.{wear_small, wear_first_small, wear_edge_small}
 use Rattle.javendriky.proofs.wears.javendriky_wear.Goals as goal
 
 module _ {a : Answer Wear} (y : Yard) (bs : List ℕ) (w : ℕ) (e : a ≡ wear_answer y bs w) where
-  small-most : Small (mapAnswer (λ w. w.crossings) a)
-  small-most = rw e (wear_small y bs w)
+  small_most : Small (mapAnswer (λ w. w.crossings) a)
+  small_most = rw e (wear_small y bs w)
 
-  small-first : Small (mapAnswer (λ w. w.first) a)
-  small-first = rw e (wear_first_small y bs w)
+  small_first : Small (mapAnswer (λ w. w.first) a)
+  small_first = rw e (wear_first_small y bs w)
 
-  small-edge : Small (mapAnswer (λ w. w.edge) a)
-  small-edge = rw e (wear_edge_small y bs w)
+  small_edge : Small (mapAnswer (λ w. w.edge) a)
+  small_edge = rw e (wear_edge_small y bs w)
 
 pub overflow_cast-first : goal.overflow_cast-first
-overflow_cast-first c = let l = small-first _ _ _ (rw c.in-Most.is at c.wear.ensures) in omega arith
+overflow_cast-first c = let l = small_first _ _ _ (rw c.in-Most.is at c.wear.ensures) in omega arith
 
 pub overflow_cast-edge : goal.overflow_cast-edge
-overflow_cast-edge c = let l = small-edge _ _ _ (rw c.in-Most.is at c.wear.ensures) in omega arith
+overflow_cast-edge c = let l = small_edge _ _ _ (rw c.in-Most.is at c.wear.ensures) in omega arith
 
 pub overflow_cast-result : goal.overflow_cast-result
-overflow_cast-result c = let l = small-most _ _ _ (rw c.in-Most.is at c.wear.ensures) in omega arith
+overflow_cast-result c = let l = small_most _ _ _ (rw c.in-Most.is at c.wear.ensures) in omega arith
 
 pub refused-requires : goal.refused-requires
-refused-requires c = small-most _ _ _ (rw c.in-Refused.is at c.wear.ensures)
+refused-requires c = small_most _ _ _ (rw c.in-Refused.is at c.wear.ensures)

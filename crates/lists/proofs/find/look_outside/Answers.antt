@@ -9,17 +9,17 @@ use Rattle.laws.proofs.Found.{found, missed}
 use Rattle.lists.proofs.find.look_outside.Invariants.{outside}
 use Rattle.lists.proofs.find.look_outside.Goals as goal
 
-too-low : (low high x : ℕ) → x < low → outside low high x ≡ true
-too-low low high x l = rw (lt-leb low x l)
+too_low : (low high x : ℕ) → x < low → outside low high x ≡ true
+too_low low high x l = rw (lt-leb low x l)
 
-too-high : (low high x : ℕ) → low ≤ x → high < x → outside low high x ≡ true
-too-high low high x h l = rw (le-leb low x h, lt-leb x high l)
+too_high : (low high x : ℕ) → low ≤ x → high < x → outside low high x ≡ true
+too_high low high x h l = rw (le-leb low x h, lt-leb x high l)
 
 pub returns-then-list-i : goal.returns-then-list-i
-returns-then-list-i c = found _ _ _ _ (omega arith) c.loop-i.invariant.1 (too-low _ _ _ c.if-list-i.true)
+returns-then-list-i c = found _ _ _ _ (omega arith) c.loop-i.invariant.1 (too_low _ _ _ c.if-list-i.true)
 
 pub returns-then-list-i-2 : goal.returns-then-list-i-2
-returns-then-list-i-2 c = found _ _ _ _ (omega arith) c.loop-i.invariant.1 (too-high _ _ _ c.if-list-i.false c.if-list-i-2.true)
+returns-then-list-i-2 c = found _ _ _ _ (omega arith) c.loop-i.invariant.1 (too_high _ _ _ c.if-list-i.false c.if-list-i-2.true)
 
 pub returns : goal.returns
 returns c =

@@ -12,7 +12,7 @@ use Rattle.model.specs.Judge.{Tree}
 use Rattle.model.specs.Calls.Demands.{demands_of}
 use Rattle.laws.proofs.Judged.{facts}
 use Rattle.lists.proofs.Root.{root_found}
-use Rattle.demand.proofs.Answers.{demands_long, demands-front, demands-small}
+use Rattle.demand.proofs.Answers.{demands_long, demands_front, demands_small}
 use Rattle.sheet.specs.Report.{Columns}
 use Rattle.sheet.proofs.Edges.{report_short}
 use Rattle.sheet.proofs.Writing.{written_as}
@@ -31,13 +31,13 @@ module _ (y : Yard) (t : Tree y) where
   -- the first n entries of the array are the demands
   module _ {list : List ℤ} (rest : List ℤ) (e : list ≡ demands_of y) where
     front : take (size y) (list ++ rest) ≡ demands_of y
-    front = demands-front y rest e
+    front = demands_front y rest e
 
     long : length (take (size y) (list ++ rest)) ≡ size y
     long = demands_long y front
 
     demanded : Demands (take (size y) (list ++ rest))
-    demanded = let d = demands-small y t front in record { few = d.0; small = d.1 }
+    demanded = let d = demands_small y t front in record { few = d.0; small = d.1 }
 
     -- the first n entries of the two arrays are the columns
     columns : {xs zs : List ℕ} → length xs ≡ size y → length zs ≡ size y

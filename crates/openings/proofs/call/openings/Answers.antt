@@ -5,7 +5,7 @@ use lib.ListN.{length}
 use Rattle.model.specs.Yard.{yard_of}
 use Rattle.laws.proofs.Calls.{sees, matched_tree}
 use Rattle.laws.proofs.Openings.{openings_matched}
-use Rattle.demand.proofs.Answers.{then-front, demands-at}
+use Rattle.demand.proofs.Answers.{then_front, demands_at}
 use Rattle.openings.proofs.Calling.{listed_fits, answer_is, list_is}
 use Rattle.openings.proofs.call.openings.Goals as goal
 
@@ -22,7 +22,7 @@ list_apart-count-requires c =
     let s = c.args in
     let y = yard_of s.parents.now s.pebbles.now s.targets.now s.depths.now in
     let m = matched_tree y (sees d.ensures.result_value c.in_default.is) in
-    record { tree = (m.0, m.1, (d.auto.list, λ v l. demands-at y _ v (then-front y _ d.ensures.list_value m.0) l)); moves_len = refl }
+    record { tree = (m.0, m.1, (d.auto.list, λ v l. demands_at y _ v (then_front y _ d.ensures.list_value m.0) l)); moves_len = refl }
 
 pub hand_over-requires : goal.hand_over-requires
 hand_over-requires c =

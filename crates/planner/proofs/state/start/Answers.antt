@@ -4,7 +4,7 @@ use mathlib.Core.Path.{sym, ◌∙◌}
 use native.Mathlib.Omega.{arith}
 use Rattle.laws.proofs.Judged.{facts}
 use Rattle.laws.proofs.Calls.{sees, matched_tree}
-use Rattle.demand.proofs.Answers.{then-front}
+use Rattle.demand.proofs.Answers.{then_front}
 use Rattle.planner.proofs.Planning.{placed_kept}
 use Rattle.planner.proofs.state.start.Goals as goal
 
@@ -16,4 +16,4 @@ place-requires c =
 pub returns-clause-kept : goal.returns-clause-kept
 returns-clause-kept c e =
     let t = (matched_tree _ e).0 in
-    placed_kept _ t _ _ (then-front _ _ c.matched_demands-tested.ensures.list_value t) c.place.ensures
+    placed_kept _ t _ _ (then_front _ _ c.matched_demands-tested.ensures.list_value t) c.place.ensures

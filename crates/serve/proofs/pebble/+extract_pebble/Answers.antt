@@ -61,14 +61,14 @@ pub extract_pebble-requires : goal.extract_pebble-requires
 extract_pebble-requires t c =
     let p = c.requires in
     let a = p.1 in
-    let e = empty a c.if-s-v-ne0.false in
+    let e = empty a (omega arith) in
     let r = c.pick-c.ensures.value p.0 (half_sees a.halfway a.due.lt) in
     let k = c.pick-c.ensures.picks in
     (omega (arith, c.decreases, one_place a), (p.0, chosen_asked a e r k (one_less a), chosen_up a e r k))
 
 pub returns : goal.returns
 returns t c y a q =
-    let e = empty a c.if-s-v-ne0.false in
+    let e = empty a (omega arith) in
     let r = c.pick-c.ensures.value y (half_sees a.halfway a.due.lt) in
     let p = c.pick-c.ensures.picks in
     let f = c.extract_pebble.ensures y (chosen_asked a e r p (one_less a)) (chosen_up a e r p) in

@@ -23,8 +23,8 @@ counted : (y : Yard) (m : Move) (place : ℕ) → m.from < size y → m.to < siz
 counted y m place h k p r = rw (move_free y m place, known _ _ _ h k, holds _ p, lt-leb _ _ r)
 
 -- where the first has another parent than the second, the two are not the same if the second's is the first
-below-it : (a b p q : ℕ) → p ≢ b → (a ≡ b → p ≡ q) → ((not (eqb a b)) && (eqb q a)) ≡ eqb q a
-below-it a b p q d s = go (ℕ_discrete a b)
+below_it : (a b p q : ℕ) → p ≢ b → (a ≡ b → p ≡ q) → ((not (eqb a b)) && (eqb q a)) ≡ eqb q a
+below_it a b p q d s = go (ℕ_discrete a b)
   where
     go : Dec (a ≡ b) → ((not (eqb a b)) && (eqb q a)) ≡ eqb q a
     go (yes e) = rw (eq-eqb a b e) (sym (ne_eqb q a (λ f. d (s e ∙ f ∙ e))))
@@ -57,4 +57,4 @@ returns c place =
     let m = push c.args.from c.args.to in
     let e = counted y m place c.if-n-from.false c.if-n-to.false c.if-pebbles-from-eq0.false c.if-pebbles-to.false in
     let same = λ (q : c.args.from ≡ c.args.to). ap (λ (w : ℕ). get_or c.args.parents.now w 0) q in
-    sym (e ∙ rw (ne_eqb _ _ c.if-parents-from.false) (below-it _ _ _ _ c.if-parents-from.false same))
+    sym (e ∙ rw (ne_eqb _ _ c.if-parents-from.false) (below_it _ _ _ _ c.if-parents-from.false same))
