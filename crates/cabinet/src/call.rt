@@ -13,7 +13,7 @@ use crate::block::{load, store};
 use crate::registers::{Told, next_registers, raised};
 use crate::test::test_step;
 use judge::test::test_yard;
-use model::{Done, Refusal, Registers, Signalled};
+use model::{Lists, Refusal, Registers, Signalled};
 use yard::step::step;
 
 // What a step is told of the plan: its whole moves and the next of them, of which one is left at least; else any.
@@ -22,19 +22,16 @@ fn tell(plan: &[u8], r: Registers, failed: bool) -> Told
     ensures { result ≡ told_of plan.now r failed }
 {
     let moves = plan.len() / 2;
-    if r.left == 0 {
-        return Told {
-            moves,
-            from: 0,
-            to: 0,
-            failed,
-        };
-    }
-    let i = moves - r.left;
+    let (from, to) = if r.left == 0 {
+        (0, 0)
+    } else {
+        let i = moves - r.left;
+        (plan[2 * i], plan[2 * i + 1])
+    };
     Told {
         moves,
-        from: plan[2 * i],
-        to: plan[2 * i + 1],
+        from,
+        to,
         failed,
     }
 }
@@ -51,16 +48,10 @@ fn push_next(
     requires { Tree (handed parents.now pebbles.old targets.now depths.now) }
     ensures { pebbles.new ≡ pebbles_then (given parents.now pebbles.old targets.now depths.now) (push told.from told.to) told.failed r }
 {
-    if r.command != 0 {
+    if r.command != 0 || r.status != 1 || told.failed {
         return;
     }
-    if r.status != 1 {
-        return;
-    }
-    if told.failed {
-        return;
-    }
-    step(
+    let _ = step(
         parents,
         pebbles,
         depths,
@@ -70,15 +61,16 @@ fn push_next(
     );
 }
 
-// What a step leaves: its answer, and the registers.
+// What a step leaves, on a refusal too: its answer, and the registers.
 #[derive(Drop)]
 pub struct Left {
-    pub line: Signalled,
+    pub line: Result<Signalled, Refusal>,
     pub next: Registers,
 }
 
 // A step of the cabinet, by value: obeys the command in the registers, or where it runs without one the plan's next move. Answers whether the line is raised.
 // Refusals 1 to 6, 26 and 27; 24, 25; a start as the checker, a running step with command 0 by 9 and 10 to 13. A refusal alters nothing. Linear work.
+// By value, with `step_registers` thin over it: the form that docs/DECISIONS.md names.
 fn stepped(
     parents: &[u8],
     pebbles: &mut [u8],
@@ -90,24 +82,32 @@ fn stepped(
 ) -> Left
     ensures { LeftBy (Call.stepped (given parents.now pebbles.old targets.now depths.now) plan.now (block_of r) failed) result.line result.next pebbles.new }
 {
-    let tested = test_step(parents, pebbles, targets, depths, plan, r);
-    if let Done::Refused(fault) = tested {
+    let tested = test_step(
+        &Lists {
+            parents,
+            pebbles,
+            targets,
+            depths,
+        },
+        plan,
+        r,
+    );
+    if let Err(fault) = tested {
         return Left {
-            line: Signalled::Refused(fault),
+            line: Err(fault),
             next: r,
         };
     }
     let told = tell(plan, r, failed);
     push_next(parents, pebbles, targets, depths, r, told);
     let next = next_registers(r, told);
-    if raised(next) {
-        return Left {
-            line: Signalled::Raised,
-            next,
-        };
-    }
+    let line = if raised(next) {
+        Signalled::Raised
+    } else {
+        Signalled::Quiet
+    };
     Left {
-        line: Signalled::Quiet,
+        line: Ok(line),
         next,
     }
 }
@@ -121,29 +121,12 @@ pub fn step_registers(
     plan: &[u8],
     registers: &mut Registers,
     failed: bool,
-) -> Signalled
+) -> Result<Signalled, Refusal>
     ensures { LeftBy (Call.stepped (given parents.now pebbles.old targets.now depths.now) plan.now (block_of registers.old) failed) result registers.new pebbles.new }
 {
     let s = stepped(parents, pebbles, targets, depths, plan, *registers, failed);
     *registers = s.next;
     s.line
-}
-
-// Lends the registers of a block, in a local.
-fn lend(
-    parents: &[u8],
-    pebbles: &mut [u8],
-    targets: &[u8],
-    depths: &[u8],
-    plan: &[u8],
-    r: Registers,
-    failed: bool,
-) -> Left
-    ensures { LeftBy (Call.stepped (given parents.now pebbles.old targets.now depths.now) plan.now (block_of r) failed) result.line result.next pebbles.new }
-{
-    let mut next = r;
-    let line = step_registers(parents, pebbles, targets, depths, plan, &mut next, failed);
-    Left { line, next }
 }
 
 // The step of the registers in a block of bytes. The refusals are those of `step_registers`, with
@@ -157,20 +140,31 @@ pub fn step_block(
     plan: &[u8],
     block: &mut [u8],
     failed: bool,
-) -> Signalled
+) -> Result<Signalled, Refusal>
     ensures result_value { paper_signalled result ≡ (Call.stepped (given parents.now pebbles.old targets.now depths.now) plan.now block.old failed).line }
     ensures block_value { block.new ≡ (Call.stepped (given parents.now pebbles.old targets.now depths.now) plan.now block.old failed).block }
     ensures pebbles_value { pebbles.new ≡ (Call.stepped (given parents.now pebbles.old targets.now depths.now) plan.now block.old failed).pebbles }
     ensures each_step { EachStep (given parents.now pebbles.old targets.now depths.now) plan.now block.old failed (stepped_to (paper_signalled result) block.new pebbles.new) }
 {
-    if block.len() != 9 {
-        let tested = test_yard(parents, pebbles, targets, depths);
-        if let Done::Refused(r) = tested {
-            return Signalled::Refused(r);
-        }
-        return Signalled::Refused(Refusal::ListLength);
-    }
-    let s = lend(parents, pebbles, targets, depths, plan, load(block), failed);
-    store(block, s.next);
-    s.line
+    let Ok(bytes) = <[u8; 9]>::try_from(&*block) else {
+        test_yard(&Lists {
+            parents,
+            pebbles,
+            targets,
+            depths,
+        })?;
+        return Err(Refusal::ListLength);
+    };
+    let mut registers = load(bytes);
+    let line = step_registers(
+        parents,
+        pebbles,
+        targets,
+        depths,
+        plan,
+        &mut registers,
+        failed,
+    );
+    block.copy_from_slice(&store(registers));
+    line
 }

@@ -1,7 +1,7 @@
 // The registers after an accepted step, by value.
-ghost use Rattle.std.specs.Prelude.{◌≡◌, ◌&&◌, ◌-◌};
+ghost use Rattle.std.specs.Prelude.{◌≡◌};
 ghost use Rattle.model.specs.Calls.Registers as Call;
-ghost use Rattle.model.specs.Calls.Registers.{bit, set_bit, finished_bit, stalled_bit};
+ghost use Rattle.model.specs.Calls.Registers.{set_bit, finished_bit, stalled_bit};
 ghost use Rattle.model.specs.Push.{push};
 ghost use Rattle.cabinet.specs.Step.{next_of};
 
@@ -16,124 +16,91 @@ pub struct Told {
     pub failed: bool,
 }
 
-// Whether two numbers are odd.
-fn both_odd(a: u8, b: u8) -> bool
-    ensures { result ≡ ((bit 0 a) && (bit 0 b)) }
-{
-    if a % 2 == 1 {
-        return b % 2 == 1;
-    }
-    false
-}
-
 // Whether flags and mask share bit 0 or bit 1.
 pub fn raised(r: Registers) -> bool
     ensures { result ≡ Call.raised r }
 {
-    if both_odd(r.flags, r.mask) {
-        return true;
-    }
-    both_odd(r.flags / 2, r.mask / 2)
+    r.flags & r.mask & 3 != 0
 }
 
 fn with_finished(flags: u8) -> u8
     ensures { result ≡ set_bit finished_bit flags }
 {
-    1 + 2 * (flags / 2)
+    flags | 1
 }
 
 fn with_stalled(flags: u8) -> u8
     ensures { result ≡ set_bit stalled_bit flags }
 {
-    flags % 2 + 2 * with_finished(flags / 2)
-}
-
-// One less, or 0.
-fn one_less(n: usize) -> usize
-    ensures { result ≡ n - 1 }
-{
-    if n == 0 {
-        return 0;
-    }
-    n - 1
+    flags | 2
 }
 
 // With so many moves left: running, or at 0 idle with the flag.
 fn counted(r: Registers, left: usize) -> Registers
     ensures { result ≡ Call.counted left r }
 {
-    let mut next = r;
-    next.command = 0;
-    next.left = left;
-    next.status = 1;
-    if left == 0 {
-        next.status = 0;
-        next.flags = with_finished(r.flags);
+    let (status, flags) = if left == 0 {
+        (0, with_finished(r.flags))
+    } else {
+        (1, r.flags)
+    };
+    Registers {
+        command: 0,
+        status,
+        left,
+        flags,
+        ..r
     }
-    next
 }
 
 fn stopped(r: Registers) -> Registers
     ensures { result ≡ Call.stopped r }
 {
-    let mut next = r;
-    next.command = 0;
-    next.status = 0;
-    next.left = 0;
-    next
+    Registers {
+        command: 0,
+        status: 0,
+        left: 0,
+        ..r
+    }
 }
 
 fn acknowledged(r: Registers) -> Registers
     ensures { result ≡ Call.acknowledged r }
 {
-    let mut next = r;
-    next.command = 0;
-    next.flags = 0;
-    if r.status == 2 {
-        next.status = 1;
+    Registers {
+        command: 0,
+        status: if r.status == 2 { 1 } else { r.status },
+        flags: 0,
+        ..r
     }
-    next
 }
 
 fn jammed(r: Registers) -> Registers
     ensures { result ≡ Call.jammed r }
 {
-    let mut next = r;
-    next.status = 2;
-    next.flags = with_stalled(r.flags);
-    next
+    Registers {
+        status: 2,
+        flags: with_stalled(r.flags),
+        ..r
+    }
 }
 
 // The move is shown, and one less is left.
 fn advanced(r: Registers, from: u8, to: u8) -> Registers
     ensures { result ≡ Call.advanced (push from to) r }
 {
-    let mut next = r;
-    next.from = from;
-    next.to = to;
-    counted(next, one_less(r.left))
+    counted(Registers { from, to, ..r }, r.left.saturating_sub(1))
 }
 
 pub fn next_registers(r: Registers, told: Told) -> Registers
     ensures { result ≡ next_of r told }
 {
-    if r.command == 1 {
-        return counted(r, told.moves);
+    match (r.command, r.status) {
+        (1, _) => counted(r, told.moves),
+        (2, _) => stopped(r),
+        (3, _) => acknowledged(r),
+        (0, 1) if told.failed => jammed(r),
+        (0, 1) => advanced(r, told.from, told.to),
+        _ => r,
     }
-    if r.command == 2 {
-        return stopped(r);
-    }
-    if r.command == 3 {
-        return acknowledged(r);
-    }
-    if r.command != 0 {
-        return r;
-    }
-    if r.status != 1 {
-        return r;
-    }
-    if told.failed {
-        return jammed(r);
-    }
-    advanced(r, told.from, told.to)
 }

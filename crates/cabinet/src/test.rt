@@ -1,7 +1,7 @@
 // The refusals of a step.
 ghost use Rattle.std.specs.Prelude.{◌≡◌, not, ◌&&◌, ◌||◌, ◌≤◌, ◌<◌, leb, ltb, eqb};
 ghost use Rattle.std.proofs.Math.Option.{none};
-ghost use Rattle.model.specs.Given.{given, handed};
+ghost use Rattle.model.specs.Given.{listed};
 ghost use Rattle.model.specs.Judge.{first_of, Tree};
 ghost use Rattle.model.specs.Calls.Registers.{idle, block_of, whole_moves, register_fault, next_tests, task_fault, step_fault};
 ghost use Rattle.model.specs.Paper.{paper_done};
@@ -9,61 +9,48 @@ ghost use Rattle.model.specs.Paper.{paper_done};
 use checker::check::test_plan;
 use checker::obey::whole_plan;
 use judge::test::test_yard;
-use model::{Done, Refusal, Registers};
+use model::{Lists, Refusal, Registers};
 use yard::step::test_move;
 
 // Whether the moves left are more than the plan's, or none while not idle.
 fn left_wrong(r: Registers, moves: usize) -> bool
     ensures { result ≡ not ((leb r.left moves) && ((eqb r.status idle) || (ltb 0 r.left))) }
 {
-    if r.left > moves {
-        return true;
-    }
-    if r.status == 0 {
-        return false;
-    }
-    r.left == 0
+    r.left > moves || r.status != 0 && r.left == 0
 }
 
 // 24, with the lowest register that is wrong.
-fn test_registers(r: Registers, moves: usize) -> Done
+fn test_registers(r: Registers, moves: usize) -> Result<(), Refusal>
     ensures { paper_done result ≡ register_fault moves r }
 {
     if r.command > 3 {
-        return Done::Refused(Refusal::Register(0));
+        return Err(Refusal::Register(0));
     }
     if r.status > 2 {
-        return Done::Refused(Refusal::Register(1));
+        return Err(Refusal::Register(1));
     }
     if left_wrong(r, moves) {
-        return Done::Refused(Refusal::Register(4));
+        return Err(Refusal::Register(4));
     }
     if r.flags > 3 {
-        return Done::Refused(Refusal::Register(8));
+        return Err(Refusal::Register(8));
     }
-    Done::Accepted
+    Ok(())
 }
 
 // 9, then 10 to 13 of the next move with its number, for a running step with command 0.
-fn test_next(
-    parents: &[u8],
-    pebbles: &[u8],
-    targets: &[u8],
-    depths: &[u8],
-    plan: &[u8],
-    r: Registers,
-) -> Done
-    requires { Tree (handed parents.now pebbles.now targets.now depths.now) × (0 < r.left) × (r.left ≤ whole_moves plan.now) }
-    ensures { paper_done result ≡ first_of (next_tests (given parents.now pebbles.now targets.now depths.now) plan.now r) }
+fn test_next(yard: &Lists, plan: &[u8], r: Registers) -> Result<(), Refusal>
+    requires { Tree (listed yard.now) × (0 < r.left) × (r.left ≤ whole_moves plan.now) }
+    ensures { paper_done result ≡ first_of (next_tests (listed yard.now) plan.now r) }
 {
     if !whole_plan(plan) {
-        return Done::Refused(Refusal::PlanLength);
+        return Err(Refusal::PlanLength);
     }
     let i = plan.len() / 2 - r.left;
     test_move(
-        parents,
-        pebbles,
-        depths,
+        yard.parents,
+        yard.pebbles,
+        yard.depths,
         plan[2 * i] as usize,
         plan[2 * i + 1] as usize,
         i,
@@ -71,50 +58,23 @@ fn test_next(
 }
 
 // 25 and the checker's refusals for a start; those of the next move where one is obeyed.
-fn test_task(
-    parents: &[u8],
-    pebbles: &[u8],
-    targets: &[u8],
-    depths: &[u8],
-    plan: &[u8],
-    r: Registers,
-) -> Done
-    requires { Tree (handed parents.now pebbles.now targets.now depths.now) × (register_fault (whole_moves plan.now) r ≡ none) }
-    ensures { paper_done result ≡ task_fault (given parents.now pebbles.now targets.now depths.now) plan.now r }
+fn test_task(yard: &Lists, plan: &[u8], r: Registers) -> Result<(), Refusal>
+    requires { Tree (listed yard.now) × (register_fault (whole_moves plan.now) r ≡ none) }
+    ensures { paper_done result ≡ task_fault (listed yard.now) plan.now r }
 {
-    if r.command == 1 {
-        if r.status != 0 {
-            return Done::Refused(Refusal::NotIdle);
-        }
-        return test_plan(parents, pebbles, targets, depths, plan);
+    match (r.command, r.status) {
+        (1, 0) => test_plan(yard, plan),
+        (1, _) => Err(Refusal::NotIdle),
+        (0, 1) => test_next(yard, plan, r),
+        _ => Ok(()),
     }
-    if r.command != 0 {
-        return Done::Accepted;
-    }
-    if r.status != 1 {
-        return Done::Accepted;
-    }
-    test_next(parents, pebbles, targets, depths, plan, r)
 }
 
 // All refusals of a step, in their order.
-pub fn test_step(
-    parents: &[u8],
-    pebbles: &[u8],
-    targets: &[u8],
-    depths: &[u8],
-    plan: &[u8],
-    r: Registers,
-) -> Done
-    ensures { paper_done result ≡ step_fault (given parents.now pebbles.now targets.now depths.now) plan.now (block_of r) }
+pub fn test_step(yard: &Lists, plan: &[u8], r: Registers) -> Result<(), Refusal>
+    ensures { paper_done result ≡ step_fault (listed yard.now) plan.now (block_of r) }
 {
-    let tested = test_yard(parents, pebbles, targets, depths);
-    if let Done::Refused(fault) = tested {
-        return Done::Refused(fault);
-    }
-    let right = test_registers(r, plan.len() / 2);
-    if let Done::Refused(fault) = right {
-        return Done::Refused(fault);
-    }
-    test_task(parents, pebbles, targets, depths, plan, r)
+    test_yard(yard)?;
+    test_registers(r, plan.len() / 2)?;
+    test_task(yard, plan, r)
 }

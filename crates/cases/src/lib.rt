@@ -1,7 +1,6 @@
-// What a vector program is made of: cases as lines of text, the lists in them, and answers in print.
+// What a vector program is made of: cases as lines of text, the lists in them, answers in print.
 #![tactic(auto)]
 
-pub mod kinds;
 pub mod lines;
 pub mod lists;
 pub mod print;

@@ -1,14 +1,13 @@
 // What the checker and the trial share: the test of a plan's length, and the moves of a plan's front obeyed one by one.
 ghost use Rattle.std.specs.Prelude.{◌≡◌, ◌*◌, ◌≤◌, length};
-ghost use Rattle.model.specs.Given.{given, handed};
+ghost use Rattle.model.specs.Given.{given, handed, listed};
 ghost use Rattle.model.specs.Judge.{fault, unless, Tree};
 ghost use Rattle.model.specs.Push.{after};
 ghost use Rattle.model.specs.Calls.Checks.{bytes_fault, moves_fault, within};
 ghost use Rattle.model.specs.Paper.{paper_done};
 ghost use Rattle.checker.specs.Obeyed.{obeyed};
 
-use lists::copy::copy;
-use model::Done;
+use model::{Lists, Refusal};
 use yard::step::step;
 
 // Whether a plan's length is even and at most 262,144 bytes: else refusal 9 meets it.
@@ -30,39 +29,26 @@ fn obey(
     depths: &[u8],
     plan: &[u8],
     count: usize,
-) -> Done
+) -> Result<(), Refusal>
     requires { Tree (handed parents.now pebbles.old targets.now depths.now) × (2 * count ≤ length plan.now) }
     ensures result_value { paper_done result ≡ moves_fault 0 (given parents.now pebbles.old targets.now depths.now) (within plan.now count) }
     ensures pebbles_value { pebbles.new ≡ after (given parents.now pebbles.old targets.now depths.now) (obeyed (paper_done result) plan.now count) }
 {
-    let mut i = 0;
-    while i < count {
+    for i in 0..count {
         let from = plan[2 * i] as usize;
         let to = plan[2 * i + 1] as usize;
-        let done = step(parents, pebbles, depths, from, to, i);
-        if let Done::Refused(r) = done {
-            return Done::Refused(r);
-        }
-        i += 1;
+        step(parents, pebbles, depths, from, to, i)?;
     }
-    Done::Accepted
+    Ok(())
 }
 
 // The same, on a copy of the pebbles: `counts` is written, whatever it held.
-pub fn obey_copy(
-    parents: &[u8],
-    pebbles: &[u8],
-    counts: &mut [u8],
-    targets: &[u8],
-    depths: &[u8],
-    plan: &[u8],
-    count: usize,
-) -> Done
-    requires tree { Tree (handed parents.now pebbles.now targets.now depths.now) × (2 * count ≤ length plan.now) }
-    requires counts_len { length counts.old ≡ length pebbles.now }
-    ensures result_value { paper_done result ≡ moves_fault 0 (given parents.now pebbles.now targets.now depths.now) (within plan.now count) }
-    ensures counts_value { counts.new ≡ after (given parents.now pebbles.now targets.now depths.now) (obeyed (paper_done result) plan.now count) }
+pub fn obey_copy(yard: &Lists, counts: &mut [u8], plan: &[u8], count: usize) -> Result<(), Refusal>
+    requires tree { Tree (listed yard.now) × (2 * count ≤ length plan.now) }
+    requires counts_len { length counts.old ≡ length yard.now.pebbles.now }
+    ensures result_value { paper_done result ≡ moves_fault 0 (listed yard.now) (within plan.now count) }
+    ensures counts_value { counts.new ≡ after (listed yard.now) (obeyed (paper_done result) plan.now count) }
 {
-    copy(pebbles, counts);
-    obey(parents, counts, targets, depths, plan, count)
+    counts.copy_from_slice(yard.pebbles);
+    obey(yard.parents, counts, yard.targets, yard.depths, plan, count)
 }

@@ -8,9 +8,7 @@ ghost use Rattle.checker.specs.Obeyed.{obeyed_or_left};
 
 use crate::obey::{obey_copy, whole_plan};
 use judge::test::test_yard;
-use lists::copy::copy;
-use lists::numbers::smaller;
-use model::{Done, Refusal, Tried};
+use model::{Lists, Refusal, Tried};
 
 // Obeys the first `count` moves of a plan on a copy of the pebbles of a tree, and writes the new counts if none is refused.
 fn obey_or_leave(
@@ -20,27 +18,26 @@ fn obey_or_leave(
     depths: &[u8],
     plan: &[u8],
     count: usize,
-) -> Done
+) -> Result<(), Refusal>
     requires { Tree (handed parents.now pebbles.old targets.now depths.now) × (2 * count ≤ length plan.now) }
     ensures result_value { paper_done result ≡ moves_fault 0 (given parents.now pebbles.old targets.now depths.now) (within plan.now count) }
     ensures pebbles_value { pebbles.new ≡ obeyed_or_left (paper_done result) (given parents.now pebbles.old targets.now depths.now) (within plan.now count) }
 {
     let n = parents.len();
     let mut counts = [0u8; 256];
-    let done = obey_copy(
-        parents,
-        pebbles,
+    obey_copy(
+        &Lists {
+            parents,
+            pebbles,
+            targets,
+            depths,
+        },
         &mut counts[..n],
-        targets,
-        depths,
         plan,
         count,
-    );
-    if let Done::Refused(r) = done {
-        return Done::Refused(r);
-    }
-    copy(&counts[..n], pebbles);
-    Done::Accepted
+    )?;
+    pebbles.copy_from_slice(&counts[..n]);
+    Ok(())
 }
 
 // Refusals 1 to 6, 9, then 10 to 13 on the moves obeyed; it writes the new counts, and answers the moves taken and which of the two ended it
@@ -52,26 +49,25 @@ pub fn trial(
     depths: &[u8],
     plan: &[u8],
     budget: u16,
-) -> Tried
+) -> Result<Tried, Refusal>
     ensures result_value { paper_tried result ≡ trial_answer (given parents.now pebbles.old targets.now depths.now) plan.now budget }
     ensures pebbles_value { pebbles.new ≡ trial_pebbles (given parents.now pebbles.old targets.now depths.now) plan.now budget }
 {
-    let tested = test_yard(parents, pebbles, targets, depths);
-    if let Done::Refused(r) = tested {
-        return Tried::Refused(r);
-    }
+    test_yard(&Lists {
+        parents,
+        pebbles,
+        targets,
+        depths,
+    })?;
     if !whole_plan(plan) {
-        return Tried::Refused(Refusal::PlanLength);
+        return Err(Refusal::PlanLength);
     }
     let moves = plan.len() / 2;
     let limit = budget as usize;
-    let taken = smaller(moves, limit);
-    let done = obey_or_leave(parents, pebbles, targets, depths, plan, taken);
-    if let Done::Refused(r) = done {
-        return Tried::Refused(r);
-    }
+    let taken = moves.min(limit);
+    obey_or_leave(parents, pebbles, targets, depths, plan, taken)?;
     if moves <= limit {
-        return Tried::PlanEnded(taken);
+        return Ok(Tried::PlanEnded(taken));
     }
-    Tried::BudgetEnded(taken)
+    Ok(Tried::BudgetEnded(taken))
 }

@@ -63,8 +63,11 @@ module _ {input : List ℕ} {at first : ℕ} {plan : List ℕ} {next m : ℕ} (s
   pub so_far_report : begins report_head (drop next input) ≡ true → answered (take (2 * m) plan) ≡ readMoves moves_read first (drop at input)
   so_far_report e = ended (read_moves_report (moves_read - m) (first + m) (drop next input) e)
 
-  pub so_far_many : m ≡ moves_read → answered (take (2 * m) plan) ≡ readMoves moves_read first (drop at input)
-  so_far_many e = let n : moves_read - m ≡ 0 = omega arith in ended (rw n (read_moves_none (first + m) (drop next input)))
+  pub so_far_many : m ≡ moves_read → answered (take plan_room plan) ≡ readMoves moves_read first (drop at input)
+  so_far_many e =
+      let n : moves_read - m ≡ 0 = omega arith in
+      let q : 2 * m ≡ plan_room = omega arith in
+      rw q at (ended (rw n (read_moves_none (first + m) (drop next input))))
 
   module _ (l : m < moves_read) (h : next < length input) (n : begins report_head (drop next input) ≡ false) where
     room : moves_read - m ≡ suc (131_072 - m)

@@ -6,6 +6,7 @@ use native.Mathlib.Omega.{arith}
 use native.Mathlib.Decide.{ℕ_discrete, dec_lt}
 use lib.ListN.{length, get_or, take, get_or-eq_default}
 use lib.Seq.{get_or-take, length-take-le}
+use Rattle.model.specs.Judge.{Tree}
 use Rattle.model.specs.Yard.{Yard, size, root}
 use Rattle.model.specs.Push.{Move, push, is_up, is_down, count}
 use Rattle.model.specs.Calls.Answers.{rowUnit}
@@ -25,8 +26,6 @@ use Rattle.laws.proofs.Demand2.{check_excess}
 use Rattle.laws.proofs.Spare.{check_solves}
 use Rattle.laws.proofs.Wear.{count_le}
 use Rattle.sheet.specs.Report.{Columns, report_of}
-use Rattle.lists.specs.Find.{firstOwn}
-use Rattle.lists.proofs.Root.{root_found}
 use Rattle.sheet.specs.Written.{Written}
 use Rattle.sheet.proofs.Edges.{report_is}
 use Rattle.sheet.proofs.Writing.{written_as, written_append}
@@ -108,15 +107,18 @@ unfolding verdict_sheet
 accepted_sheet_law y plan v = append_assoc (text "moves spare\n") (line (v.moves ∷ v.excess ∷ [])) (report y (moves_of plan))
 
 -- what is written of accepted moves, for whatever such yard: the head and the two values, and behind them the report
-pub accepted_written : (y : Yard) {ps plan us ds out mid new : List ℕ} {moves excess root at r : ℕ}
-    → Accepted y ps plan (verdict moves excess) → Counted ps plan us ds → root ≡ firstOwn ps 0
+pub accepted_written : (y : Yard) {ps plan us ds out mid new : List ℕ} {moves excess r₀ at r : ℕ}
+    → Accepted y ps plan (verdict moves excess) → Counted ps plan us ds → r₀ ≡ root y
     → Written (text "moves spare\n" ++ line (moves ∷ excess ∷ [])) 0 out at mid
-    → Written (report_of (take (length ps) us) (take (length ps) ds) root moves) at mid r new
+    → Written (report_of (take (length ps) us) (take (length ps) ds) r₀ moves) at mid r new
     → Written (accepted_sheet y plan (verdict moves excess)) 0 out r new
-accepted_written y {ps} {plan} {us} {ds} {moves = moves} {excess} {root} h c f w x =
+accepted_written y {ps} {plan} {us} {ds} {moves = moves} {excess} {r₀} h c q w x =
     let v = verdict moves excess in
     let own : Accepted y y.parents plan v = record { is = refl; answer = h.answer } in
     let n = subst (λ (qs : List ℕ). Counted qs plan us ds) (sym h.is) c in
-    let q = root_found y (check_solves y plan v h.answer).0 root (f ∙ ap (λ (qs : List ℕ). firstOwn qs 0) (sym h.is)) in
-    let e = accepted_report y own n (length ps) root (ap length (sym h.is)) q in
+    let e = accepted_report y own n (length ps) r₀ (ap length (sym h.is)) q in
     written_as (accepted_sheet_law y plan v) (written_append w (written_as e x))
+
+-- of such a yard the root can be asked for
+pub accepted_tree : (y : Yard) {ps plan : List ℕ} {v : Verdict} → Accepted y ps plan v → Tree y
+accepted_tree y {plan = plan} {v} h = (check_solves y plan v h.answer).0

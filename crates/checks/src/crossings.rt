@@ -16,7 +16,6 @@ fn cross(counts: &mut [u32; 256], v: usize, crosses: bool)
 {
     if crosses {
         counts[v] += 1;
-        return;
     }
 }
 
@@ -28,14 +27,11 @@ pub fn count_crossings(parents: &[u8], plan: &[u8]) -> Crossings
 {
     let mut ups = [0u32; 256];
     let mut downs = [0u32; 256];
-    let moves = plan.len() / 2;
-    let mut k = 0;
-    while k < moves {
-        let from = plan[2 * k] as usize;
-        let to = plan[2 * k + 1] as usize;
+    for pair in plan.chunks_exact(2) {
+        let from = pair[0] as usize;
+        let to = pair[1] as usize;
         cross(&mut ups, from, parents[from] as usize == to);
         cross(&mut downs, to, parents[to] as usize == from);
-        k += 1;
     }
     Crossings { ups, downs }
 }

@@ -7,14 +7,7 @@ ghost use Rattle.model.specs.CheckSheets.{digit_first, yard_part};
 fn digit_at(input: &[u8], at: usize) -> bool
     ensures { result ≡ digit_first (drop at input.now) }
 {
-    if at >= input.len() {
-        return false;
-    }
-    let b = input[at];
-    if b < b'0' {
-        return false;
-    }
-    b <= b'9'
+    at < input.len() && input[at].is_ascii_digit()
 }
 
 // Whether the yard sheet ends with the byte at `i`: a line feed behind which no digit stands.
@@ -22,22 +15,17 @@ fn ends_yard(input: &[u8], i: usize) -> bool
     requires { i < length input.now }
     ensures { result ≡ (eqb (get_or input.now i 0) line_feed) && (not (digit_first (drop (i + 1) input.now))) }
 {
-    if input[i] != b'\n' {
-        return false;
-    }
-    !digit_at(input, i + 1)
+    input[i] == b'\n' && !digit_at(input, i + 1)
 }
 
 // How many bytes the yard sheet in front has.
 pub fn yard_bytes(input: &[u8]) -> usize
     ensures { result ≡ length (yard_part input.now) }
 {
-    let mut i = 0;
-    while i < input.len() {
+    for i in 0..input.len() {
         if ends_yard(input, i) {
             return i + 1;
         }
-        i += 1;
     }
-    i
+    input.len()
 }

@@ -1,6 +1,6 @@
 -- Lists by their entries. A store changes the entry at its place and no other; what holds of f everywhere holds of a list of f at rising numbers.
-use mathlib.Core.Path.{◌≡◌, refl}
-use mathlib.Core.List.{List, map}
+use mathlib.Core.Path.{◌≡◌, refl, sym, ap, ◌∙◌}
+use mathlib.Core.List.{List, [], ◌∷◌, map}
 use Prim.Native.Nat.{ℕ, zero, suc, ◌+◌, ◌*◌, ◌<◌}
 use native.Mathlib.Omega.{arith}
 use native.Mathlib.Decide.{ℕ_discrete}
@@ -9,8 +9,11 @@ use lib.Seq.{get_or-set_same, get_or-set_other}
 use lib.Dec.{eqb}
 use lib.IntN.{ℤ, pos}
 use borrow.Author.Tests.{eq-eqb, ne_eqb}
-use Rattle.model.specs.Yard.{one}
+use Rattle.std.specs.List.{sum_by}
+use Rattle.std.proofs.lemmas.List.Sums.{sum_by-cons}
+use Rattle.model.specs.Yard.{one, sum}
 use Rattle.model.specs.Calls.Answers.{range}
+use Rattle.laws.proofs.Sums.{sum_front}
 
 -- by d up or e down
 pub stored : (xs : List ℕ) (i v a d e : ℕ) → i < length xs → get_or xs i 0 + d ≡ a + e → get_or xs v 0 + one (eqb v i) * d ≡ get_or (set xs i a) v 0 + one (eqb v i) * e
@@ -26,3 +29,9 @@ unfolding range
 all_listed P f z h a zero v = z
 all_listed P f z h a (suc k) zero = h a
 all_listed P f z h a (suc k) (suc v) = all_listed P f z h (suc a) k v
+
+-- the sum over a list, place by place
+pub sum_by_place : (f : ℤ → ℕ) (xs : List ℤ) → sum_by f xs ≡ sum (length xs) (λ v. f (get_or xs v (pos 0)))
+unfolding sum
+sum_by_place f [] = refl
+sum_by_place f (x ∷ xs) = sum_by-cons f x xs ∙ ap (λ (n : ℕ). f x + n) (sum_by_place f xs) ∙ sym (sum_front (length xs) (λ v. f (get_or (x ∷ xs) v (pos 0))))

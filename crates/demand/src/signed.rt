@@ -23,10 +23,7 @@ pub fn size(a: i16) -> usize
     requires { nat_abs a ≤ max_demand }
     ensures { result ≡ nat_abs a }
 {
-    if a < 0 {
-        return (0 - a) as usize;
-    }
-    a as usize
+    a.unsigned_abs() as usize
 }
 
 // The sum of the sizes of a list of demands: for all demands of a yard its shortest length.
@@ -34,11 +31,7 @@ pub fn sizes(list: &[i16]) -> usize
     requires { (length list.now ≤ max_size) × ((v : ℕ) → nat_abs (get_or list.now v (pos 0)) ≤ max_demand) }
     ensures { result ≡ sum (length list.now) (λ v. nat_abs (get_or list.now v (pos 0))) }
 {
-    let mut total = 0;
-    let mut i = 0;
-    while i < list.len() {
-        total += size(list[i]);
-        i += 1;
-    }
-    total
+    list.iter()
+        .map(|demand| demand.unsigned_abs() as usize)
+        .sum()
 }

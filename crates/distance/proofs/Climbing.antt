@@ -67,19 +67,18 @@ module _ {parents list : List ℕ} (e : Entries parents list) {w far : ℕ} (l :
       at (no d) = h x k (rw (other x d) at m)
 
 -- the way from a node has come to w: those that are known lead there
-pub record Leading (parents list : List ℕ) (w steps : ℕ) : Type 0 where
+pub record Leading (parents list : List ℕ) (w : ℕ) : Type 0 where
   pub entries : Entries parents list
   pub node : w < length parents
-  pub few : steps < length parents
   pub leads : (x : ℕ) → x < length parents → get_or list x 0 ≢ unknown → (k : ℕ) × Up parents x k w
 
 module _ {parents list : List ℕ} (n : Parents parents) where
-  pub lead_first : {a : ℕ} → Entries parents list → Unknown list → a < length parents → Leading parents list a 0
-  lead_first e u l = record { entries = e; node = l; few = omega arith; leads = λ x k m. absurd (m (u x (omega (arith, e.long)))) }
+  pub lead_first : {a : ℕ} → Entries parents list → Unknown list → a < length parents → Leading parents list a
+  lead_first e u l = record { entries = e; node = l; leads = λ x k m. absurd (m (u x (omega (arith, e.long)))) }
 
-  module _ {w steps : ℕ} (h : Leading parents list w steps) where
+  module _ {w steps : ℕ} (h : Leading parents list w) (l : steps < length parents) where
     short : steps < unknown
-    short = omega (arith, h.few, n.few)
+    short = omega (arith, l, n.few)
 
     pub lead_entries : Entries parents (set list w steps)
     lead_entries = entries_set h.entries h.node short
@@ -90,8 +89,8 @@ module _ {parents list : List ℕ} (n : Parents parents) where
     pub lead_root : up parents w ≡ w → Rooted parents (set list w steps) w
     lead_root e = record { lt = h.node; own = e; leads = lead_set }
 
-    pub lead_next : steps + 1 ≢ length parents → Leading parents (set list w steps) (up parents w) (steps + 1)
-    lead_next d = record { entries = lead_entries; node = n.node w h.node; few = omega (arith, h.few); leads = λ x k m. let q = lead_set x k m in (suc q.0, up_more q.1) }
+    pub lead_next : Leading parents (set list w steps) (up parents w)
+    lead_next = record { entries = lead_entries; node = n.node w h.node; leads = λ x k m. let q = lead_set x k m in (suc q.0, up_more q.1) }
 
 -- written up from v to below w, from where a climb comes to a node that was known before
 pub record Writes (parents : List ℕ) (v : ℕ) (before list : List ℕ) (w steps : ℕ) : Type 0 where

@@ -4,7 +4,7 @@ use mathlib.Core.Logic.{◌≢◌}
 use mathlib.Core.Bool.{true, false, and-eq-true_iff, false≢true}
 use mathlib.Core.List.{List, [], ◌∷◌, map}
 use mathlib.Core.Option.{Option, none, some}
-use Prim.Native.Nat.{ℕ, ◌+◌, min, ◌≤◌, ◌<◌}
+use Prim.Native.Nat.{ℕ, ◌+◌, ◌≤◌, ◌<◌}
 use native.Mathlib.Numerals.{add-one}
 use native.Mathlib.Omega.{arith}
 use native.Mathlib.Decide.{ℕ_discrete, dec_lt}
@@ -12,7 +12,9 @@ use lib.ListN.{length, get_or, set, replicate, length-set, length-replicate, get
 use lib.Seq.{get_or-set_same, get_or-set_other}
 use lib.Dec.{leb, ltb}
 use borrow.Author.Tests.{ltb-true, leb-true, lt-ltb, le-ltb, le-leb}
-use Rattle.model.specs.Yard.{Yard, size, held, one, sum, lowest, pebbleCount, pebble}
+use Rattle.std.proofs.Common.{Option as Found, Some, None}
+use Rattle.std.specs.Option.{unwrap_or, IsSome}
+use Rattle.model.specs.Yard.{Yard, size, held, one, sum, below, head_or, pebbleCount, pebble}
 use Rattle.model.specs.Judge.{Fault, fault, first_of, Tree}
 use Rattle.model.specs.Calls.Answers.{answered, answer, range}
 use Rattle.model.specs.Distance.{distance}
@@ -47,27 +49,6 @@ nearest_rest y a t l = rw (t, lt-ltb a (size y) l) (go (empty_fault y))
     go none = refl
     go (some f) = refl
 
--- the least distance so far, none seen
-pub least_start : {pebbles far : List ℕ} → Least pebbles far 0 unknown
-least_start = record { few = omega arith; least = λ v l. absurd (omega arith); met = λ d. absurd (d refl) }
-
--- and one node more
-pub least_next : {pebbles far : List ℕ} {v r c : ℕ} → Least pebbles far v r → (0 < get_or pebbles v 0 → c ≡ get_or far v 0) → (get_or pebbles v 0 ≡ 0 → c ≡ unknown) → Least pebbles far (v + 1) (min r c)
-least_next {pebbles} {far} {v} {r} {c} h p q = record {
-  few = omega (arith, h.few);
-  least = λ w l k. at w l k (ℕ_discrete w v);
-  met = λ d. from d (dec_lt c r) (dec_lt 0 (get_or pebbles v 0));
-}
-  where
-    at : (w : ℕ) → w < v + 1 → 0 < get_or pebbles w 0 → Dec (w ≡ v) → min r c ≤ get_or far w 0
-    at w l k (yes e) = rw e (omega (arith, p (rw (sym e) k)))
-    at w l k (no e) = omega (arith, h.least w (omega arith) k)
-
-    from : min r c ≢ unknown → Dec (c < r) → Dec (0 < get_or pebbles v 0) → (w : ℕ) × (w < v + 1) × (0 < get_or pebbles w 0) × (get_or far w 0 ≡ min r c)
-    from d (yes l) (yes k) = (v, omega arith, k, omega (arith, p k))
-    from d (yes l) (no k) = absurd (omega (arith, d, l, q (omega arith), h.few))
-    from d (no l) _ = let m = h.met (λ e. d (omega (arith, e))) in (m.0, omega (arith, m.1), m.2, omega (arith, m.3))
-
 module _ {y : Yard} {a : ℕ} {pebbles far : List ℕ} (q : Asked y a pebbles far) where
   pub as_many : (length pebbles ≡ size y) × (size y ≤ 256)
   as_many = omega (arith, ap length q.counts, (facts y q.tree).pebbles_size, (facts y q.tree).few)
@@ -88,20 +69,22 @@ module _ {y : Yard} {a : ℕ} {pebbles far : List ℕ} (q : Asked y a pebbles fa
         zero_if v l (no k) = omega arith
 
     -- and the first pebble within that
-    module _ {at : ℕ} (d : r ≢ unknown) (e : at ≡ lowest (length pebbles) (is_within pebbles far r)) where
+    module _ (d : r ≢ unknown) where
       within : (v : ℕ) → held y v ≡ true → get_or far v 0 ≤ r → is_within pebbles far r v ≡ true
       within v k m = rw (sym (held_is v) ∙ k, le-leb (get_or far v 0) r m) refl
 
       -- there is one
-      is_one : at ≢ length pebbles
-      is_one p =
+      pub is_one : (found : Found ℕ) → ((k : ℕ) → unwrap_or found k ≡ head_or k (below (length pebbles) (is_within pebbles far r))) → IsSome found
+      is_one (Some at) e = refl
+      is_one None e =
           let m = h.met d in
-          let none = below_none (length pebbles) (is_within pebbles far r) (lowest_none (length pebbles) (is_within pebbles far r) at e (omega (arith, p))) m.0 m.1 in
-          false≢true (sym none ∙ within m.0 (held_is m.0 ∙ lt-ltb 0 (get_or pebbles m.0 0) m.2) (omega (arith, m.3)))
+          let none = below_none (length pebbles) (is_within pebbles far r) (lowest_none (length pebbles) (is_within pebbles far r) (length pebbles) (e (length pebbles)) (omega arith)) m.0 m.1 in
+          absurd (false≢true (sym none ∙ within m.0 (held_is m.0 ∙ lt-ltb 0 (get_or pebbles m.0 0) m.2) (omega (arith, m.3))))
 
-      pub least_first : answered (record { node = at; distance = r }) ≡ nearest_or_none y a
-      least_first =
-          let n = lowest_is (length pebbles) (length pebbles) at (is_within pebbles far r) e is_one in
+      pub least_first : {at : ℕ} → ((k : ℕ) → at ≡ head_or k (below (length pebbles) (is_within pebbles far r)))
+          → answered (record { node = at; distance = r }) ≡ nearest_or_none y a
+      least_first {at} e =
+          let n = lowest_is (length pebbles) (at + 1) at (is_within pebbles far r) (e (at + 1)) (λ p. omega (arith, p)) in
           let m = (and-eq-true_iff (ltb 0 (get_or pebbles at 0)) (leb (get_or far at 0) r)).0 n.1 in
           let l : at < size y = omega (arith, n.0, as_many) in
           sym (is_nearest y a (record { node = at; distance = r }) q.tree q.node record {

@@ -1,7 +1,7 @@
 // The distances of all nodes from one, in linear time, and on the way whether the parents are a tree's. Along the way from that node to the root the distances
 // rise by one, and every other node is one farther away than its parent. An entry of 256, which is no distance, is not known yet. No way to the root has n steps:
 // a climb of so many goes round in a circle.
-ghost use Rattle.std.specs.Prelude.{◌≡◌, true, ◌≢◌, [], ℕ, ◌≤◌, ◌<◌, length, drop};
+ghost use Rattle.std.specs.Prelude.{◌≡◌, true, [], ℕ, ◌<◌, length, drop, Some, IfSome};
 ghost use Rattle.model.specs.Yard.{Yard, yard_of};
 ghost use Rattle.model.specs.Judge.{Parents, first_of, shape_tests};
 ghost use Rattle.model.specs.Distance.{distance};
@@ -10,7 +10,7 @@ ghost use Rattle.laws.proofs.Trees.{Wood};
 ghost use Rattle.distance.specs.Far.{From, unknown, Unknown, Entries, Rooted, Climbs, Written, Partly, Distances};
 
 use judge::test::test_shape;
-use model::Done;
+use model::Refusal;
 
 // The node itself, and those on the way from it to the root, by the steps up to each. False if there is no root within n steps.
 fn mark_way(parents: &[u8], list: &mut [u16], node: usize) -> bool
@@ -19,41 +19,33 @@ fn mark_way(parents: &[u8], list: &mut [u16], node: usize) -> bool
     ensures value { (y : Yard) → From y parents.now node → (result ≡ true) × Partly y node list.new }
 {
     let mut w = node;
-    let mut steps = 0;
-    loop {
+    for steps in 0..parents.len() as u16 {
         list[w] = steps;
         let p = parents[w] as usize;
         if p == w {
             return true;
         }
-        steps += 1;
-        if steps as usize == parents.len() {
-            return false;
-        }
         w = p;
     }
+    false
 }
 
-// The distance of v: that of the first node up from it that is known, and the steps up to there. 256 if there is none within n steps.
-fn far_away(parents: &[u8], list: &[u16], v: usize) -> u16
+// The distance of v: that of the first node up from it that is known, and the steps up to there.
+// None if there is none within n steps, or the sum is no distance.
+fn far_away(parents: &[u8], list: &[u16], v: usize) -> Option<u16>
     requires { Parents parents.now × Entries parents.now list.now × (v < length parents.now) }
-    ensures upper_bound { (result ≤ unknown) × (result ≢ unknown → Climbs parents.now list.now v result) }
-    ensures value { (y : Yard) (a : ℕ) → From y parents.now a → Partly y a list.now → result ≡ distance y a v }
+    ensures upper_bound { IfSome result (λ far. (far < unknown) × Climbs parents.now list.now v far) }
+    ensures value { (y : Yard) (a : ℕ) → From y parents.now a → Partly y a list.now → result ≡ Some (distance y a v) }
 {
     let mut u = v;
-    let mut climbed = 0;
-    while list[u] == 256 {
-        u = parents[u] as usize;
-        climbed += 1;
-        if climbed as usize == parents.len() {
-            return 256;
+    for climbed in 0..parents.len() as u16 {
+        if list[u] != 256 {
+            let far = list[u] + climbed;
+            return (far < 256).then_some(far);
         }
+        u = parents[u] as usize;
     }
-    let far = list[u] + climbed;
-    if far > 256 {
-        return 256;
-    }
-    far
+    None
 }
 
 // Writes the distance of v, and of the nodes up from it as far as they are not known.
@@ -85,10 +77,9 @@ fn know(parents: &[u8], list: &mut [u16], v: usize) -> bool
         list[v] = above + 1;
         return true;
     }
-    let far = far_away(parents, list, v);
-    if far == 256 {
+    let Some(far) = far_away(parents, list, v) else {
         return false;
-    }
+    };
     write_up(parents, list, v, far);
     true
 }
@@ -102,26 +93,24 @@ fn fill(parents: &[u8], list: &mut [u16], node: usize) -> bool
     if !mark_way(parents, list, node) {
         return false;
     }
-    let mut v = 0;
-    while v < parents.len() {
+    for v in 0..parents.len() {
         if !know(parents, list, v) {
             return false;
         }
-        v += 1;
     }
     true
 }
 
 // Refusals 5 and 6, and of a tree the distances of all nodes from one, at the front of a list of 256, whose other entries stay. Left open are the first n entries
 // after a refusal: no rule speaks of them, as each call lends an array of its own and looks at it only if the yard is accepted.
-pub(crate) fn measure(parents: &[u8], list: &mut [u16], node: usize) -> Done
+pub(crate) fn measure(parents: &[u8], list: &mut [u16], node: usize) -> Result<(), Refusal>
     requires { Parents parents.now × Unknown list.old × (length list.old ≡ 256) × (node < length parents.now) }
     ensures result_value { paper_done result ≡ first_of (shape_tests (yard_of parents.now [] [] [])) }
     ensures distances { (y : Yard) → From y parents.now node → Distances y node list.new }
     ensures list_value { drop (length parents.now) list.new ≡ drop (length parents.now) list.old }
 {
     if fill(parents, &mut list[..parents.len()], node) {
-        return Done::Accepted;
+        return Ok(());
     }
     test_shape(parents)
 }

@@ -1,42 +1,24 @@
 // The demand list before and after an event.
-ghost use Rattle.std.specs.Prelude.{◌≡◌, ◌≤◌, ◌<◌, length, nat_abs};
-ghost use Rattle.model.specs.Yard.{max_size, one, sum, lowest};
+ghost use Rattle.std.specs.Prelude.{◌≡◌, ℕ, ◌≤◌, ◌<◌, length, nat_abs, unwrap_or};
+ghost use Rattle.model.specs.Yard.{max_size, below, head_or};
 ghost use Rattle.event.specs.Change.{differ_at, Rails, Small, step_of, stepped_after};
 
 use model::Event;
 
-// How many entries of two lists differ. Counted without a way out, so that many are compared at a time.
-fn count_differences(list: &[i16], other: &[i16]) -> u16
+// The lowest entry in which two lists differ.
+pub fn first_difference(list: &[i16], other: &[i16]) -> Option<usize>
     requires { (length list.now ≡ length other.now) × (length list.now ≤ max_size) }
-    ensures { result ≡ sum (length list.now) (λ v. one (differ_at list.now other.now v)) }
+    ensures { (none : ℕ) → unwrap_or result none ≡ head_or none (below (length list.now) (differ_at list.now other.now)) }
 {
-    let mut count = 0;
-    let mut v = 0;
-    while v < list.len() {
-        if list[v] != other[v] {
-            count += 1;
+    if list == other {
+        return None;
+    }
+    for (v, entry) in list.iter().enumerate() {
+        if *entry != other[v] {
+            return Some(v);
         }
-        v += 1;
     }
-    count
-}
-
-// The lowest entry in which two lists differ, or their length.
-pub fn first_difference(list: &[i16], other: &[i16]) -> usize
-    requires { (length list.now ≡ length other.now) × (length list.now ≤ max_size) }
-    ensures { result ≡ lowest (length list.now) (differ_at list.now other.now) }
-{
-    if count_differences(list, other) == 0 {
-        return list.len();
-    }
-    let mut v = 0;
-    while v < list.len() {
-        if list[v] != other[v] {
-            return v;
-        }
-        v += 1;
-    }
-    list.len()
+    None
 }
 
 // What an event adds to an entry on the way to the root.
@@ -44,10 +26,8 @@ pub fn step(event: Event) -> i16
     ensures { result ≡ step_of event }
 {
     match event {
-        Event::PebbleArrives => -1,
-        Event::PebbleLeaves => 1,
-        Event::TargetSet => 1,
-        Event::TargetCleared => -1,
+        Event::PebbleArrives | Event::TargetCleared => -1,
+        Event::PebbleLeaves | Event::TargetSet => 1,
     }
 }
 

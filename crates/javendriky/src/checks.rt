@@ -8,7 +8,7 @@ ghost use Rattle.laws.specs.Demand2.{CheckerExact};
 use crate::answers::{done, refused, tried};
 use checker::check::{check, test_plan};
 use checker::trial::trial;
-use model::Checked;
+use model::Lists;
 
 // The checker: 0 for a plan that it accepts, and only then (`CheckerExact`). Refusals 1 to 7, 9 to 14.
 #[unsafe(no_mangle)]
@@ -22,7 +22,15 @@ pub extern "C" fn javendriky_check(
     ensures value { result ≡ zeroInC (check_fault (given parents.now pebbles.now targets.now depths.now) plan.now) }
     ensures checker_exact { CheckerExact (given parents.now pebbles.now targets.now depths.now) plan.now (result ≡ 0) }
 {
-    done(test_plan(parents, pebbles, targets, depths, plan))
+    done(test_plan(
+        &Lists {
+            parents,
+            pebbles,
+            targets,
+            depths,
+        },
+        plan,
+    ))
 }
 
 // Excess: the moves of a plan that the checker accepts, minus the shortest length. Refused as the checker refuses.
@@ -36,9 +44,17 @@ pub extern "C" fn javendriky_excess(
 ) -> u32
     ensures { result ≡ in_c (mapAnswer (λ v. v.excess) (check_answer (given parents.now pebbles.now targets.now depths.now) plan.now)) }
 {
-    match check(parents, pebbles, targets, depths, plan) {
-        Checked::Accepted(_, excess) => excess as u32,
-        Checked::Refused(r) => refused(r),
+    match check(
+        &Lists {
+            parents,
+            pebbles,
+            targets,
+            depths,
+        },
+        plan,
+    ) {
+        Ok(c) => c.excess as u32,
+        Err(r) => refused(r),
     }
 }
 

@@ -8,7 +8,7 @@ use crate::answers::{counted, done, refused};
 use demand::call::demands;
 use figures::bound::{length_bound, longest_plan};
 use figures::displaced::displaced;
-use model::Measured;
+use model::Lists;
 
 // The demands of all nodes into a list of exactly one entry a node. Refusals 1 to 6, then 2 for a list of another length, or 0.
 #[unsafe(no_mangle)]
@@ -22,7 +22,15 @@ pub extern "C" fn javendriky_demands(
     ensures value { result ≡ zeroInC (demands_fault (given parents.now pebbles.now targets.now depths.now) list.old) }
     ensures list_value { list.new ≡ demands_list (given parents.now pebbles.now targets.now depths.now) list.old }
 {
-    done(demands(parents, pebbles, targets, depths, list))
+    done(demands(
+        &Lists {
+            parents,
+            pebbles,
+            targets,
+            depths,
+        },
+        list,
+    ))
 }
 
 // Bound: the moves of the plan, and through the pointer the bytes that its list needs. Refusals 1 to 7.
@@ -37,12 +45,17 @@ pub extern "C" fn javendriky_length_bound(
     ensures value { result ≡ in_c (mapAnswer (λ l. l.moves) (bound_answer (given parents.now pebbles.now targets.now depths.now))) }
     ensures bytes_value { bytes.new ≡ noted (bound_answer (given parents.now pebbles.now targets.now depths.now)) (λ l. l.list_bytes) bytes.old }
 {
-    match length_bound(parents, pebbles, targets, depths) {
-        Measured::Length(moves, list_bytes) => {
-            *bytes = list_bytes as u32;
-            moves as u32
+    match length_bound(&Lists {
+        parents,
+        pebbles,
+        targets,
+        depths,
+    }) {
+        Ok(m) => {
+            *bytes = m.bytes as u32;
+            m.moves as u32
         }
-        Measured::Refused(r) => refused(r),
+        Err(r) => refused(r),
     }
 }
 
@@ -64,5 +77,10 @@ pub extern "C" fn javendriky_displaced(
 ) -> u32
     ensures { result ≡ in_c (displaced_answer (given parents.now pebbles.now targets.now depths.now)) }
 {
-    counted(displaced(parents, pebbles, targets, depths))
+    counted(displaced(&Lists {
+        parents,
+        pebbles,
+        targets,
+        depths,
+    }))
 }

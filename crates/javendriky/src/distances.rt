@@ -6,7 +6,7 @@ ghost use Rattle.model.specs.Calls.Distances.{nearest_answer, reach_answer, reac
 
 use crate::answers::{counted, refused};
 use distance::call::{nearest, reach};
-use model::Located;
+use model::Lists;
 
 // The node of the pebble nearest to a node, the lowest-numbered among equals, and through the pointer its distance in edges. Refusals 1 to 6, 19, 22.
 #[unsafe(no_mangle)]
@@ -21,12 +21,20 @@ pub extern "C" fn javendriky_nearest(
     ensures value { result ≡ in_c (mapAnswer (λ l. l.node) (nearest_answer (given parents.now pebbles.now targets.now depths.now) node)) }
     ensures distance_value { distance.new ≡ noted (nearest_answer (given parents.now pebbles.now targets.now depths.now) node) (λ l. l.distance) distance.old }
 {
-    match nearest(parents, pebbles, targets, depths, node) {
-        Located::Node(at, far) => {
-            *distance = far as u32;
-            at as u32
+    match nearest(
+        &Lists {
+            parents,
+            pebbles,
+            targets,
+            depths,
+        },
+        node,
+    ) {
+        Ok(l) => {
+            *distance = l.distance as u32;
+            l.node as u32
         }
-        Located::Refused(r) => refused(r),
+        Err(r) => refused(r),
     }
 }
 
@@ -45,5 +53,15 @@ pub extern "C" fn javendriky_reach(
     ensures value { result ≡ in_c (reach_answer (given parents.now pebbles.now targets.now depths.now) list.old node edges) }
     ensures list_value { list.new ≡ reach_list (given parents.now pebbles.now targets.now depths.now) list.old node edges }
 {
-    counted(reach(parents, pebbles, targets, depths, list, node, edges))
+    counted(reach(
+        &Lists {
+            parents,
+            pebbles,
+            targets,
+            depths,
+        },
+        list,
+        node,
+        edges,
+    ))
 }

@@ -9,6 +9,7 @@ ghost use Rattle.laws.specs.Demand2.{PlannerExact};
 ghost use Rattle.laws.specs.Demand3.{Demand3};
 
 use crate::answers::counted;
+use model::Lists;
 
 // The planner: writes the plan at the front of its list, and answers the number of moves. Refusals 1 to 8.
 #[unsafe(no_mangle)]
@@ -24,7 +25,15 @@ pub extern "C" fn javendriky_plan(
     ensures planner_exact { PlannerExact (given parents.now pebbles.now targets.now depths.now) plan.old (told result) plan.new }
     ensures demand3 { Demand3 (given parents.now pebbles.now targets.now depths.now) plan.old (told result) plan.new }
 {
-    counted(planner::plan::plan(parents, pebbles, targets, depths, plan))
+    counted(planner::plan::plan(
+        &Lists {
+            parents,
+            pebbles,
+            targets,
+            depths,
+        },
+        plan,
+    ))
 }
 
 // The planner part by part (request 2.11): writes the parts' plans, one behind the other, at the front of the plan list and for each node its part's topmost node
@@ -42,7 +51,16 @@ pub extern "C" fn javendriky_plan_parts(
     ensures plan_value { plan.new ≡ parts_plan_list (given parents.now pebbles.now targets.now depths.now) plan.old parts.old }
     ensures parts_value { parts.new ≡ parts_list (given parents.now pebbles.now targets.now depths.now) plan.old parts.old }
 {
-    counted(parts::plan::plan_parts(parents, pebbles, targets, depths, plan, parts))
+    counted(parts::plan::plan_parts(
+        &Lists {
+            parents,
+            pebbles,
+            targets,
+            depths,
+        },
+        plan,
+        parts,
+    ))
 }
 
 // The openings (request 2.13): writes every move with which some shortest plan starts at the front of its list, ordered by from and then to, and answers their number. Refusals
@@ -58,5 +76,13 @@ pub extern "C" fn javendriky_openings(
     ensures value { result ≡ in_c (openings_answer (given parents.now pebbles.now targets.now depths.now) list.old) }
     ensures list_value { list.new ≡ openings_list (given parents.now pebbles.now targets.now depths.now) list.old }
 {
-    counted(openings::call::openings(parents, pebbles, targets, depths, list))
+    counted(openings::call::openings(
+        &Lists {
+            parents,
+            pebbles,
+            targets,
+            depths,
+        },
+        list,
+    ))
 }

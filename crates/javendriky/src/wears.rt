@@ -5,7 +5,7 @@ ghost use Rattle.model.specs.Calls.Answers.{mapAnswer, in_c, noted};
 ghost use Rattle.model.specs.Calls.Wear.{wear_answer};
 
 use crate::answers::refused;
-use model::Worn;
+use model::Lists;
 use wear::call::wear;
 
 // The most crossings of one edge within so many moves in a row of a plan that the checker accepts (request 2.12), and through the pointers the first move of the first
@@ -25,12 +25,21 @@ pub extern "C" fn javendriky_wear(
     ensures first_value { first.new ≡ noted (wear_answer (given parents.now pebbles.now targets.now depths.now) plan.now width) (λ w. w.first) first.old }
     ensures edge_value { edge.new ≡ noted (wear_answer (given parents.now pebbles.now targets.now depths.now) plan.now width) (λ w. w.edge) edge.old }
 {
-    match wear(parents, pebbles, targets, depths, plan, width) {
-        Worn::Most(crossings, begins, at) => {
-            *first = begins as u32;
-            *edge = at as u32;
-            crossings as u32
+    match wear(
+        &Lists {
+            parents,
+            pebbles,
+            targets,
+            depths,
+        },
+        plan,
+        width,
+    ) {
+        Ok(w) => {
+            *first = w.first as u32;
+            *edge = w.edge as u32;
+            w.crossings as u32
         }
-        Worn::Refused(r) => refused(r),
+        Err(r) => refused(r),
     }
 }

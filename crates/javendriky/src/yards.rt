@@ -7,6 +7,7 @@ ghost use Rattle.model.specs.Calls.Answers.{zeroInC};
 
 use crate::answers::done;
 use judge::test::test_yard;
+use model::Lists;
 use yard::push::push_lists;
 
 // Whether four lists are a tree: refusals 1 to 6, or 0.
@@ -19,7 +20,12 @@ pub extern "C" fn javendriky_test_yard(
 ) -> u32
     ensures { result ≡ zeroInC (judge (given parents.now pebbles.now targets.now depths.now)) }
 {
-    done(test_yard(parents, pebbles, targets, depths))
+    done(test_yard(&Lists {
+        parents,
+        pebbles,
+        targets,
+        depths,
+    }))
 }
 
 // One push: writes the new counts. Refusals 1 to 6, 10 to 13 with place 0, or 0.

@@ -1,5 +1,5 @@
 -- Climbing in a list of parents, and the nodes of a climb by their place in it.
-use Rattle.std.specs.Prelude.{◌≡◌, Bool, not, List, ◌⊎◌, ℕ, zero, suc, ◌<◌, length, get_or}
+use Rattle.std.specs.Prelude.{◌≡◌, Bool, true, false, not, List, ◌⊎◌, ℕ, zero, suc, ◌<◌, length, get_or}
 use Rattle.model.specs.Yard.{up, climbs}
 
 -- climbing from v does not reach the root
@@ -15,6 +15,6 @@ above (suc k) parents v = above k parents (up parents v)
 abbrev pub Met : List ℕ → ℕ → ℕ → ℕ → Type 0
 Met parents v steps w = (k : ℕ) × (k < steps) × (above k parents v ≡ w)
 
--- `after` is `known`, but for the mark 1 at some of the first `steps` nodes of the climb from v
-abbrev pub Marked : List ℕ → ℕ → ℕ → List ℕ → List ℕ → Type 0
-Marked parents v steps known after = (w : ℕ) → (get_or after w 0 ≡ get_or known w 0) ⊎ ((get_or after w 0 ≡ 1) × Met parents v steps w)
+-- `after` is `known`, but for marks at some of the first `steps` nodes of the climb from v
+abbrev pub Marked : List ℕ → ℕ → ℕ → List Bool → List Bool → Type 0
+Marked parents v steps known after = (w : ℕ) → (get_or after w false ≡ get_or known w false) ⊎ ((get_or after w false ≡ true) × Met parents v steps w)

@@ -1,101 +1,77 @@
 // Testing a yard: refusals 1, 2, 26, 27, 4, 5 and 6, in their order.
 ghost use Rattle.std.specs.Prelude.{◌≡◌, [], length};
-ghost use Rattle.model.specs.Yard.{yard_of};
-ghost use Rattle.model.specs.Given.{given};
+ghost use Rattle.model.specs.Given.{listed};
+ghost use Rattle.model.specs.Yard.{Yard, yard_of, size};
 ghost use Rattle.model.specs.Judge.{first_of, length_tests, entry_tests, list_tests, shape_tests, judge, Parents};
 ghost use Rattle.model.specs.Paper.{paper_done};
 
 use crate::circle::first_circle;
 use lists::find::{first_at_least, first_below, first_outside, first_own};
-use model::{Done, Refusal};
+use model::{Lists, Refusal};
 
 // Refusals 1 and 2.
-pub fn test_lengths(parents: &[u8], pebbles: &[u8], targets: &[u8], depths: &[u8]) -> Done
-    ensures { paper_done result ≡ first_of (length_tests (given parents.now pebbles.now targets.now depths.now)) }
+pub fn test_lengths(yard: &Lists) -> Result<(), Refusal>
+    ensures { paper_done result ≡ first_of (length_tests (listed yard.now)) }
 {
-    let n = parents.len();
-    if n == 0 {
-        return Done::Refused(Refusal::NodeCount(0));
+    let n = yard.parents.len();
+    if n == 0 || n > 256 {
+        return Err(Refusal::NodeCount(0));
     }
-    if n > 256 {
-        return Done::Refused(Refusal::NodeCount(0));
+    if yard.pebbles.len() != n || yard.targets.len() != n || yard.depths.len() != n {
+        return Err(Refusal::ListLength);
     }
-    if pebbles.len() != n {
-        return Done::Refused(Refusal::ListLength);
-    }
-    if targets.len() != n {
-        return Done::Refused(Refusal::ListLength);
-    }
-    if depths.len() != n {
-        return Done::Refused(Refusal::ListLength);
-    }
-    Done::Accepted
+    Ok(())
 }
 
 // Refusals 26, 27 and 4, of lists of one length.
-fn test_entries(parents: &[u8], pebbles: &[u8], targets: &[u8], depths: &[u8]) -> Done
-    requires { (length pebbles.now ≡ length parents.now) × (length targets.now ≡ length parents.now) × (length depths.now ≡ length parents.now) }
-    ensures { paper_done result ≡ first_of (entry_tests (given parents.now pebbles.now targets.now depths.now)) }
+fn test_entries(yard: &Lists) -> Result<(), Refusal>
+    requires { (length yard.now.pebbles.now ≡ length yard.now.parents.now) × (length yard.now.targets.now ≡ length yard.now.parents.now) × (length yard.now.depths.now ≡ length yard.now.parents.now) }
+    ensures { paper_done result ≡ first_of (entry_tests (listed yard.now)) }
 {
-    let n = parents.len();
-    let depth = first_outside(depths, 1, 8);
-    if depth < n {
-        return Done::Refused(Refusal::Depth(depth));
+    if let Some(v) = first_outside(yard.depths, 1, 8) {
+        return Err(Refusal::Depth(v));
     }
-    let pebble = first_below(depths, pebbles);
-    if pebble < n {
-        return Done::Refused(Refusal::AboveDepth(pebble));
+    if let Some(v) = first_below(yard.depths, yard.pebbles) {
+        return Err(Refusal::AboveDepth(v));
     }
-    let target = first_below(depths, targets);
-    if target < n {
-        return Done::Refused(Refusal::AboveDepth(target));
+    if let Some(v) = first_below(yard.depths, yard.targets) {
+        return Err(Refusal::AboveDepth(v));
     }
-    let parent = first_at_least(parents, n);
-    if parent < n {
-        return Done::Refused(Refusal::ParentOutside(parent));
+    if let Some(v) = first_at_least(yard.parents, yard.parents.len()) {
+        return Err(Refusal::ParentOutside(v));
     }
-    Done::Accepted
+    Ok(())
 }
 
 // Refusals 1, 2, 26, 27 and 4.
-pub fn test_lists(parents: &[u8], pebbles: &[u8], targets: &[u8], depths: &[u8]) -> Done
-    ensures { paper_done result ≡ first_of (list_tests (given parents.now pebbles.now targets.now depths.now)) }
+pub fn test_lists(yard: &Lists) -> Result<(), Refusal>
+    ensures { paper_done result ≡ first_of (list_tests (listed yard.now)) }
 {
-    let lengths = test_lengths(parents, pebbles, targets, depths);
-    if let Done::Refused(r) = lengths {
-        return Done::Refused(r);
-    }
-    test_entries(parents, pebbles, targets, depths)
+    test_lengths(yard)?;
+    test_entries(yard)
 }
 
 // Refusals 5 and 6, of parents that are nodes. A second root never climbs to the first, so it is looked for only where some node does not.
-pub fn test_shape(parents: &[u8]) -> Done
+pub fn test_shape(parents: &[u8]) -> Result<(), Refusal>
     requires { Parents parents.now }
     ensures { paper_done result ≡ first_of (shape_tests (yard_of parents.now [] [] [])) }
 {
-    let n = parents.len();
-    let root = first_own(parents, 0);
-    if root >= n {
-        return Done::Refused(Refusal::Roots(0));
+    let Some(root) = first_own(parents, 0) else {
+        return Err(Refusal::Roots(0));
+    };
+    let Some(circle) = first_circle(parents, root) else {
+        return Ok(());
+    };
+    if let Some(second) = first_own(parents, root + 1) {
+        return Err(Refusal::Roots(second));
     }
-    let circle = first_circle(parents, root);
-    if circle >= n {
-        return Done::Accepted;
-    }
-    let second = first_own(parents, root + 1);
-    if second < n {
-        return Done::Refused(Refusal::Roots(second));
-    }
-    Done::Refused(Refusal::Circle(circle))
+    Err(Refusal::Circle(circle))
 }
 
 // Whether four lists are a yard's, and a tree: refusals 1 to 6, in the order above.
-pub fn test_yard(parents: &[u8], pebbles: &[u8], targets: &[u8], depths: &[u8]) -> Done
-    ensures { paper_done result ≡ judge (given parents.now pebbles.now targets.now depths.now) }
+pub fn test_yard(yard: &Lists) -> Result<(), Refusal>
+    ensures { paper_done result ≡ judge (listed yard.now) }
 {
-    let lists = test_lists(parents, pebbles, targets, depths);
-    if let Done::Refused(r) = lists {
-        return Done::Refused(r);
-    }
-    test_shape(parents)
+    test_lists(yard)?;
+    test_shape(yard.parents)
 }

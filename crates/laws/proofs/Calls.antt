@@ -18,11 +18,12 @@ use Rattle.model.specs.Calls.Answers.{answered, refused, answer, overwrite}
 use Rattle.model.specs.Calls.Plans.{bytes, moves_of, plan_tests, plan_fault}
 use Rattle.model.specs.Calls.Checks.{moves_fault, check_tests, check_fault}
 use Rattle.model.specs.Paper.{paper_done}
-use Rattle.model.specs.declared.Done.{Done}
+use Rattle.std.specs.Prelude.{Result}
+use Rattle.model.specs.declared.Refusal.{Refusal}
 use Rattle.laws.proofs.Basics.{All, none_all, all_none, unless_none, first_refused}
 
 -- what a function's answer says, where it is known
-pub sees : {d e : Done} {f : Option Fault} → paper_done d ≡ f → d ≡ e → f ≡ paper_done e
+pub sees : {A : Type 0} {d e : Result A Refusal} {f : Option Fault} → paper_done d ≡ f → d ≡ e → f ≡ paper_done e
 sees p q = sym p ∙ ap paper_done q
 
 -- answer

@@ -42,6 +42,7 @@ pub mod Struck
 pub mod Striking
 pub mod Own
 pub mod Numbering
+pub mod Refused
 pub mod Renaming
 pub mod Parts
 pub mod Mingling

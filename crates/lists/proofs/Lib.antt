@@ -1,3 +1,4 @@
--- Laws for loops over lists, and of what a search finds.
-pub mod Copied
-pub mod Root
+-- Laws of what a search finds, and of the larger of two numbers.
+pub mod Found
+pub mod Larger
+pub mod Rooted

@@ -1,6 +1,12 @@
--- What the searches answer: the lowest index whose entry passes a test, or the list's length.
-use Rattle.std.specs.Prelude.{not, ◌&&◌, List, ℕ, length, get_or, leb, ltb, eqb}
+-- What the searches answer: the lowest index whose entry passes a test, or none.
+use Rattle.std.specs.Prelude.{cond, not, ◌&&◌, List, ℕ, Option, Some, None, length, get_or, leb, ltb, eqb}
 use Rattle.model.specs.Yard.{lowest}
+
+-- a number below n; none, if it is n or more
+abbrev pub someBelow : ℕ → ℕ → Option ℕ
+someBelow n k = cond (ltb k n) (Some k) None
+
+-- below: the lowest index whose entry passes, or the list's length
 
 -- an entry of at least `limit`
 abbrev pub firstAtLeast : List ℕ → ℕ → ℕ

@@ -1,46 +1,33 @@
-// Finding the lowest index whose entry passes a test.
+// Finding the lowest index whose entry passes a test. Mostly there is none, which one number tells: it is made of all entries, many of which can be
+// looked at at once.
 ghost use Rattle.std.specs.Prelude.{◌≡◌, ◌-◌, max, length, get_or};
 ghost use Rattle.model.specs.Yard.{most};
-ghost use Rattle.lists.specs.Find.{firstAtLeast, firstOutside, firstOwn, firstBelow};
-
-use crate::numbers::{above, larger};
+ghost use Rattle.lists.specs.Find.{someBelow, firstAtLeast, firstOutside, firstOwn, firstBelow};
 
 // The greatest entry of a list, 0 of an empty one.
 fn greatest(list: &[u8]) -> u8
     ensures { result ≡ most (length list.now) (λ v. get_or list.now v 0) }
 {
     let mut most = 0;
-    let mut i = 0;
-    while i < list.len() {
-        most = larger(most, list[i]);
-        i += 1;
+    for x in list {
+        most = most.max(*x);
     }
     most
 }
 
-// The lowest index whose entry is at least `limit`, or the list's length. Mostly there is none, which the greatest entry tells: to find that, many
-// entries can be looked at at once.
-pub fn first_at_least(list: &[u8], limit: usize) -> usize
-    ensures { result ≡ firstAtLeast list.now limit }
+// The lowest index whose entry is at least `limit`.
+pub fn first_at_least(list: &[u8], limit: usize) -> Option<usize>
+    ensures { result ≡ someBelow (length list.now) (firstAtLeast list.now limit) }
 {
     if (greatest(list) as usize) < limit {
-        return list.len();
+        return None;
     }
-    look_for(list, limit)
-}
-
-// The same, entry by entry.
-fn look_for(list: &[u8], limit: usize) -> usize
-    ensures { result ≡ firstAtLeast list.now limit }
-{
-    let mut i = 0;
-    while i < list.len() {
-        if list[i] as usize >= limit {
-            return i;
+    for (i, x) in list.iter().enumerate() {
+        if *x as usize >= limit {
+            return Some(i);
         }
-        i += 1;
     }
-    i
+    None
 }
 
 // How far an entry is below `low` or above `high`, the most of all.
@@ -48,54 +35,38 @@ fn farthest_outside(list: &[u8], low: u8, high: u8) -> u8
     ensures { result ≡ most (length list.now) (λ v. max (low - get_or list.now v 0) (get_or list.now v 0 - high)) }
 {
     let mut most = 0;
-    let mut i = 0;
-    while i < list.len() {
-        let far = larger(above(low, list[i]), above(list[i], high));
-        most = larger(most, far);
-        i += 1;
+    for x in list {
+        let far = low.saturating_sub(*x).max(x.saturating_sub(high));
+        most = most.max(far);
     }
     most
 }
 
-// The lowest index whose entry is below `low` or above `high`, or the list's length. Mostly there is none: as above.
-pub fn first_outside(list: &[u8], low: u8, high: u8) -> usize
-    ensures { result ≡ firstOutside list.now low high }
+// The lowest index whose entry is below `low` or above `high`.
+pub fn first_outside(list: &[u8], low: u8, high: u8) -> Option<usize>
+    ensures { result ≡ someBelow (length list.now) (firstOutside list.now low high) }
 {
     if farthest_outside(list, low, high) == 0 {
-        return list.len();
+        return None;
     }
-    look_outside(list, low, high)
+    for (i, x) in list.iter().enumerate() {
+        if *x < low || *x > high {
+            return Some(i);
+        }
+    }
+    None
 }
 
-// The same, entry by entry.
-fn look_outside(list: &[u8], low: u8, high: u8) -> usize
-    ensures { result ≡ firstOutside list.now low high }
+// The lowest index from `start` on whose entry is the index itself.
+pub fn first_own(list: &[u8], start: usize) -> Option<usize>
+    ensures { result ≡ someBelow (length list.now) (firstOwn list.now start) }
 {
-    let mut i = 0;
-    while i < list.len() {
-        if list[i] < low {
-            return i;
-        }
-        if list[i] > high {
-            return i;
-        }
-        i += 1;
-    }
-    i
-}
-
-// The lowest index from `start` on whose entry is the index itself, or the list's length.
-pub fn first_own(list: &[u8], start: usize) -> usize
-    ensures { result ≡ firstOwn list.now start }
-{
-    let mut i = start;
-    while i < list.len() {
+    for i in start..list.len() {
         if list[i] as usize == i {
-            return i;
+            return Some(i);
         }
-        i += 1;
     }
-    list.len()
+    None
 }
 
 // How far an entry is below the other list's, the most of all.
@@ -104,37 +75,25 @@ fn farthest_below(list: &[u8], other: &[u8]) -> u8
     ensures { result ≡ most (length list.now) (λ v. get_or other.now v 0 - get_or list.now v 0) }
 {
     let mut most = 0;
-    let mut i = 0;
-    while i < list.len() {
-        let far = above(other[i], list[i]);
-        most = larger(most, far);
-        i += 1;
+    for (i, x) in list.iter().enumerate() {
+        let far = other[i].saturating_sub(*x);
+        most = most.max(far);
     }
     most
 }
 
-// The lowest index whose entry is below the other list's, or the list's length. Mostly there is none: as above.
-pub fn first_below(list: &[u8], other: &[u8]) -> usize
+// The lowest index whose entry is below the other list's.
+pub fn first_below(list: &[u8], other: &[u8]) -> Option<usize>
     requires { length other.now ≡ length list.now }
-    ensures { result ≡ firstBelow list.now other.now }
+    ensures { result ≡ someBelow (length list.now) (firstBelow list.now other.now) }
 {
     if farthest_below(list, other) == 0 {
-        return list.len();
+        return None;
     }
-    look_below(list, other)
-}
-
-// The same, entry by entry.
-fn look_below(list: &[u8], other: &[u8]) -> usize
-    requires { length other.now ≡ length list.now }
-    ensures { result ≡ firstBelow list.now other.now }
-{
-    let mut i = 0;
-    while i < list.len() {
-        if list[i] < other[i] {
-            return i;
+    for (i, x) in list.iter().enumerate() {
+        if *x < other[i] {
+            return Some(i);
         }
-        i += 1;
     }
-    i
+    None
 }

@@ -8,10 +8,8 @@ pub fn total(list: &[u8]) -> usize
     ensures { result ≡ sum (length list.now) (λ v. get_or list.now v 0) }
 {
     let mut count = 0;
-    let mut i = 0;
-    while i < list.len() {
-        count += list[i] as usize;
-        i += 1;
+    for x in list {
+        count += *x as usize;
     }
     count
 }

@@ -1,17 +1,13 @@
 -- The number and the place of each refusal, and the values of each answer, in document 01's numbers: what a sheet prints and a C program gets.
+use Prim.Native.Nat.{ℕ}
 use mathlib.Core.Path.{◌≡◌, refl}
 use mathlib.Core.Bool.{true, false}
 use mathlib.Core.List.{[], ◌∷◌, map}
 use mathlib.Core.Option.{none}
+use Rattle.std.specs.Prelude.{Ok, Err}
 use Rattle.model.specs.declared.Refusal.TheVariants.{NodeCount, ListLength, ParentOutside, Roots, Circle, Totals, ListTooShort, PlanLength, NoSuchNode, NotAdjacent, FromEmpty, ToFull, TargetEmpty, Header, LineShape, NodeNumber, ReaderList, NodeOutside, EventImpossible, NoPebble, StaleDemands, Register, NotIdle, Depth, AboveDepth, Width}
-use Rattle.model.specs.declared.Done.TheVariants as Done
-use Rattle.model.specs.declared.Counted.TheVariants as Counted
-use Rattle.model.specs.declared.Checked.TheVariants as Checked
-use Rattle.model.specs.declared.Tried.TheVariants as Tried
-use Rattle.model.specs.declared.Measured.TheVariants as Measured
-use Rattle.model.specs.declared.Located.TheVariants as Located
-use Rattle.model.specs.declared.Worn.TheVariants as Worn
-use Rattle.model.specs.declared.Signalled.TheVariants as Signalled
+use Rattle.model.specs.declared.Tried.TheVariants.{PlanEnded, BudgetEnded}
+use Rattle.model.specs.declared.Signalled.TheVariants.{Raised, Quiet}
 use Rattle.model.specs.Judge.{row, fault}
 use Rattle.model.specs.Calls.Answers.{answered, refused}
 use Rattle.model.specs.Paper.{paper, paper_done, paper_counted, paper_checked, paper_tried, paper_measured, paper_located, paper_worn, paper_signalled}
@@ -26,27 +22,27 @@ refusals_2 : map paper (Header 100 ∷ LineShape 100 ∷ NodeNumber 100 ∷ Read
 refusals_2 = refl
 
 -- accepted, and refused with the refusal's number and place
-done : map paper_done (Done.Accepted ∷ Done.Refused (Roots 3) ∷ []) ≡ none ∷ fault 5 3 ∷ []
+done : map (paper_done {A = ℕ}) (Ok 7 ∷ Err (Roots 3) ∷ []) ≡ none ∷ fault 5 3 ∷ []
 done = refl
 
-counted : map paper_counted (Counted.Number 7 ∷ Counted.Refused (Roots 3) ∷ []) ≡ answered 7 ∷ refused (row 5 3) ∷ []
+counted : map paper_counted (Ok 7 ∷ Err (Roots 3) ∷ []) ≡ answered 7 ∷ refused (row 5 3) ∷ []
 counted = refl
 
-checked : map paper_checked (Checked.Accepted 7 2 ∷ Checked.Refused (Roots 3) ∷ []) ≡ answered (record { moves = 7; excess = 2 }) ∷ refused (row 5 3) ∷ []
+checked : map paper_checked (Ok (record { moves = 7; excess = 2 }) ∷ Err (Roots 3) ∷ []) ≡ answered (record { moves = 7; excess = 2 }) ∷ refused (row 5 3) ∷ []
 checked = refl
 
-tried : map paper_tried (Tried.PlanEnded 7 ∷ Tried.BudgetEnded 6 ∷ Tried.Refused (Roots 3) ∷ [])
+tried : map paper_tried (Ok (PlanEnded 7) ∷ Ok (BudgetEnded 6) ∷ Err (Roots 3) ∷ [])
     ≡ answered (record { taken = 7; plan_ended = true }) ∷ answered (record { taken = 6; plan_ended = false }) ∷ refused (row 5 3) ∷ []
 tried = refl
 
-measured : map paper_measured (Measured.Length 7 14 ∷ Measured.Refused (Roots 3) ∷ []) ≡ answered (record { moves = 7; list_bytes = 14 }) ∷ refused (row 5 3) ∷ []
+measured : map paper_measured (Ok (record { moves = 7; bytes = 14 }) ∷ Err (Roots 3) ∷ []) ≡ answered (record { moves = 7; list_bytes = 14 }) ∷ refused (row 5 3) ∷ []
 measured = refl
 
-located : map paper_located (Located.Node 7 2 ∷ Located.Refused (Roots 3) ∷ []) ≡ answered (record { node = 7; distance = 2 }) ∷ refused (row 5 3) ∷ []
+located : map paper_located (Ok (record { node = 7; distance = 2 }) ∷ Err (Roots 3) ∷ []) ≡ answered (record { node = 7; distance = 2 }) ∷ refused (row 5 3) ∷ []
 located = refl
 
-worn : map paper_worn (Worn.Most 7 2 4 ∷ Worn.Refused (Roots 3) ∷ []) ≡ answered (record { crossings = 7; first = 2; edge = 4 }) ∷ refused (row 5 3) ∷ []
+worn : map paper_worn (Ok (record { crossings = 7; first = 2; edge = 4 }) ∷ Err (Roots 3) ∷ []) ≡ answered (record { crossings = 7; first = 2; edge = 4 }) ∷ refused (row 5 3) ∷ []
 worn = refl
 
-signalled : map paper_signalled (Signalled.Raised ∷ Signalled.Quiet ∷ Signalled.Refused (Roots 3) ∷ []) ≡ answered true ∷ answered false ∷ refused (row 5 3) ∷ []
+signalled : map paper_signalled (Ok Raised ∷ Ok Quiet ∷ Err (Roots 3) ∷ []) ≡ answered true ∷ answered false ∷ refused (row 5 3) ∷ []
 signalled = refl

@@ -1,5 +1,6 @@
 -- What lent lists hold, in one word for contracts: the yard of four of them, and what the reader finds in a sheet.
 use Rattle.std.specs.Prelude.{List, ℕ}
+use Rattle.model.specs.declared.Lists.{Lists}
 use Rattle.model.specs.Yard.{Yard, yard_of}
 use Rattle.model.specs.Calls.Answers.{Answer}
 use Rattle.model.specs.Sheets.{reader}
@@ -15,3 +16,7 @@ read_from sheet parents pebbles targets depths = reader sheet parents pebbles ta
 -- as they are, for a `requires`
 abbrev pub handed : List ℕ → List ℕ → List ℕ → List ℕ → Yard
 handed parents pebbles targets depths = yard_of parents pebbles targets depths
+
+-- the yard that a struct of four lists says
+abbrev pub listed : Lists → Yard
+listed l = yard_of l.parents.now l.pebbles.now l.targets.now l.depths.now

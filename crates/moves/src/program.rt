@@ -1,6 +1,6 @@
 // From the bytes of a yard sheet to the bytes that are printed.
 ghost use Rattle.std.specs.Prelude.{◌≡◌, ◌+◌, ◌≤◌, length};
-ghost use Rattle.model.specs.Given.{given, handed};
+ghost use Rattle.model.specs.Given.{listed};
 ghost use Rattle.model.specs.Calls.Answers.{overwrite, answered};
 ghost use Rattle.model.specs.Sheets as Sheets;
 ghost use Rattle.model.specs.Sheets.{program_plan_bytes, printed_of};
@@ -10,8 +10,8 @@ ghost use Rattle.moves.specs.Report.{output_room, Planned, plan_report, planShee
 
 use crate::report::split;
 use demand::fill::fill;
-use lists::find::first_own;
-use model::Counted;
+use lists::root::root_of;
+use model::Lists;
 use planner::plan::plan;
 use reader::read::read_sheet;
 use sheet::output::{put_moves, put_refused};
@@ -31,23 +31,15 @@ pub const OUTPUT_BYTES: usize = 8 + 4 * PLAN_BYTES + REPORT_BYTES;
 
 // The report of a plan, the one of these four lists, from `at` on; answers the place after it. By
 // the demands at the start.
-fn put_plan_report(
-    parents: &[u8],
-    pebbles: &[u8],
-    targets: &[u8],
-    depths: &[u8],
-    plan: &[u8],
-    out: &mut [u8],
-    at: usize,
-) -> usize
-    requires { Planned (handed parents.now pebbles.now targets.now depths.now) plan.now × (at + report_room (length parents.now) ≤ length out.old) }
-    ensures written { Written (plan_report (given parents.now pebbles.now targets.now depths.now)) at out.old result out.new }
-    ensures upper_bound { result ≤ at + report_room (length parents.now) }
+fn put_plan_report(yard: &Lists, plan: &[u8], out: &mut [u8], at: usize) -> usize
+    requires { Planned (listed yard.now) plan.now × (at + report_room (length yard.now.parents.now) ≤ length out.old) }
+    ensures written { Written (plan_report (listed yard.now)) at out.old result out.new }
+    ensures upper_bound { result ≤ at + report_room (length yard.now.parents.now) }
 {
-    let n = parents.len();
+    let n = yard.parents.len();
     let mut demands = [0i16; 256];
-    fill(parents, pebbles, targets, depths, &mut demands[..n]);
-    let root = first_own(parents, 0);
+    fill(yard, &mut demands[..n]);
+    let root = root_of(yard);
     let mut ups = [0u32; 256];
     let mut downs = [0u32; 256];
     split(&demands[..n], &mut ups[..n], &mut downs[..n]);
@@ -55,39 +47,25 @@ fn put_plan_report(
 }
 
 // The move sheet of a plan, the one of these four lists: its moves, and the report.
-fn put_planned(
-    parents: &[u8],
-    pebbles: &[u8],
-    targets: &[u8],
-    depths: &[u8],
-    plan: &[u8],
-    out: &mut [u8],
-) -> usize
-    requires { Planned (handed parents.now pebbles.now targets.now depths.now) plan.now × (output_room (length plan.now) ≤ length out.old) }
-    ensures value { result ≡ length (planSheet (given parents.now pebbles.now targets.now depths.now)) }
-    ensures out_value { out.new ≡ overwrite (planSheet (given parents.now pebbles.now targets.now depths.now)) out.old }
+fn put_planned(yard: &Lists, plan: &[u8], out: &mut [u8]) -> usize
+    requires { Planned (listed yard.now) plan.now × (output_room (length plan.now) ≤ length out.old) }
+    ensures value { result ≡ length (planSheet (listed yard.now)) }
+    ensures out_value { out.new ≡ overwrite (planSheet (listed yard.now)) out.old }
 {
     let behind = put_moves(plan, out);
-    put_plan_report(parents, pebbles, targets, depths, plan, out, behind)
+    put_plan_report(yard, plan, out, behind)
 }
 
 // The move sheet of four lists, or what refuses them.
-fn put_plan(parents: &[u8], pebbles: &[u8], targets: &[u8], depths: &[u8], out: &mut [u8]) -> usize
+fn put_plan(yard: &Lists, out: &mut [u8]) -> usize
     requires { output_room program_plan_bytes ≤ length out.old }
-    ensures value { result ≡ length (printed_of (answered (given parents.now pebbles.now targets.now depths.now))) }
-    ensures out_value { out.new ≡ overwrite (printed_of (answered (given parents.now pebbles.now targets.now depths.now))) out.old }
+    ensures value { result ≡ length (printed_of (answered (listed yard.now))) }
+    ensures out_value { out.new ≡ overwrite (printed_of (answered (listed yard.now))) out.old }
 {
     let mut list = [0u8; PLAN_BYTES];
-    match plan(parents, pebbles, targets, depths, &mut list) {
-        Counted::Number(count) => put_planned(
-            parents,
-            pebbles,
-            targets,
-            depths,
-            &list[..2 * count],
-            out,
-        ),
-        Counted::Refused(r) => put_refused(r, out),
+    match plan(yard, &mut list) {
+        Ok(count) => put_planned(yard, &list[..2 * count], out),
+        Err(r) => put_refused(r, out),
     }
 }
 
@@ -101,13 +79,15 @@ pub fn program(input: &[u8], out: &mut [u8; OUTPUT_BYTES]) -> usize
     let mut targets = [0u8; 256];
     let mut depths = [0u8; 256];
     match read_sheet(input, &mut parents, &mut pebbles, &mut targets, &mut depths) {
-        Counted::Number(n) => put_plan(
-            &parents[..n],
-            &pebbles[..n],
-            &targets[..n],
-            &depths[..n],
+        Ok(n) => put_plan(
+            &Lists {
+                parents: &parents[..n],
+                pebbles: &pebbles[..n],
+                targets: &targets[..n],
+                depths: &depths[..n],
+            },
             out,
         ),
-        Counted::Refused(r) => put_refused(r, out),
+        Err(r) => put_refused(r, out),
     }
 }

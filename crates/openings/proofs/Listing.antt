@@ -27,7 +27,11 @@ use Rattle.laws.proofs.Listed.{length_collect}
 use Rattle.laws.proofs.Openings.{opening_step, openings_few}
 use Rattle.serve.proofs.Siblings.{ahead}
 use Rattle.serve.proofs.Moving.{bytes_append}
-use Rattle.openings.specs.Listing.{way_of, down_to, down_from, Next, Sees, Holds, up_to, AskedChildren, ListedChildren, AskedFrom, ListedFrom, AskedAll, ListedAll}
+use Rattle.openings.specs.declared.edges.Marks.{Marks}
+use Rattle.std.specs.Prelude.{Some, None}
+use Rattle.openings.specs.declared.edges.Way.TheVariants.{Up}
+use Rattle.openings.specs.Ways.{way_of}
+use Rattle.openings.specs.Listing.{down_to, down_from, Next, Sees, Holds, up_to, AskedChildren, ListedChildren, AskedFrom, ListedFrom, AskedAll, ListedAll}
 use Rattle.openings.proofs.Marking.{marked_up, unmarked_up, next_same}
 
 -- an opening from a goes to a child or to the parent
@@ -141,9 +145,6 @@ pub record Walking (y : Yard) (list : List ℕ) (a c end k : ℕ) : Type 0 where
   pub only : (b : ℕ) → at ≤ b → b < end → opening y (push a b) ≡ true → Child y.parents a b
   pub holds : Holds (up_to y a at) list k
 
-pub walk_first : {y : Yard} {t list : List ℕ} {a i c end k : ℕ} → AskedChildren y t list a i c end k → Walking y list a c end k
-walk_first {i = i} h = record { at = i; at_le = h.low; lowest = h.at; only = h.only; holds = h.holds }
-
 module _ {y : Yard} {list : List ℕ} {a c end k : ℕ} (w : Walking y list a c end k) where
   -- a child to which an opening goes
   goes_down : {b i : ℕ} → Child y.parents a b → opening y (push a b) ≡ true → i ≤ b → down_from y a i b ≡ true
@@ -210,17 +211,17 @@ module _ {y : Yard} {list : List ℕ} {a c end k : ℕ} (w : Walking y list a c 
     }
 
     -- on to the next
-    module _ {t : List ℕ} (s : Sees y t) (l : a < size y) (m : c < end) (n : end ≤ size y) where
+    module _ {t : Marks} (s : Sees y t) (l : a < size y) (m : c < end) (n : end ≤ size y) where
       here : Holds (up_to y a c) list k
       here = between c from_c past (omega arith)
 
       pub walk_room : k < 256
       walk_room = omega (arith, here.counted, few y a s.tree s.matched l c (omega arith))
 
-      pub next_child : Next y a (c + 1) (get_or t (512 + c) 0)
+      pub next_child : Next y a (c + 1) (get_or t.down.next c 0)
       next_child = rw walk_child.up at (s.marked.next c it.0 (omega arith) (rw walk_child.up opens))
 
-      pub walk_next : {new : List ℕ} → new ≡ set (set list (2 * k) a) (2 * k + 1) c → Walking y new a (get_or t (512 + c) 0) end (k + 1)
+      pub walk_next : {new : List ℕ} → new ≡ set (set list (2 * k) a) (2 * k + 1) c → Walking y new a (get_or t.down.next c 0) end (k + 1)
       walk_next q = record {
         at = c + 1;
         at_le = omega arith;
@@ -230,14 +231,14 @@ module _ {y : Yard} {list : List ℕ} {a c end k : ℕ} (w : Walking y list a c 
       }
 
 -- from one node: all children at once, or those below the parent, the parent and the others
-module _ {y : Yard} {t parents list : List ℕ} {a n k : ℕ} (h : AskedFrom y t parents list a n k) where
+module _ {y : Yard} {t : Marks} {parents list : List ℕ} {a n k : ℕ} (h : AskedFrom y t parents list a n k) where
   lt : a < size y
   lt = h.node
 
-  mark_of : get_or t a 0 ≡ way_of y a
+  mark_of : get_or t.ways a None ≡ way_of y a
   mark_of = h.sees.marked.way a lt (omega arith)
 
-  start : (end : ℕ) → end ≤ size y → ((b : ℕ) → b < end → opening y (push a b) ≡ true → b ≢ parent y a) → AskedChildren y t list a 0 (get_or t (256 + a) 0) end k
+  start : (end : ℕ) → end ≤ size y → ((b : ℕ) → b < end → opening y (push a b) ≡ true → b ≢ parent y a) → AskedChildren y t list a 0 (get_or t.down.lowest a 0) end k
   start end l d = record {
     sees = h.sees;
     node = lt;
@@ -252,21 +253,21 @@ module _ {y : Yard} {t parents list : List ℕ} {a n k : ℕ} (h : AskedFrom y t
       child b (inl r) d = r
       child b (inr q) d = absurd (d q)
 
-  pub asked_all : get_or t a 0 ≢ 2 → AskedChildren y t list a 0 (get_or t (256 + a) 0) n k
+  pub asked_all : get_or t.ways a None ≢ Some Up → AskedChildren y t list a 0 (get_or t.down.lowest a 0) n k
   asked_all d = rw h.all (start (size y) (omega arith) (λ b _ o q. false≢true (sym (unmarked_up y h.sees.tree h.sees.matched a lt mark_of d) ∙ rw q at o)))
 
   pub listed_all : {new : List ℕ} {c k' : ℕ} → ListedChildren y new a c n k' → ListedFrom y new a k'
   listed_all r = rw (← (up_to_all y a), ← h.all) r.holds
 
   -- an opening goes to the parent
-  module _ (u : get_or t a 0 ≡ 2) where
+  module _ (u : get_or t.ways a None ≡ Some Up) where
     above : get_or parents a 0 ≡ parent y a
     above = ap (λ (l : List ℕ). get_or l a 0) h.own
 
     above_lt : parent y a < size y
     above_lt = (wood y h.sees.tree).parent_lt a lt
 
-    pub asked_lower : AskedChildren y t list a 0 (get_or t (256 + a) 0) (get_or parents a 0) k
+    pub asked_lower : AskedChildren y t list a 0 (get_or t.down.lowest a 0) (get_or parents a 0) k
     asked_lower = rw above (start (parent y a) (omega (arith, above_lt)) (λ b l _ q. omega (arith, l, q)))
 
     opens_up : opening y (push a (parent y a)) ≡ true
@@ -299,13 +300,10 @@ module _ {y : Yard} {t parents list : List ℕ} {a n k : ℕ} (h : AskedFrom y t
           child b l (inr q) = absurd (omega (arith, l, q, above))
 
 -- node by node
-module _ {y : Yard} {t parents list : List ℕ} {n : ℕ} (h : AskedAll y t parents list n) where
+module _ {y : Yard} {t : Marks} {parents list : List ℕ} {n : ℕ} (h : AskedAll y t parents list n) where
   pub list_none : Holds (collect 0 (openings_from y)) list 0
   unfolding bytes
   list_none = rw (collect_none (openings_from y)) (record { room = h.long; front = refl; counted = refl })
-
-  pub asked_from : {new : List ℕ} {a k : ℕ} → a < n → Holds (collect a (openings_from y)) new k → AskedFrom y t parents new a n k
-  asked_from l s = record { own = h.own; sees = h.sees; node = omega (arith, h.all); all = h.all; holds = s }
 
   pub list_whole : {new : List ℕ} {a k : ℕ} → a ≡ n → Holds (collect a (openings_from y)) new k → ListedAll y new k
   unfolding openings

@@ -2,7 +2,6 @@
 use mathlib.Core.Path.{◌≡◌, refl, sym, ap, ◌∙◌}
 use mathlib.Core.Logic.{◌≢◌}
 use mathlib.Core.Bool.{Bool, true, false, not, cond, ◌&&◌, and-eq-true_iff, false≢true}
-use mathlib.Core.List.{List}
 use Prim.Native.Nat.{ℕ, ◌+◌, ◌≤◌, ◌<◌}
 use native.Mathlib.Omega.{arith}
 use native.Mathlib.Decide.{ℕ_discrete}
@@ -13,7 +12,7 @@ use lib.IntN.{ℤ, pos, negsuc}
 use lib.Signed.{lt_z}
 use mir.Syntax.{w16}
 use mir.Val.{to_z, of_z}
-use borrow.Author.Tests.{ltb-true, lt-ltb, le-ltb, le-leb, lt-leb, eqb-true, eq-eqb, ne_eqb, not-true}
+use borrow.Author.Tests.{ltb-true, lt-ltb, le-ltb, le-leb, lt-leb, eqb-true, eq-eqb, ne_eqb, not-true, not-false}
 use Rattle.model.specs.Yard.{Yard, size, parent, pebble, capacity, root, head_or, is_child, lacking, surplus, demand, Matched}
 use Rattle.model.specs.Judge.{Tree}
 use Rattle.model.specs.Push.{push}
@@ -27,10 +26,18 @@ use Rattle.laws.proofs.Demands.{root_even}
 use Rattle.laws.specs.Algorithms.{need}
 use Rattle.laws.proofs.Step.{Step, crosses, ends}
 use Rattle.laws.proofs.Signed.{above0, below0, demand_parts, demand_range}
-use Rattle.serve.specs.Serving.{linked_to}
+use Rattle.serve.specs.declared.tree.Children.{Children}
+use Rattle.serve.specs.Serving.{Alone, linked_to}
+use Rattle.openings.specs.declared.edges.Marks.{Marks}
 use Rattle.serve.proofs.Numbers.{small_back}
 use Rattle.laws.proofs.Openings.{opening_step, step_opening}
-use Rattle.openings.specs.Listing.{wayOver, way_of, down_to, down_from, Next, Marked}
+use Rattle.std.specs.Prelude.{Option, Some, None}
+use Rattle.std.specs.Option.{option_eq}
+use Rattle.openings.specs.contracts.edges.WayPartialEq.TheImpl as WayPartialEq
+use Rattle.openings.specs.declared.edges.Way.{Way}
+use Rattle.openings.specs.declared.edges.Way.TheVariants.{Down, Up}
+use Rattle.openings.specs.Ways.{wayOver, way_of}
+use Rattle.openings.specs.Listing.{down_to, down_from, Next, Marked}
 
 -- two tests that pass together
 same : (a b : Bool) → (a ≡ true → b ≡ true) → (b ≡ true → a ≡ true) → a ≡ b
@@ -104,54 +111,66 @@ module _ (y : Yard) (t : Tree y) where
         step_opening y (push v (parent y v)) (record { tree = t; away = false; node = v; node_lt = l; off_root = off_root (omega (arith, n)); is = refl; holds = ltb-true _ _ c.0; room = ltb-true _ _ c.1 }) n)
 
     way_is : wayOver (demand y v) (pebble y v) (capacity y v) (pebble y (parent y v)) (capacity y (parent y v)) ≡ way_of y v
-    way_is = rw (lacks y v, spares y v, down_is, up_is) (go (ltb 0 (lacking y v)) (ltb 0 (pebble y (parent y v))) (ltb (pebble y v) (capacity y v)) (ltb 0 (surplus y v)) (ltb 0 (pebble y v)) (ltb (pebble y (parent y v)) (capacity y (parent y v))) one_side)
-      where
-        one_side : ltb 0 (lacking y v) ≡ true → ltb 0 (surplus y v) ≡ false
-        one_side e = le-ltb 0 (surplus y v) (omega (arith, ltb-true 0 (lacking y v) e))
-
-        go : (a x z b w q : Bool) → (a ≡ true → b ≡ false) → ◌≡◌ {A = ℕ} (cond a (cond x (cond z 1 0) 0) (cond b (cond w (cond q 2 0) 0) 0)) (cond (a && (x && z)) 1 (cond (b && (w && q)) 2 0))
-        go true x z true w q h = absurd (false≢true (sym (h refl)))
-        go true true true false w q h = refl
-        go true true false false w q h = refl
-        go true false z false w q h = refl
-        go false x z true true true h = refl
-        go false x z true true false h = refl
-        go false x z true false q h = refl
-        go false x z false w q h = refl
+    way_is = rw (lacks y v, spares y v, down_is, up_is) refl
 
     -- by a demand that comes back from its 16 bits
     pub way_marked : (d : ℤ) (p : ℕ) → d ≡ demand y v → p ≡ parent y v → wayOver (to_z w16 (of_z w16 d)) (pebble y v) (capacity y v) (pebble y p) (capacity y p) ≡ way_of y v
     way_marked d p e q = rw (e, q, small_back (demand y v) (demand_range y t v)) way_is
 
   -- an entry of the marks, read back
-  abbrev way : Bool → Bool → ℕ
-  way down up = cond down 1 (cond up 2 0)
+  abbrev way : Bool → Bool → Option Way
+  way down up = cond down (Some Down) (cond up (Some Up) None)
 
-  module _ (m : Matched y) (v : ℕ) (l : v < size y) {e : ℕ} (q : e ≡ way_of y v) where
-    pub marked_down : e ≡ 1 → opening y (push (parent y v) v) ≡ true
+  module _ (m : Matched y) (v : ℕ) (l : v < size y) {e : Option Way} (q : e ≡ way_of y v) where
+    pub marked_down : e ≡ Some Down → opening y (push (parent y v) v) ≡ true
     marked_down h = go (opening y (push (parent y v) v)) (opening y (push v (parent y v))) (sym q ∙ h)
       where
-        go : (a b : Bool) → way a b ≡ 1 → a ≡ true
+        go : (a b : Bool) → way a b ≡ Some Down → a ≡ true
         go true b k = refl
-        go false true k = absurd (omega (arith, k))
-        go false false k = absurd (omega (arith, k))
+        go false true k = (cc)
+        go false false k = (cc)
 
-    pub unmarked_down : e ≢ 1 → opening y (push (parent y v) v) ≡ false
-    unmarked_down h = not_so _ (λ k. h (q ∙ ap (λ (a : Bool). cond a 1 (cond (opening y (push v (parent y v))) 2 0)) k))
+    pub unmarked_down : e ≢ Some Down → opening y (push (parent y v) v) ≡ false
+    unmarked_down h = not_so _ (λ k. h (q ∙ ap (λ (a : Bool). cond a (Some Down) (cond (opening y (push v (parent y v))) (Some Up) None)) k))
 
-    pub marked_up : e ≡ 2 → opening y (push v (parent y v)) ≡ true
+    pub marked_up : e ≡ Some Up → opening y (push v (parent y v)) ≡ true
     marked_up h = go (opening y (push (parent y v) v)) (opening y (push v (parent y v))) (sym q ∙ h)
       where
-        go : (a b : Bool) → way a b ≡ 2 → b ≡ true
-        go true b k = absurd (omega (arith, k))
+        go : (a b : Bool) → way a b ≡ Some Up → b ≡ true
+        go true b k = (cc)
         go false true k = refl
-        go false false k = absurd (omega (arith, k))
+        go false false k = (cc)
 
-    pub unmarked_up : e ≢ 2 → opening y (push v (parent y v)) ≡ false
+    pub unmarked_up : e ≢ Some Up → opening y (push v (parent y v)) ≡ false
     unmarked_up h = not_so _ (λ k. h (q ∙ rw (not_down k, k)))
       where
         not_down : opening y (push v (parent y v)) ≡ true → opening y (push (parent y v) v) ≡ false
         not_down k = not_so _ (λ d. omega (arith, (opening_up v k).0, (opening_down v d).0))
+
+-- what `==` and `!=` tell of a mark
+module _ {o : Option Way} {w : Way} where
+  pub is_way : option_eq WayPartialEq.eq-value.it o (Some w) ≡ true → o ≡ Some w
+  is_way = go o w
+    where
+      go : (o : Option Way) (w : Way) → option_eq WayPartialEq.eq-value.it o (Some w) ≡ true → o ≡ Some w
+      go None w h = absurd (false≢true h)
+      go (Some Down) Down h = refl
+      go (Some Down) Up h = absurd (false≢true h)
+      go (Some Up) Down h = absurd (false≢true h)
+      go (Some Up) Up h = refl
+
+  pub no_way : option_eq WayPartialEq.eq-value.it o (Some w) ≡ false → o ≢ Some w
+  no_way h e = false≢true (sym h ∙ rw e (itself w))
+    where
+      itself : (w : Way) → option_eq WayPartialEq.eq-value.it (Some w) (Some w) ≡ true
+      itself Down = refl
+      itself Up = refl
+
+  pub ne_false : {r : Bool} → r ≡ not (option_eq WayPartialEq.eq-value.it o (Some w)) → r ≡ false → o ≡ Some w
+  ne_false q h = is_way (not-false _ (sym q ∙ h))
+
+  pub ne_true : {r : Bool} → r ≡ not (option_eq WayPartialEq.eq-value.it o (Some w)) → r ≡ true → o ≢ Some w
+  ne_true q h = no_way (not-true _ (sym q ∙ h))
 
 -- from v on and from the next number on it is the same, where no opening goes from u to v
 pub next_same : {y : Yard} {c : ℕ} (v u : ℕ) → down_to y u v ≡ false → (Next y u (v + 1) c → Next y u v c) × (Next y u v c → Next y u (v + 1) c)
@@ -160,36 +179,37 @@ next_same {y} v u e =
     ((λ h. record { is = h.is ∙ s }), λ h. record { is = h.is ∙ sym s })
 
 -- none is marked yet
-pub marked_none : {y : Yard} {t : List ℕ} → length t ≡ 768 → ((u : ℕ) → u < size y → get_or t (256 + u) 0 ≡ u) → Marked (size y) y t
+pub marked_none : {y : Yard} {t : Marks} → length t.ways ≡ 256 → Alone (size y) t.down → Marked (size y) y t
 marked_none {y} n h = record {
-  long = n;
+  ways_long = n;
+  lowest_long = h.lowest_long;
+  next_long = h.next_long;
   way = λ v l k. absurd (omega arith);
-  first = λ u l. record { is = h u l ∙ missed (size y) u (down_from y u (size y)) (λ v m. rw (lt-leb (size y) v m)) };
+  first = λ u l. record { is = h.first u l ∙ missed (size y) u (down_from y u (size y)) (λ v m. rw (lt-leb (size y) v m)) };
   next = λ c l k o. absurd (omega arith);
 }
 
 -- the edge of v is marked, from the highest node down
-module _ {y : Yard} (tree : Tree y) (m : Matched y) (v : ℕ) {t : List ℕ} (f : Marked (v + 1) y t) (l : v < size y) {k : ℕ} (q : k ≡ way_of y v) where
+module _ {y : Yard} (tree : Tree y) (m : Matched y) (v : ℕ) {t : Marks} (f : Marked (v + 1) y t) (l : v < size y) {k : Option Way} (q : k ≡ way_of y v) where
   small : v < 256
   small = omega (arith, l, (facts y tree).few)
 
-  off : (w : ℕ) → w ≢ v → get_or (set t v k) w 0 ≡ get_or t w 0
-  off w d = get_or-set_other t v w k 0 d
-
-  way_on : (w : ℕ) → w < size y → v ≤ w → get_or (set t v k) w 0 ≡ way_of y w
+  way_on : (w : ℕ) → w < size y → v ≤ w → get_or (set t.ways v k) w None ≡ way_of y w
   way_on w h g = go (ℕ_discrete w v)
     where
-      go : Dec (w ≡ v) → get_or (set t v k) w 0 ≡ way_of y w
-      go (yes x) = rw (x, get_or-set_same t v k 0 (omega (arith, f.long, small))) q
-      go (no d) = off w d ∙ f.way w h (omega arith)
+      go : Dec (w ≡ v) → get_or (set t.ways v k) w None ≡ way_of y w
+      go (yes x) = rw (x, get_or-set_same t.ways v k None (omega (arith, f.ways_long, small))) q
+      go (no d) = get_or-set_other t.ways v w k None d ∙ f.way w h (omega arith)
 
   -- no opening comes down to v
-  pub marked_other : k ≢ 1 → Marked v y (set t v k)
+  pub marked_other : k ≢ Some Down → Marked v y (record t { ways = set t.ways v k })
   marked_other d = record {
-    long = length-set t v k ∙ f.long;
+    ways_long = length-set t.ways v k ∙ f.ways_long;
+    lowest_long = f.lowest_long;
+    next_long = f.next_long;
     way = way_on;
-    first = λ u h. rw (off (256 + u) (omega (arith, small))) ((next_same {y = y} v u (none u)).0 (f.first u h));
-    next = λ c h g o. rw (off (512 + c) (omega (arith, small))) (f.next c h (higher c g o (ℕ_discrete c v)) o);
+    first = λ u h. (next_same {y = y} v u (none u)).0 (f.first u h);
+    next = λ c h g o. f.next c h (higher c g o (ℕ_discrete c v)) o;
   }
     where
       shut : opening y (push (parent y v) v) ≡ false
@@ -205,10 +225,12 @@ module _ {y : Yard} (tree : Tree y) (m : Matched y) (v : ℕ) {t : List ℕ} (f 
       higher c g o (no x) = omega arith
 
   -- one does: v is put before those of its parent that are linked already
-  marked_down_to : k ≡ 1 → Marked v y (linked_to (set t v k) v (parent y v))
+  marked_down_to : k ≡ Some Down → Marked v y (record { ways = set t.ways v k; down = linked_to t.down v (parent y v) })
   marked_down_to e = record {
-    long = simp length-set f.long;
-    way = λ w h g. rest w (omega (arith, h, (facts y tree).few)) (omega (arith, h, (facts y tree).few)) ∙ way_on w h g;
+    ways_long = length-set t.ways v k ∙ f.ways_long;
+    lowest_long = simp length-set f.lowest_long;
+    next_long = simp length-set f.next_long;
+    way = way_on;
     first = λ u h. first u h (ℕ_discrete (parent y v) u);
     next = λ c h g o. next c h g o (ℕ_discrete c v);
   }
@@ -222,28 +244,16 @@ module _ {y : Yard} (tree : Tree y) (m : Matched y) (v : ℕ) {t : List ℕ} (f 
       above : parent y v < size y
       above = (wood y tree).parent_lt v l
 
-      long : length (set t v k) ≡ 768
-      long = length-set t v k ∙ f.long
-
-      rest : (w : ℕ) → w ≢ 256 + parent y v → w ≢ 512 + v → get_or (linked_to (set t v k) v (parent y v)) w 0 ≡ get_or (set t v k) w 0
-      rest w a b = rw (get_or-set_other, get_or-set_other)
-
-      first : (u : ℕ) → u < size y → Dec (parent y v ≡ u) → Next y u v (get_or (linked_to (set t v k) v (parent y v)) (256 + u) 0)
+      first : (u : ℕ) → u < size y → Dec (parent y v ≡ u) → Next y u v (get_or (set t.down.lowest (parent y v) v) u 0)
       first u h (yes x) = rw (← x) (record {
-        is = get_or-set_same (set (set t v k) (512 + v) (get_or (set t v k) (256 + parent y v) 0)) (256 + parent y v) v 0 (simp length-set (omega (arith, f.long, above, (facts y tree).few)))
+        is = get_or-set_same t.down.lowest (parent y v) v 0 (omega (arith, f.lowest_long, above, (facts y tree).few))
             ∙ found (size y) (parent y v) v (down_from y (parent y v) v) l (λ w b. rw (lt-leb v w b)) (rw (le-leb v v (omega arith), child_is y.parents (parent y v) v child, opens));
       })
-      first u h (no x) = rw (rest (256 + u) (omega arith) (omega (arith, h, (facts y tree).few)), off (256 + u) (omega (arith, small))) ((next_same {y = y} v u (rw (ne_eqb (parent y v) u x))).0 (f.first u h))
+      first u h (no x) = rw (get_or-set_other t.down.lowest (parent y v) u v 0 (λ e. x (sym e))) ((next_same {y = y} v u (rw (ne_eqb (parent y v) u x))).0 (f.first u h))
 
-      next : (c : ℕ) → c < size y → v ≤ c → opening y (push (parent y c) c) ≡ true → Dec (c ≡ v) → Next y (parent y c) (c + 1) (get_or (linked_to (set t v k) v (parent y v)) (512 + c) 0)
-      next c h g o (yes x) =
-          rw (
-            x,
-            get_or-set_other (set (set t v k) (512 + v) (get_or (set t v k) (256 + parent y v) 0)) (256 + parent y v) (512 + v) v 0 (omega (arith, above, (facts y tree).few)),
-            get_or-set_same (set t v k) (512 + v) (get_or (set t v k) (256 + parent y v) 0) 0 (omega (arith, long, small)),
-            off (256 + parent y v) (omega (arith, small)),
-          ) (f.first (parent y v) above)
-      next c h g o (no x) = rw (rest (512 + c) (omega (arith, above, (facts y tree).few)) (omega arith), off (512 + c) (omega (arith, small))) (f.next c h (omega arith) o)
+      next : (c : ℕ) → c < size y → v ≤ c → opening y (push (parent y c) c) ≡ true → Dec (c ≡ v) → Next y (parent y c) (c + 1) (get_or (linked_to t.down v (parent y v)).next c 0)
+      next c h g o (yes x) = rw (x, get_or-set_same t.down.next v (get_or t.down.lowest (parent y v) 0) 0 (omega (arith, f.next_long, small))) (f.first (parent y v) above)
+      next c h g o (no x) = rw (get_or-set_other t.down.next v c (get_or t.down.lowest (parent y v) 0) 0 x) (f.next c h (omega arith) o)
 
-  pub marked_linked : k ≡ 1 → {p : ℕ} {new : List ℕ} → p ≡ parent y v → new ≡ linked_to (set t v k) v p → Marked v y new
+  pub marked_linked : k ≡ Some Down → {p : ℕ} {new : Children} → p ≡ parent y v → new ≡ linked_to t.down v p → Marked v y (record { ways = set t.ways v k; down = new })
   marked_linked e i n = rw (n, i) (marked_down_to e)

@@ -2,7 +2,7 @@
 ghost use Rattle.std.specs.Prelude.{◌≡◌, ◌*◌, ◌≤◌, length, take};
 ghost use Rattle.model.specs.Yard.{Matched};
 ghost use Rattle.model.specs.Judge.{Tree};
-ghost use Rattle.model.specs.Given.{given, handed};
+ghost use Rattle.model.specs.Given.{listed};
 ghost use Rattle.model.specs.Calls.Answers.{answer, lent, overwrite};
 ghost use Rattle.model.specs.Calls.Openings.{openings_answer, openings_list};
 ghost use Rattle.model.specs.Paper.{paper_counted};
@@ -11,57 +11,40 @@ ghost use Rattle.openings.specs.Listing.{Demands, ListedAll, room_fault};
 use crate::edges::mark_edges;
 use crate::list::list_openings;
 use demand::matched::matched_demands;
-use lists::copy::copy;
-use model::{Counted, Done, Refusal};
+use model::{Lists, Refusal};
 
 // Lists the openings of a tree with as many pebbles as targets, by its demands: there are fewer than nodes, so a list of 512 bytes has room for them.
-fn list_apart(
-    parents: &[u8],
-    pebbles: &[u8],
-    targets: &[u8],
-    depths: &[u8],
-    demands: &[i16],
-    moves: &mut [u8],
-) -> usize
-    requires tree { Tree (handed parents.now pebbles.now targets.now depths.now) × Matched (handed parents.now pebbles.now targets.now depths.now) × Demands (handed parents.now pebbles.now targets.now depths.now) demands.now }
+fn list_apart(yard: &Lists, demands: &[i16], moves: &mut [u8]) -> usize
+    requires tree { Tree (listed yard.now) × Matched (listed yard.now) × Demands (listed yard.now) demands.now }
     requires moves_len { length moves.old ≡ 512 }
-    ensures { ListedAll (given parents.now pebbles.now targets.now depths.now) moves.new result }
+    ensures { ListedAll (listed yard.now) moves.new result }
 {
-    let t = mark_edges(parents, pebbles, targets, depths, demands);
-    list_openings(&t, parents, moves)
+    let t = mark_edges(yard, demands);
+    list_openings(&t, yard.parents, moves)
 }
 
 // Copies so many moves to the front of a list, or refuses one that is too short: 8 with their number.
-fn hand_over(moves: &[u8], count: usize, list: &mut [u8]) -> Counted
+fn hand_over(moves: &[u8], count: usize, list: &mut [u8]) -> Result<usize, Refusal>
     requires { (2 * count ≤ length moves.now) × (length moves.now ≤ 512) }
     ensures result_value { paper_counted result ≡ answer (room_fault count (length list.old)) count }
     ensures list_value { list.new ≡ lent (room_fault count (length list.old)) (overwrite (take (2 * count) moves.now) list.old) list.old }
 {
     if list.len() / 2 < count {
-        return Counted::Refused(Refusal::ListTooShort(count));
+        return Err(Refusal::ListTooShort(count));
     }
-    copy(&moves[..2 * count], &mut list[..2 * count]);
-    Counted::Number(count)
+    list[..2 * count].copy_from_slice(&moves[..2 * count]);
+    Ok(count)
 }
 
 // Every move with which some shortest plan starts, ordered by from and then to, at the front of the lent list, the bytes behind them untouched; answers their number. Refusals
 // 1 to 7, then 8 with the moves needed in this list as place; a refusal leaves the list as it was. They are listed apart first, as 8 asks for their number. Linear work.
-pub fn openings(
-    parents: &[u8],
-    pebbles: &[u8],
-    targets: &[u8],
-    depths: &[u8],
-    list: &mut [u8],
-) -> Counted
-    ensures result_value { paper_counted result ≡ openings_answer (given parents.now pebbles.now targets.now depths.now) list.old }
-    ensures list_value { list.new ≡ openings_list (given parents.now pebbles.now targets.now depths.now) list.old }
+pub fn openings(yard: &Lists, list: &mut [u8]) -> Result<usize, Refusal>
+    ensures result_value { paper_counted result ≡ openings_answer (listed yard.now) list.old }
+    ensures list_value { list.new ≡ openings_list (listed yard.now) list.old }
 {
     let mut demands = [0i16; 256];
-    let tested = matched_demands(parents, pebbles, targets, depths, &mut demands);
-    if let Done::Refused(r) = tested {
-        return Counted::Refused(r);
-    }
+    matched_demands(yard, &mut demands)?;
     let mut moves = [0u8; 512];
-    let count = list_apart(parents, pebbles, targets, depths, &demands, &mut moves);
+    let count = list_apart(yard, &demands, &mut moves);
     hand_over(&moves, count, list)
 }

@@ -3,7 +3,7 @@ ghost use Rattle.std.specs.Prelude.{ℕ, length};
 ghost use Rattle.model.specs.Yard.{Yard};
 ghost use Rattle.openings.specs.Listing.{AskedChildren, ListedChildren, AskedFrom, ListedFrom, AskedAll, ListedAll};
 
-use serve::choose::{LOWEST, NEXT, wide};
+use crate::edges::{Marks, Way};
 use serve::pebble::record_move;
 
 // The next child to look at, or the node itself behind the last, and the number of moves listed.
@@ -15,7 +15,7 @@ pub struct Walk {
 
 // Lists the openings from a to its children, from one on, with numbers below `end`.
 fn list_children(
-    t: &[u8; 768],
+    t: &Marks,
     list: &mut [u8],
     a: usize,
     from: usize,
@@ -33,29 +33,22 @@ fn list_children(
         }
         record_move(list, k, a, c, true);
         k += 1;
-        c = wide(t[NEXT + c]);
+        c = t.down.next[c] as usize;
     }
     Walk { child: a, count: k }
 }
 
 // Lists the openings from a: those to the children with lower numbers than the parent's, that to the parent, and those to the other children.
-fn list_from(
-    t: &[u8; 768],
-    parents: &[u8],
-    list: &mut [u8],
-    a: usize,
-    n: usize,
-    count: usize,
-) -> usize
+fn list_from(t: &Marks, parents: &[u8], list: &mut [u8], a: usize, n: usize, count: usize) -> usize
     requires { (y : Yard) × AskedFrom y t.now parents.now list.old a n count }
     ensures { (y : Yard) → AskedFrom y t.now parents.now list.old a n count → ListedFrom y list.new a result }
 {
-    let first = wide(t[LOWEST + a]);
-    if t[a] != 2 {
+    let first = t.down.lowest[a] as usize;
+    if t.ways[a] != Some(Way::Up) {
         let all = list_children(t, list, a, first, n, count);
         return all.count;
     }
-    let p = wide(parents[a]);
+    let p = parents[a] as usize;
     let lower = list_children(t, list, a, first, p, count);
     let k = lower.count;
     record_move(list, k, p, a, false);
@@ -64,16 +57,14 @@ fn list_from(
 }
 
 // Lists them all, and answers how many they are.
-pub fn list_openings(t: &[u8; 768], parents: &[u8], list: &mut [u8]) -> usize
+pub fn list_openings(t: &Marks, parents: &[u8], list: &mut [u8]) -> usize
     requires { (y : Yard) × AskedAll y t.now parents.now list.old (length parents.now) }
     ensures { (y : Yard) → AskedAll y t.now parents.now list.old (length parents.now) → ListedAll y list.new result }
 {
     let n = parents.len();
     let mut k = 0;
-    let mut a = 0;
-    while a < n {
+    for a in 0..n {
         k = list_from(t, parents, list, a, n, k);
-        a += 1;
     }
     k
 }

@@ -6,8 +6,6 @@ ghost use Rattle.model.specs.Parts.{topmost};
 ghost use Rattle.model.specs.Calls.Answers.{range};
 ghost use Rattle.parts.specs.Naming.{onward, Cut, AskedName, AskedShort, Named, AskedNames};
 
-use serve::choose::wide;
-
 // A topmost node, and the number of steps to it.
 #[derive(Drop)]
 pub struct Climb {
@@ -31,10 +29,8 @@ fn cut_edges(parents: &[u8], demands: &[i16], parts: &mut [u8])
     requires { (length parents.now ≤ 256) × (length parents.now ≤ length demands.now) × (length parts.old ≡ length parents.now) }
     ensures { Cut parents.now demands.now parts.new (length parents.now) }
 {
-    let mut v = 0;
-    while v < parents.len() {
+    for v in 0..parents.len() {
         parts[v] = above(v, parents[v], demands[v]);
-        v += 1;
     }
 }
 
@@ -46,7 +42,7 @@ fn find_top(parts: &[u8], v: usize) -> Climb
     let mut u = v;
     let mut k = 0;
     loop {
-        let w = wide(parts[u]);
+        let w = parts[u] as usize;
         if w == u {
             return Climb { top: u, steps: k };
         }
@@ -61,12 +57,10 @@ fn shorten(parts: &mut [u8], v: usize, top: usize, steps: usize)
     ensures { (y : Yard) → AskedShort y parts.old v top steps → Named y parts.old parts.new v }
 {
     let mut u = v;
-    let mut k = 0;
-    while k < steps {
-        let w = wide(parts[u]);
+    for _ in 0..steps {
+        let w = parts[u] as usize;
         parts[u] = top as u8;
         u = w;
-        k += 1;
     }
 }
 
@@ -75,15 +69,13 @@ fn name_node(parts: &mut [u8], v: usize)
     requires { (y : Yard) × AskedName y parts.old v }
     ensures { (y : Yard) → AskedName y parts.old v → Named y parts.old parts.new v }
 {
-    let above = wide(parts[v]);
-    let top = wide(parts[above]);
-    if wide(parts[top]) == top {
+    let above = parts[v] as usize;
+    let top = parts[above] as usize;
+    if parts[top] as usize == top {
         parts[v] = top as u8;
         return;
     }
-    let c = find_top(parts, v);
-    let top = c.top;
-    let steps = c.steps;
+    let Climb { top, steps } = find_top(parts, v);
     shorten(parts, v, top, steps);
 }
 
@@ -93,9 +85,7 @@ pub fn name_parts(parents: &[u8], demands: &[i16], parts: &mut [u8])
     ensures { (y : Yard) → AskedNames y parents.now demands.now parts.old → parts.new ≡ map (topmost y) (range 0 (size y)) }
 {
     cut_edges(parents, demands, parts);
-    let mut v = 0;
-    while v < parts.len() {
+    for v in 0..parts.len() {
         name_node(parts, v);
-        v += 1;
     }
 }

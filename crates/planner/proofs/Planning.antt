@@ -1,6 +1,5 @@
 -- What planning starts from: the demands and pebbles of the yard, its length, and an even root.
 use mathlib.Core.Path.{◌≡◌, refl, sym, ◌∙◌}
-use mathlib.Core.Logic.{◌≢◌}
 use mathlib.Core.Bool.{Bool, true, false}
 use mathlib.Core.List.{List}
 use Prim.Native.Nat.{ℕ, ◌+◌, ◌*◌, ◌/◌, ◌≤◌, ◌<◌}
@@ -27,101 +26,76 @@ use Rattle.laws.proofs.Own.{balances_in_all}
 use Rattle.laws.proofs.Calls.{totals_none, plan_none}
 use Rattle.laws.proofs.Demand3.{plan_length}
 use Rattle.demand.proofs.Answers.{demands_at}
-use Rattle.serve.specs.Serving.{Tables, last_at, Kept}
+use Rattle.serve.specs.declared.state.State.{State}
+use Rattle.serve.specs.declared.tree.Children.{Children}
+use Rattle.serve.specs.Serving.{lasts, Long, Tables, Kept}
 use Rattle.planner.specs.Balancing.{entered, AskedEven, Balanced, Placed}
 
-pub place_none : (pebbles depths : List ℕ) (s : List ℤ) → length s ≡ 1280 → Placed pebbles depths s s 0
-place_none pebbles depths s e = record { long = e; low = λ w l. refl; high = λ w l. absurd (omega arith); lasts = λ b w l. absurd (omega arith); deep = λ w l. absurd (omega arith) }
+-- no node is placed yet
+pub place_none : (pebbles depths : List ℕ) (s : State) → Long s → Placed pebbles depths s s 0
+place_none pebbles depths s e = record { long = e; low = refl; high = λ w l. absurd (omega arith); lasts = λ b w l. absurd (omega arith); deep = λ w l. absurd (omega arith) }
 
--- writing at a place from 256 on
-module _ (s : List ℤ) (e : length s ≡ 1280) (v : ℕ) (l : v < 256) (p q r z : ℤ) where
-  abbrev held : List ℤ
-  held = set s (256 + v) p
+-- a list with the entry of one node more
+entry_next : (list : List ℤ) (f : ℕ → ℤ) (v : ℕ) (p : ℤ) → v < length list → p ≡ f v → ((w : ℕ) → w < v → get_or list w (pos 0) ≡ f w) → (w : ℕ) → w < v + 1
+    → get_or (set list v p) w (pos 0) ≡ f w
+entry_next list f v p l e h w m = at (ℕ_discrete w v)
+  where
+    at : Dec (w ≡ v) → get_or (set list v p) w (pos 0) ≡ f w
+    at (yes c) = rw c (get_or-set_same list v p (pos 0) l ∙ e)
+    at (no d) = get_or-set_other list v w p (pos 0) d ∙ h w (omega arith)
 
-  abbrev filled : List ℤ
-  filled = set held (512 + v) q
+-- node v is placed, after those below it
+abbrev pub place_at : State → ℕ → ℤ → ℤ → ℤ → ℤ → State
+place_at s v p q r z = record s {
+  pebbles = set s.pebbles v p;
+  last_filled = set s.last_filled v q;
+  last_drawn = set s.last_drawn v r;
+  depths = set s.depths v z;
+}
 
-  abbrev drawn : List ℤ
-  drawn = set filled (768 + v) r
-
-  abbrev written : List ℤ
-  written = set drawn (1024 + v) z
-
-  elsewhere : (i : ℕ) → i ≢ 256 + v → i ≢ 512 + v → i ≢ 768 + v → i ≢ 1024 + v → get_or written i (pos 0) ≡ get_or s i (pos 0)
-  elsewhere i a b c d =
-      get_or-set_other drawn (1024 + v) i z (pos 0) d ∙ get_or-set_other filled (768 + v) i r (pos 0) c ∙ get_or-set_other held (512 + v) i q (pos 0) b ∙ get_or-set_other s (256 + v) i p (pos 0) a
-
-  at_held : get_or written (256 + v) (pos 0) ≡ p
-  at_held =
-      get_or-set_other drawn (1024 + v) (256 + v) z (pos 0) (omega arith) ∙ get_or-set_other filled (768 + v) (256 + v) r (pos 0) (omega arith)
-      ∙ get_or-set_other held (512 + v) (256 + v) q (pos 0) (omega arith) ∙ get_or-set_same s (256 + v) p (pos 0) (omega (arith, e))
-
-  at_filled : get_or written (512 + v) (pos 0) ≡ q
-  at_filled =
-      get_or-set_other drawn (1024 + v) (512 + v) z (pos 0) (omega arith) ∙ get_or-set_other filled (768 + v) (512 + v) r (pos 0) (omega arith)
-      ∙ get_or-set_same held (512 + v) q (pos 0) (simp length-set (omega (arith, e)))
-
-  at_drawn : get_or written (768 + v) (pos 0) ≡ r
-  at_drawn = get_or-set_other drawn (1024 + v) (768 + v) z (pos 0) (omega arith) ∙ get_or-set_same filled (768 + v) r (pos 0) (simp length-set (omega (arith, e)))
-
-  at_depth : get_or written (1024 + v) (pos 0) ≡ z
-  at_depth = get_or-set_same drawn (1024 + v) z (pos 0) (simp length-set (omega (arith, e)))
-
-pub place_next : (pebbles depths : List ℕ) (s₀ s : List ℤ) (v : ℕ) (p q r z : ℤ) → v < 256 → p ≡ pos (get_or pebbles v 0) → q ≡ pos v → r ≡ pos v → z ≡ pos (get_or depths v 0)
-    → Placed pebbles depths s₀ s v → Placed pebbles depths s₀ (set (set (set (set s (256 + v) p) (512 + v) q) (768 + v) r) (1024 + v) z) (v + 1)
+pub place_next : (pebbles depths : List ℕ) (s₀ s : State) (v : ℕ) (p q r z : ℤ) → v < 256 → p ≡ pos (get_or pebbles v 0) → q ≡ pos v → r ≡ pos v → z ≡ pos (get_or depths v 0)
+    → Placed pebbles depths s₀ s v → Placed pebbles depths s₀ (place_at s v p q r z) (v + 1)
 place_next pebbles depths s₀ s v p q r z l e f g x h = record {
-  long = simp length-set h.long;
-  low = λ w m. other w (omega arith) (omega arith) (omega arith) (omega arith) ∙ h.low w m;
-  high = λ w m. at w m (ℕ_discrete w v);
-  lasts = λ b w m. last b w m (ℕ_discrete w v);
-  deep = λ w m. depth w m (ℕ_discrete w v);
+  long = record { demands = h.long.demands; pebbles = simp length-set h.long.pebbles; lasts = long; depths = simp length-set h.long.depths };
+  low = h.low;
+  high = entry_next s.pebbles (λ w. pos (get_or pebbles w 0)) v p (omega (arith, h.long.pebbles)) e h.high;
+  lasts = last;
+  deep = entry_next s.depths (λ w. pos (get_or depths w 0)) v z (omega (arith, h.long.depths)) x h.deep;
 }
   where
-    other : (i : ℕ) → i ≢ 256 + v → i ≢ 512 + v → i ≢ 768 + v → i ≢ 1024 + v → get_or (set (set (set (set s (256 + v) p) (512 + v) q) (768 + v) r) (1024 + v) z) i (pos 0) ≡ get_or s i (pos 0)
-    other = elsewhere s h.long v l p q r z
+    long : (b : Bool) → length (lasts b (place_at s v p q r z)) ≡ 256
+    long true = length-set s.last_filled v q ∙ h.long.lasts true
+    long false = length-set s.last_drawn v r ∙ h.long.lasts false
 
-    at : (w : ℕ) → w < v + 1 → Dec (w ≡ v) → get_or (set (set (set (set s (256 + v) p) (512 + v) q) (768 + v) r) (1024 + v) z) (256 + w) (pos 0) ≡ pos (get_or pebbles w 0)
-    at w m (yes c) = rw c (at_held s h.long v l p q r z ∙ e)
-    at w m (no d) = other (256 + w) (omega arith) (omega arith) (omega arith) (omega arith) ∙ h.high w (omega arith)
+    last : (b : Bool) (w : ℕ) → w < v + 1 → get_or (lasts b (place_at s v p q r z)) w (pos 0) ≡ pos w
+    last true = entry_next s.last_filled pos v q (omega (arith, h.long.lasts true)) f (h.lasts true)
+    last false = entry_next s.last_drawn pos v r (omega (arith, h.long.lasts false)) g (h.lasts false)
 
-    last : (b : Bool) (w : ℕ) → w < v + 1 → Dec (w ≡ v) → get_or (set (set (set (set s (256 + v) p) (512 + v) q) (768 + v) r) (1024 + v) z) (last_at b w) (pos 0) ≡ pos w
-    last true w m (yes c) = rw c (at_filled s h.long v l p q r z ∙ f)
-    last false w m (yes c) = rw c (at_drawn s h.long v l p q r z ∙ g)
-    last true w m (no d) = other (512 + w) (omega arith) (omega arith) (omega arith) (omega arith) ∙ h.lasts true w (omega arith)
-    last false w m (no d) = other (768 + w) (omega arith) (omega arith) (omega arith) (omega arith) ∙ h.lasts false w (omega arith)
-
-    depth : (w : ℕ) → w < v + 1 → Dec (w ≡ v) → get_or (set (set (set (set s (256 + v) p) (512 + v) q) (768 + v) r) (1024 + v) z) (1024 + w) (pos 0) ≡ pos (get_or depths w 0)
-    depth w m (yes c) = rw c (at_depth s h.long v l p q r z ∙ x)
-    depth w m (no d) = other (1024 + w) (omega arith) (omega arith) (omega arith) (omega arith) ∙ h.deep w (omega arith)
-
--- all placed behind the demands of a tree
-pub placed_kept : (y : Yard) → Tree y → (s₀ s : List ℤ) → take (size y) s₀ ≡ demands_of y → Placed y.pebbles y.depths s₀ s (length y.pebbles) → Kept y s
+-- all placed beside the demands of a tree
+pub placed_kept : (y : Yard) → Tree y → (s₀ s : State) → take (size y) s₀.demands ≡ demands_of y → Placed y.pebbles y.depths s₀ s (length y.pebbles) → Kept y s
 placed_kept y t s₀ s e h = record {
   long = h.long;
-  demands = λ v l. h.low v (omega (arith, (facts y t).few)) ∙ demands_at y s₀ v e l;
+  demands = λ v l. rw h.low (demands_at y s₀.demands v e l);
   pebbles = λ v l. h.high v (omega (arith, (facts y t).pebbles_size));
   lasts = λ b u l. record { node = u; is = h.lasts b u (omega (arith, (facts y t).pebbles_size)); served = λ d. absurd (d refl) };
   depths = λ v l. h.deep v (omega (arith, (facts y t).pebbles_size));
 }
 
 -- the state's demands, and their sizes summed: the shortest length
-module _ (y : Yard) (t : Tree y) (s : List ℤ) (k : Kept y s) where
-  pub front_length : length (take (size y) s) ≡ size y
-  front_length = length-take-le (size y) s (omega (arith, k.long, (facts y t).few))
+module _ (y : Yard) (t : Tree y) (s : State) (k : Kept y s) where
+  pub front_length : length (take (size y) s.demands) ≡ size y
+  front_length = length-take-le (size y) s.demands (omega (arith, k.long.demands, (facts y t).few))
 
-  pub front_long : size y ≤ length s
-  front_long = omega (arith, k.long, (facts y t).few)
-
-  pub sizes_range : (v : ℕ) → nat_abs (get_or (take (size y) s) v (pos 0)) ≤ 2_048
+  pub sizes_range : (v : ℕ) → nat_abs (get_or (take (size y) s.demands) v (pos 0)) ≤ 2_048
   sizes_range v = go (dec_lt v (size y))
     where
-      go : Dec (v < size y) → nat_abs (get_or (take (size y) s) v (pos 0)) ≤ 2_048
-      go (yes l) = rw (get_or-take (size y) s v (pos 0) l, k.demands v l) (demand_range y t v)
-      go (no l) = rw (get_or-eq_default (take (size y) s) (pos 0) {n = v} (omega (arith, front_length))) (omega arith)
+      go : Dec (v < size y) → nat_abs (get_or (take (size y) s.demands) v (pos 0)) ≤ 2_048
+      go (yes l) = rw (get_or-take (size y) s.demands v (pos 0) l, k.demands v l) (demand_range y t v)
+      go (no l) = rw (get_or-eq_default (take (size y) s.demands) (pos 0) {n = v} (omega (arith, front_length))) (omega arith)
 
-  pub sizes_shortest : sum (length (take (size y) s)) (λ v. nat_abs (get_or (take (size y) s) v (pos 0))) ≡ shortest y
+  pub sizes_shortest : sum (length (take (size y) s.demands)) (λ v. nat_abs (get_or (take (size y) s.demands) v (pos 0))) ≡ shortest y
   unfolding shortest
-  sizes_shortest = rw front_length (sum_cong (size y) _ (imbalance y) (λ v l. rw (get_or-take (size y) s v (pos 0) l, k.demands v l) (demand_size y v)))
+  sizes_shortest = rw front_length (sum_cong (size y) _ (imbalance y) (λ v l. rw (get_or-take (size y) s.demands v (pos 0) l, k.demands v l) (demand_size y v)))
 
 module _ (y : Yard) (t : Tree y) (m : Matched y) (list : List ℕ) (l : ℕ) (e : l ≡ shortest y) where
   -- a list that is too short
@@ -136,7 +110,7 @@ module _ (y : Yard) (t : Tree y) (m : Matched y) (list : List ℕ) (l : ℕ) (e 
     pub room : 2 * shortest y ≤ length list
     room = omega (arith, (le-div_iff_mul-le {k = 2} (omega arith)).0 h)
 
-    pub root_asked : (tab : List ℕ) (s : List ℤ) → Tables y.parents tab → Kept y s → (r : ℕ) → r ≡ root y → AskedEven y tab s list r
+    pub root_asked : (tab : Children) (s : State) → Tables y.parents tab → Kept y s → (r : ℕ) → r ≡ root y → AskedEven y tab s list r
     root_asked tab s a k r q = rw q (record {
       described = record { tree = t; tables = a; kept = k };
       node = (wood y t).root_lt;
@@ -147,7 +121,7 @@ module _ (y : Yard) (t : Tree y) (m : Matched y) (list : List ℕ) (l : ℕ) (e 
     pub plan_accepted : plan_fault y (length list) ≡ none
     plan_accepted = (plan_none y (length list)).1 (t, m, omega (arith, room, plan_length y t m))
 
-    pub plan_written : (r : ℕ) → r ≡ root y → (s : List ℤ) (after : List ℕ) (count : ℕ) → Balanced (entered y.parents) y r s list after count → (count ≡ length (plan y)) × (after ≡ overwrite (bytes (plan y)) list)
+    pub plan_written : (r : ℕ) → r ≡ root y → (s : State) (after : List ℕ) (count : ℕ) → Balanced (entered y.parents) y r s list after count → (count ≡ length (plan y)) × (after ≡ overwrite (bytes (plan y)) list)
     plan_written r q s after count b =
         let p : b.moves ≡ plan y = plan_only y t m b.moves (balances_in_all (rw q at b.balances) (λ u c k. rw (k.up, ne_eqb u c (λ e. k.other (sym e))))) in
         rw (← p) (b.made.counted, b.made.written)

@@ -2,7 +2,7 @@
 -- decimal has only digits, no zero before another, and a number that grows with each of them.
 use mathlib.Core.Path.{◌≡◌, refl, sym, ap, ◌∙◌}
 use mathlib.Core.Bool.{Bool, true, not, ◌&&◌, and-eq-true_iff}
-use mathlib.Core.List.{List, [], ◌∷◌, ◌++◌, append_assoc}
+use mathlib.Core.List.{List, [], ◌∷◌, ◌++◌}
 use mathlib.Core.Option.{Option, none, some}
 use Prim.Native.Nat.{ℕ, ◌+◌, ◌-◌, ◌*◌, ◌/◌, ◌%◌, ◌≤◌, ◌<◌}
 use native.Mathlib.Omega.{arith}
@@ -11,9 +11,12 @@ use lib.Dec.{leb, ltb}
 use borrow.Author.Tests.{leb-true, ltb-true, not-false}
 use Rattle.model.specs.Yard.{below}
 use Rattle.model.specs.Sheets.{digits, decimal, Field, field}
+use Rattle.std.specs.Prelude as Std
+use Rattle.std.specs.Prelude.{Ok, Err}
+use Rattle.std.specs.Result.{OkIff, result_ok}
+use Rattle.reader.specs.Reading.{Extended}
 use Rattle.laws.proofs.Basics.{below_none}
 use Rattle.laws.proofs.Lines.{plain, number, decimal_sound, field_decimal, field_some}
-use Rattle.reader.specs.Reading.{Extended}
 use Rattle.sheet.proofs.Decimals.{decimal_low, decimal_high, length_some}
 use Rattle.sheet.proofs.Writing.{drop_next}
 
@@ -71,28 +74,33 @@ module _ (v : ℕ) (h : v < 256) (xs : List ℕ) (b : ℕ) (w : List ℕ) (e : d
 
 -- one byte more
 module _ (u b : ℕ) where
-  pub extended_zero : u ≡ 0 → Extended u b 256
+  abbrev NoneGoesOn : Type 0
+  NoneGoesOn = (v : ℕ) (w : List ℕ) → v < 256 → decimal v ≡ decimal u ++ (b ∷ w) → ⊥
+
+  pub extended_zero : u ≡ 0 → NoneGoesOn
   unfolding leads
-  extended_zero z = record {
-    good = λ l. absurd (omega arith);
-    bad = λ _ v w h e.
-        let q : decimal v ≡ 48 ∷ b ∷ w = e ∙ ap (λ (n : ℕ). decimal n ++ (b ∷ w)) z ∙ ap (λ (l : List ℕ). l ++ (b ∷ w)) (decimal_low 0 (omega arith)) in
-        let t : ltb 48 48 ≡ true = ap leads (sym q) ∙ (decimal_tidy v h).1 in
-        absurd (omega (arith, ltb-true 48 48 t));
-  }
+  extended_zero z v w h e =
+      let q : decimal v ≡ 48 ∷ b ∷ w = e ∙ ap (λ (n : ℕ). decimal n ++ (b ∷ w)) z ∙ ap (λ (l : List ℕ). l ++ (b ∷ w)) (decimal_low 0 (omega arith)) in
+      let t : ltb 48 48 ≡ true = ap leads (sym q) ∙ (decimal_tidy v h).1 in
+      absurd (omega (arith, ltb-true 48 48 t))
 
-  pub extended_other : ((48 ≤ b) × (b ≤ 57) → ⊥) → Extended u b 256
-  extended_other n = record { good = λ l. absurd (omega arith); bad = λ _ v w h e. n (within v h (decimal u) b w e) }
+  pub extended_other : ((48 ≤ b) × (b ≤ 57) → ⊥) → NoneGoesOn
+  extended_other n v w h e = n (within v h (decimal u) b w e)
 
-  pub extended_digit : 0 < u → u < 256 → 48 ≤ b → b ≤ 57 → Extended u b (u * 10 + (b - 48))
-  extended_digit p l low high =
+  pub extended_over : u < 256 → 256 ≤ u * 10 + (b - 48) → NoneGoesOn
+  extended_over l k v w h e = let g = prefix_number v h (decimal u) b w e u l refl in omega arith
+
+  pub extended_digit : 0 < u → 48 ≤ b → b ≤ 57 → decimal (u * 10 + (b - 48)) ≡ decimal u ++ (b ∷ [])
+  extended_digit p low high =
       let n : ℕ = u * 10 + (b - 48) in
       let d : n / 10 ≡ u = omega arith in
       let m : 48 + n % 10 ≡ b = omega arith in
-      record {
-        good = λ _. decimal_high n (omega arith) ∙ rw (d, m);
-        bad = λ k v w h e. let g = prefix_number v h (decimal u) b w e u l refl in omega arith;
-      }
+      decimal_high n (omega arith) ∙ rw (d, m)
+
+-- the digit behind ten times as much, if a byte has room for both
+pub extended_sum : {E : Type 0} (u b : ℕ) (r : Std.Result ℕ E) → u < 256 → (u ≡ 0 → ⊥) → 48 ≤ b → b ≤ 57 → OkIff r (u * 10 + (b - 48) < 256) (u * 10 + (b - 48)) → Extended u b (result_ok r)
+extended_sum u b (Ok v) l p low high s = (omega arith, rw s.1 (extended_digit u b (omega arith) low high))
+extended_sum u b (Err e) l p low high s = extended_over u b l (omega arith)
 
 -- the bytes of a field, cut in two behind bytes of which none is its end: the first are the front of its value's decimal
 behind : (stop : ℕ) (xs rest word tail : List ℕ) → stop < 48 → plain xs ≡ true → xs ++ rest ≡ word ++ (stop ∷ tail)
@@ -137,17 +145,14 @@ module _ (stop : ℕ) (low : stop < 48) where
     pub field_found : (tail : List ℕ) → rest ≡ stop ∷ tail → some (record { value = u; rest = tail }) ≡ field stop bs
     field_found tail q = sym (ap (field stop) (z ∙ ap (λ (l : List ℕ). decimal u ++ l) q) ∙ field_decimal stop u tail low h)
 
-    pub field_break : (b : ℕ) (tail : List ℕ) → rest ≡ b ∷ tail → (b ≡ stop → ⊥) → {r : ℕ} → Extended u b r → 256 ≤ r → none ≡ field stop bs
-    field_break b tail q n x k = unread stop bs (λ f e. let r = split f e in go f (field_some stop bs e).1 r.0 r.1 (sym q ∙ r.2))
+    pub field_break : (b : ℕ) (tail : List ℕ) → rest ≡ b ∷ tail → (b ≡ stop → ⊥) → NoneGoesOn u b → none ≡ field stop bs
+    field_break b tail q n x = unread stop bs (λ f e. let r = split f e in go f (field_some stop bs e).1 r.0 r.1 (sym q ∙ r.2))
       where
         go : (f : Field) → f.value < 256 → (w : List ℕ) → decimal f.value ≡ decimal u ++ w → b ∷ tail ≡ w ++ (stop ∷ f.rest) → ⊥
         go f l [] d e = let p : b ≡ stop = cc in n p
-        go f l (c ∷ w) d e = let p : decimal f.value ≡ decimal u ++ (b ∷ w) = cc in x.bad k f.value w l p
+        go f l (c ∷ w) d e = let p : decimal f.value ≡ decimal u ++ (b ∷ w) = cc in x f.value w l p
 
 pub field_begins : (l : List ℕ) (i : ℕ) → i < length l → 48 ≤ get_or l i 0 → get_or l i 0 ≤ 57 → drop i l ≡ decimal (get_or l i 0 - 48) ++ drop (i + 1) l
 field_begins l i h low high =
     let e : 48 + (get_or l i 0 - 48) ≡ get_or l i 0 = omega arith in
     drop_next l i h ∙ sym (rw (decimal_low (get_or l i 0 - 48) (omega arith), e))
-
-pub field_goes_on : (bs l : List ℕ) (i u : ℕ) {r : ℕ} → i < length l → bs ≡ decimal u ++ drop i l → Extended u (get_or l i 0) r → r < 256 → bs ≡ decimal r ++ drop (i + 1) l
-field_goes_on bs l i u h z x k = z ∙ rw (drop_next l i h, x.good k) (sym (append_assoc (decimal u) (get_or l i 0 ∷ []) (drop (i + 1) l)))

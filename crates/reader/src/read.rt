@@ -7,8 +7,8 @@ ghost use Rattle.model.specs.Sheets.{read_yard, filled};
 ghost use Rattle.model.specs.Paper.{paper_counted};
 ghost use Rattle.reader.specs.Reading.{Full, took, counted, lines_say};
 
-use crate::line::{Line, begins, read_line};
-use model::{Counted, Refusal};
+use crate::line::{begins, read_line};
+use model::Refusal;
 use sheet::decimal::put_text;
 use sheet::writer::{HEADER, HEADER_BYTES};
 
@@ -22,25 +22,25 @@ fn read_nodes(
     pebbles: &mut [u8; 256],
     targets: &mut [u8; 256],
     depths: &mut [u8; 256],
-) -> Counted
+) -> Result<usize, Refusal>
     requires { Full parents.old pebbles.old targets.old depths.old }
     ensures depths_value { took result parents.new pebbles.new targets.new depths.new ≡ lines_say sheet.now }
     ensures result_bound { (counted result ≤ max_size) × Full parents.new pebbles.new targets.new depths.new }
 {
+    // A `for` over the nodes would test for the end of the sheet twice: in the loop and behind it.
     let mut at = HEADER_BYTES;
     let mut v = 0;
     while at < sheet.len() {
         let number = v + 2;
         if v == 256 {
-            return Counted::Refused(Refusal::NodeCount(number));
+            return Err(Refusal::NodeCount(number));
         }
         let mut values = [0u8; VALUES];
-        let line = read_line(sheet, at, &mut values);
-        let Line::Behind(next) = line else {
-            return Counted::Refused(Refusal::LineShape(number));
+        let Some(next) = read_line(sheet, at, &mut values) else {
+            return Err(Refusal::LineShape(number));
         };
         if values[0] != v as u8 {
-            return Counted::Refused(Refusal::NodeNumber(number));
+            return Err(Refusal::NodeNumber(number));
         }
         parents[v] = values[1];
         pebbles[v] = values[2];
@@ -49,7 +49,7 @@ fn read_nodes(
         at = next;
         v += 1;
     }
-    Counted::Number(v)
+    Ok(v)
 }
 
 // What a sheet says, in the first entries of four arrays.
@@ -59,16 +59,16 @@ fn read_lines(
     pebbles: &mut [u8; 256],
     targets: &mut [u8; 256],
     depths: &mut [u8; 256],
-) -> Counted
+) -> Result<usize, Refusal>
     requires { Full parents.old pebbles.old targets.old depths.old }
     ensures depths_value { took result parents.new pebbles.new targets.new depths.new ≡ read_yard sheet.now }
     ensures result_bound { (counted result ≤ max_size) × Full parents.new pebbles.new targets.new depths.new }
 {
     if !begins(sheet, &HEADER) {
-        return Counted::Refused(Refusal::Header(1));
+        return Err(Refusal::Header(1));
     }
     if sheet.len() == HEADER_BYTES {
-        return Counted::Refused(Refusal::NodeCount(2));
+        return Err(Refusal::NodeCount(2));
     }
     read_nodes(sheet, parents, pebbles, targets, depths)
 }
@@ -81,7 +81,7 @@ pub fn read_sheet(
     pebbles: &mut [u8],
     targets: &mut [u8],
     depths: &mut [u8],
-) -> Counted
+) -> Result<usize, Refusal>
     ensures result_value { paper_counted result ≡ mapAnswer size (read_from sheet.now parents.old pebbles.old targets.old depths.old) }
     ensures parents_value { parents.new ≡ filled (λ y. y.parents) (read_from sheet.now parents.old pebbles.old targets.old depths.old) parents.old }
     ensures pebbles_value { pebbles.new ≡ filled (λ y. y.pebbles) (read_from sheet.now parents.old pebbles.old targets.old depths.old) pebbles.old }
@@ -89,34 +89,31 @@ pub fn read_sheet(
     ensures depths_value { depths.new ≡ filled (λ y. y.depths) (read_from sheet.now parents.old pebbles.old targets.old depths.old) depths.old }
 {
     if parents.len() < 256 {
-        return Counted::Refused(Refusal::ReaderList);
+        return Err(Refusal::ReaderList);
     }
     if pebbles.len() < 256 {
-        return Counted::Refused(Refusal::ReaderList);
+        return Err(Refusal::ReaderList);
     }
     if targets.len() < 256 {
-        return Counted::Refused(Refusal::ReaderList);
+        return Err(Refusal::ReaderList);
     }
     if depths.len() < 256 {
-        return Counted::Refused(Refusal::ReaderList);
+        return Err(Refusal::ReaderList);
     }
     let mut parents_read = [0u8; 256];
     let mut pebbles_read = [0u8; 256];
     let mut targets_read = [0u8; 256];
     let mut depths_read = [0u8; 256];
-    let read = read_lines(
+    let n = read_lines(
         sheet,
         &mut parents_read,
         &mut pebbles_read,
         &mut targets_read,
         &mut depths_read,
-    );
-    let Counted::Number(n) = read else {
-        return read;
-    };
+    )?;
     put_text(parents, 0, &parents_read[..n]);
     put_text(pebbles, 0, &pebbles_read[..n]);
     put_text(targets, 0, &targets_read[..n]);
     put_text(depths, 0, &depths_read[..n]);
-    Counted::Number(n)
+    Ok(n)
 }

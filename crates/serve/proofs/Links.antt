@@ -1,5 +1,6 @@
--- The tables while they are made: first with no node linked, each its own lowest child; then linked from the highest node down. Linking v puts it
--- before those children of its parent that are linked already, all of which are higher.
+-- The children while they are linked: first none is, each node its own lowest child; then linked
+-- from the highest node down. Linking v puts it before those children of its parent that are
+-- linked already, all of which are higher.
 use mathlib.Core.Path.{◌≡◌, refl, sym, ap, ◌∙◌}
 use mathlib.Core.Logic.{◌≢◌}
 use mathlib.Core.Bool.{false, and-false}
@@ -10,44 +11,23 @@ use native.Mathlib.Decide.{ℕ_discrete}
 use lib.ListN.{length, get_or, set, length-set}
 use lib.Seq.{get_or-set_same, get_or-set_other}
 use lib.Dec.{eqb}
-use borrow.Author.Count.{below_more}
 use borrow.Author.Tests.{le-leb, lt-leb, eq-eqb, ne_eqb}
 use Rattle.model.specs.Yard.{up, head_or, is_child}
 use Rattle.laws.proofs.Found.{found, missed, from_next}
 use Rattle.laws.proofs.Trees.{child_is}
-use Rattle.serve.specs.Serving.{is_child_from, Lowest, Linked, linked_to}
+use Rattle.serve.specs.declared.tree.Children.{Children}
+use Rattle.serve.specs.Serving.{is_child_from, Lowest, Alone, Linked, linked_to}
 
--- the nodes below i are entered
-pub record Entered (i : ℕ) (ps t : List ℕ) : Type 0 where
-  pub long : length t ≡ 768
-  pub parent : (v : ℕ) → v < i → get_or t v 0 ≡ up ps v
-  pub first : (u : ℕ) → u < i → get_or t (256 + u) 0 ≡ u
+-- none is linked yet
+pub alone : {ps : List ℕ} {t : Children} → Alone (length ps) t → Linked (length ps) ps t
+alone {ps} f = record {
+  lowest_long = f.lowest_long;
+  next_long = f.next_long;
+  first = λ u k. record { is = f.first u k ∙ missed (length ps) u (is_child_from ps u (length ps)) (λ v m. rw (lt-leb (length ps) v m)) };
+  next = λ c k m d. absurd (omega arith);
+}
 
-pub enter : {i : ℕ} {ps t : List ℕ} → Entered i ps t → i < 256 → Entered (i + 1) ps (set (set t i (up ps i)) (256 + i) i)
-enter {i} {ps} {t} f l =
-    let r = f.long in
-    record {
-      long = simp length-set r;
-      parent = below_more _ i (λ v k. rest v (omega arith) (omega arith) ∙ f.parent v k)
-          (get_or-set_other (set t i (up ps i)) (256 + i) i i 0 (omega arith) ∙ get_or-set_same t i (up ps i) 0 (omega arith));
-      first = below_more _ i (λ u k. rest (256 + u) (omega arith) (omega arith) ∙ f.first u k)
-          (get_or-set_same (set t i (up ps i)) (256 + i) i 0 (simp length-set (omega arith)));
-    }
-  where
-    rest : (w : ℕ) → w ≢ i → w ≢ 256 + i → get_or (set (set t i (up ps i)) (256 + i) i) w 0 ≡ get_or t w 0
-    rest w d e = rw (get_or-set_other, get_or-set_other)
-
--- all are entered, and none is linked yet
-pub entered : {i : ℕ} {ps t : List ℕ} → Entered i ps t → length ps ≤ i → Linked (length ps) ps t
-entered {i} {ps} f l =
-    record {
-      long = f.long;
-      parent = λ v k. f.parent v (omega arith);
-      first = λ u k. record { is = f.first u (omega arith) ∙ missed (length ps) u (is_child_from ps u (length ps)) (λ v m. rw (lt-leb (length ps) v m)) };
-      next = λ c k m d. absurd (omega arith);
-    }
-
-module _ (v : ℕ) {ps t : List ℕ} (f : Linked (v + 1) ps t) where
+module _ (v : ℕ) {ps : List ℕ} {t : Children} (f : Linked (v + 1) ps t) where
   -- linking v changes nothing for a node u that is not its parent
   other_parent : (u : ℕ) → is_child ps u v ≡ false → {c : ℕ} → Lowest ps u (v + 1) c → Lowest ps u v c
   other_parent u e h = record { is = h.is ∙ ap (head_or u) (from_next (length ps) v (is_child ps u) e) }
@@ -56,8 +36,8 @@ module _ (v : ℕ) {ps t : List ℕ} (f : Linked (v + 1) ps t) where
   pub root_link : up ps v ≡ v → Linked v ps t
   root_link e =
       record {
-        long = f.long;
-        parent = f.parent;
+        lowest_long = f.lowest_long;
+        next_long = f.next_long;
         first = λ u k. other_parent u (free u (ℕ_discrete v u)) (f.first u k);
         next = λ c k m d. f.next c k (higher c m d (ℕ_discrete c v)) d;
       }
@@ -74,25 +54,21 @@ module _ (v : ℕ) {ps t : List ℕ} (f : Linked (v + 1) ps t) where
   pub child_link : v < length ps → length ps ≤ 256 → up ps v < length ps → up ps v ≢ v → Linked v ps (linked_to t v (up ps v))
   child_link l small k d =
       record {
-        long = simp length-set f.long;
-        parent = λ w m. rest w (omega arith) (omega arith) ∙ f.parent w m;
+        lowest_long = simp length-set f.lowest_long;
+        next_long = simp length-set f.next_long;
         first = λ u m. first u m (ℕ_discrete (up ps v) u);
         next = λ c m b n. next c m b n (ℕ_discrete c v);
       }
     where
-      rest : (w : ℕ) → w ≢ 256 + up ps v → w ≢ 512 + v → get_or (linked_to t v (up ps v)) w 0 ≡ get_or t w 0
-      rest w a b = rw (get_or-set_other, get_or-set_other)
-
-      first : (u : ℕ) → u < length ps → Dec (up ps v ≡ u) → Lowest ps u v (get_or (linked_to t v (up ps v)) (256 + u) 0)
+      first : (u : ℕ) → u < length ps → Dec (up ps v ≡ u) → Lowest ps u v (get_or (set t.lowest (up ps v) v) u 0)
       first u m (yes q) =
           let child = child_is ps (up ps v) v record { lt = l; up = refl; other = λ b. d (sym b) } in
           rw (← q) (record {
-            is = get_or-set_same (set t (512 + v) (get_or t (256 + up ps v) 0)) (256 + up ps v) v 0 (simp length-set (omega (arith, f.long)))
+            is = get_or-set_same t.lowest (up ps v) v 0 (omega (arith, f.lowest_long))
                 ∙ found (length ps) (up ps v) v (is_child_from ps (up ps v) v) l (λ w b. rw (lt-leb v w b)) (rw (le-leb v v (omega arith)) child);
           })
-      first u m (no q) = rw (rest (256 + u) (omega arith) (omega arith)) (other_parent u (rw (ne_eqb (up ps v) u q)) (f.first u m))
+      first u m (no q) = rw (get_or-set_other t.lowest (up ps v) u v 0 (λ e. q (sym e))) (other_parent u (rw (ne_eqb (up ps v) u q)) (f.first u m))
 
-      next : (c : ℕ) → c < length ps → v ≤ c → up ps c ≢ c → Dec (c ≡ v) → Lowest ps (up ps c) (c + 1) (get_or (linked_to t v (up ps v)) (512 + c) 0)
-      next c m b n (yes q) =
-          rw (q, get_or-set_other (set t (512 + v) (get_or t (256 + up ps v) 0)) (256 + up ps v) (512 + v) v 0 (omega arith), get_or-set_same t (512 + v) (get_or t (256 + up ps v) 0) 0 (omega (arith, f.long))) (f.first (up ps v) k)
-      next c m b n (no q) = rw (rest (512 + c) (omega arith) (omega arith)) (f.next c m (omega arith) n)
+      next : (c : ℕ) → c < length ps → v ≤ c → up ps c ≢ c → Dec (c ≡ v) → Lowest ps (up ps c) (c + 1) (get_or (linked_to t v (up ps v)).next c 0)
+      next c m b n (yes q) = rw (q, get_or-set_same t.next v (get_or t.lowest (up ps v) 0) 0 (omega (arith, f.next_long))) (f.first (up ps v) k)
+      next c m b n (no q) = rw (get_or-set_other t.next v c (get_or t.lowest (up ps v) 0) 0 q) (f.next c m (omega arith) n)

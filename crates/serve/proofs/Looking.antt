@@ -25,7 +25,9 @@ use Rattle.laws.proofs.Signed.{nextℤ, above0, below0, demand_parts, demand_ran
 use Rattle.laws.specs.Algorithms.{need}
 use Rattle.laws.proofs.Step.{Step, pebbles_in_other, pebbles_in_node}
 use Rattle.laws.proofs.Choice.{neediest_is, neediest_none, neediest_other}
-use Rattle.serve.specs.Serving.{is_child_from, Lowest, LastServed, last_at, Describes, Sees, beyond, NextBeyond}
+use Rattle.serve.specs.declared.state.State.{State}
+use Rattle.serve.specs.declared.tree.Children.{Children}
+use Rattle.serve.specs.Serving.{is_child_from, Lowest, LastServed, lasts, Describes, Sees, beyond, NextBeyond}
 use Rattle.serve.proofs.Numbers.{small_back}
 use Rattle.serve.proofs.Siblings.{none_from, none_between, child_from, next_is}
 
@@ -100,17 +102,17 @@ module _ {b : Bool} {y : Yard} {u low : ℕ} {most : ℤ} where
     pub scan_child : Child y.parents u c
     scan_child = (child_from h.lowest e).0
 
-    module _ {t : List ℕ} {s : List ℤ} (w : Sees y t s u) where
-      reads : demand y c ≡ get_or s c (pos 0)
+    module _ {t : Children} {s : State} (w : Sees y t s u) where
+      reads : demand y c ≡ get_or s.demands c (pos 0)
       reads = sym (w.demands c scan_child)
 
-      pub scan_found : beyond b (get_or s c (pos 0)) most ≡ true → NextBeyond b y u low most c
+      pub scan_found : beyond b (get_or s.demands c (pos 0)) most ≡ true → NextBeyond b y u low most c
       scan_found f = record {
         passed = λ v k l m. passed_before h.lowest h.passed e v k (m e) l;
         found = λ _. (scan_child, omega (arith, h.at_le, (child_from h.lowest e).1), rw reads f);
       }
 
-      pub scan_next : beyond b (get_or s c (pos 0)) most ≡ false → Scan b y u low most (get_or t (512 + c) 0)
+      pub scan_next : beyond b (get_or s.demands c (pos 0)) most ≡ false → Scan b y u low most (get_or t.next c 0)
       scan_next f = record {
         at = c + 1;
         at_le = omega (arith, h.at_le, (child_from h.lowest e).1);
@@ -318,33 +320,33 @@ module _ {y : Yard} {m : Move} (g : Step y m) (n : Neediest (need y g.away) y (p
 pub tree_small : (y : Yard) (v : ℕ) → Tree y → v < size y → v < 256
 tree_small y v t l = omega (arith, (facts y t).few)
 
-pub node_small : {y : Yard} {t : List ℕ} {s : List ℤ} {v : ℕ} → Describes y t s → v < size y → v < 256
+pub node_small : {y : Yard} {t : Children} {s : State} {v : ℕ} → Describes y t s → v < size y → v < 256
 node_small {y} {v = v} r l = tree_small y v r.tree l
 
-pub seen_small : {y : Yard} {t : List ℕ} {s : List ℤ} {u v : ℕ} → Sees y t s u → v < size y → v < 256
+pub seen_small : {y : Yard} {t : Children} {s : State} {u v : ℕ} → Sees y t s u → v < size y → v < 256
 seen_small {y} {v = v} r l = tree_small y v r.tree l
 
 -- a demand is within −2,048 to 2,048, and so unchanged by a passage through 16 bits
-module _ {y : Yard} {t : List ℕ} {s : List ℤ} {u v : ℕ} (r : Sees y t s u) (k : Child y.parents u v) where
-  pub in_range : nat_abs (get_or s v (pos 0)) ≤ 2_048
+module _ {y : Yard} {t : Children} {s : State} {u v : ℕ} (r : Sees y t s u) (k : Child y.parents u v) where
+  pub in_range : nat_abs (get_or s.demands v (pos 0)) ≤ 2_048
   in_range = rw (r.demands v k) (demand_range y r.tree v)
 
-  pub demand_back : to_z w16 (of_z w16 (get_or s v (pos 0))) ≡ get_or s v (pos 0)
-  demand_back = small_back (get_or s v (pos 0)) in_range
+  pub demand_back : to_z w16 (of_z w16 (get_or s.demands v (pos 0))) ≡ get_or s.demands v (pos 0)
+  demand_back = small_back (get_or s.demands v (pos 0)) in_range
 
-  pub zero_demand : (of_z w16 (get_or s v (pos 0)) ≡ 0 → demand y v ≡ pos 0) × (demand y v ≡ pos 0 → of_z w16 (get_or s v (pos 0)) ≡ 0)
+  pub zero_demand : (of_z w16 (get_or s.demands v (pos 0)) ≡ 0 → demand y v ≡ pos 0) × (demand y v ≡ pos 0 → of_z w16 (get_or s.demands v (pos 0)) ≡ 0)
   zero_demand = ((λ e. sym (r.demands v k) ∙ sym demand_back ∙ ap (to_z w16) e), (λ e. ap (of_z w16) (r.demands v k ∙ e)))
 
 -- the entry for the child that was served last
-module _ {y : Yard} {t : List ℕ} {s : List ℤ} {u : ℕ} (b : Bool) (r : Sees y t s u) where
-  pub last_entry : (c : ℕ) × (c < 256) × (get_or s (last_at b u) (pos 0) ≡ pos c)
+module _ {y : Yard} {t : Children} {s : State} {u : ℕ} (b : Bool) (r : Sees y t s u) where
+  pub last_entry : (c : ℕ) × (c < 256) × (get_or (lasts b s) u (pos 0) ≡ pos c)
   last_entry = let k = r.lasts b in (k.node, small (ℕ_discrete k.node u), k.is)
     where
       small : Dec ((r.lasts b).node ≡ u) → (r.lasts b).node < 256
       small (yes e) = omega (arith, seen_small r r.node)
       small (no d) = seen_small r ((r.lasts b).served d).child.lt
 
-  pub last_read : {c : ℕ} → get_or s (last_at b u) (pos 0) ≡ pos c → c ≢ u → LastServed b y u c
+  pub last_read : {c : ℕ} → get_or (lasts b s) u (pos 0) ≡ pos c → c ≢ u → LastServed b y u c
   last_read {c} e d =
       let k = r.lasts b in
       let q : k.node ≡ c = ap nat_abs (sym k.is ∙ e) in

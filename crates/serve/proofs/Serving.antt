@@ -8,7 +8,7 @@ use Prim.Native.Nat.{ℕ, ◌+◌, ◌-◌, ◌*◌, ◌≤◌, ◌<◌}
 use native.Mathlib.Omega.{arith}
 use lib.ListN.{length, get_or, take, drop, take-append-drop, length-set, length-append, length-drop, drop_of_length-le}
 use lib.Seq.{get_or-set_other, length-take-le, take-append-le, take-take, drop_at, take_at}
-use lib.IntN.{ℤ, pos, nat_abs}
+use lib.IntN.{pos, nat_abs}
 use lib.Dec.{ltb}
 use borrow.Author.Tests.{ltb-true, ltb-false, le-leb, lt-leb, lt-ltb, le-ltb}
 use Rattle.model.specs.Yard.{Yard, size, up, pebble, capacity, full}
@@ -26,16 +26,18 @@ use Rattle.laws.proofs.Shortest.{good_tree}
 use Rattle.laws.proofs.Signed.{nextℤ}
 use Rattle.laws.proofs.Choice.{neediest_some, choice_sound}
 use Rattle.laws.proofs.Serve.{Due, due_step, due_behind, able_behind, need_behind, free_able, blocked_child, serves_shift}
-use Rattle.serve.specs.Serving.{Describes, Kept, last_at, Sees, Halfway, Small, Room, stepped, picked_state, recorded, Picks, AskedFill, moved_all, written_up_to, Filled, Cleared, AskedServe, Served}
+use Rattle.serve.specs.declared.state.State.{State}
+use Rattle.serve.specs.declared.tree.Children.{Children}
+use Rattle.serve.specs.Serving.{Describes, Kept, Sees, Halfway, Small, Room, stepped, pebble_counted, picked_state, recorded, Picks, AskedFill, moved_all, written_up_to, Filled, Cleared, AskedServe, Served}
 use Rattle.serve.proofs.Looking.{tree_small}
-use Rattle.serve.proofs.Picking.{last_place, last_other, step_undo, step_redo, step_step, step_near, move_pick, shift_steps, moved_append, moved_crossing, moved_length}
+use Rattle.serve.proofs.Picking.{last_stays, picked_long, step_undo, step_near, count_undo, count_redo, count_count, move_pick, shift_steps, moved_append, moved_crossing, moved_length}
 use Rattle.serve.proofs.Moving.{bytes_append, two_behind, kept_next}
 
 -- on the way down: a node is below 256, what it looks at, and its count and depth, both small
-pub half_small : {y : Yard} {t : List ℕ} {s : List ℤ} {u v : ℕ} → Halfway y t s u → v < size y → v < 256
+pub half_small : {y : Yard} {t : Children} {s : State} {u v : ℕ} → Halfway y t s u → v < size y → v < 256
 half_small {y} {v = v} r l = tree_small y v r.tree l
 
-pub half_sees : {y : Yard} {t : List ℕ} {s : List ℤ} {v : ℕ} → Halfway y t s v → v < size y → Sees y t s v
+pub half_sees : {y : Yard} {t : Children} {s : State} {v : ℕ} → Halfway y t s v → v < size y → Sees y t s v
 half_sees {y} {v = v} r l = record {
   tree = r.tree;
   tables = r.tables;
@@ -44,32 +46,27 @@ half_sees {y} {v = v} r l = record {
   lasts = λ b. r.lasts b v l (omega arith);
 }
 
-pub room : {y : Yard} {t : List ℕ} {s : List ℤ} {v : ℕ} → Halfway y t s v → v < size y → Room s v (pebble y v) (capacity y v)
+pub room : {y : Yard} {t : Children} {s : State} {v : ℕ} → Halfway y t s v → v < size y → Room s v (pebble y v) (capacity y v)
 room {y} {v = v} r l =
     let f = facts y r.tree in
     (r.pebbles v l, r.depths v l, omega (arith, f.pebble_le v l, f.capacity_le v l), omega (arith, f.capacity_le v l))
 
-pub count_small : {y : Yard} {t : List ℕ} {s : List ℤ} {v : ℕ} → Halfway y t s v → v < size y → Small s (256 + v)
+pub count_small : {y : Yard} {t : Children} {s : State} {v : ℕ} → Halfway y t s v → v < size y → Small s.pebbles v
 count_small r l = let h = room r l in rw h.0 (omega (arith, h.2))
 
 -- it begins where no one has picked, and goes on at the child that is picked
-pub half_first : {y : Yard} {t : List ℕ} {s : List ℤ} (u : ℕ) → Describes y t s → Halfway y t s u
+pub half_first : {y : Yard} {t : Children} {s : State} (u : ℕ) → Describes y t s → Halfway y t s u
 half_first u r = let k = r.kept in record { tree = r.tree; tables = r.tables; long = k.long; demands = λ c l _. k.demands c l; pebbles = k.pebbles; lasts = λ b v l _. k.lasts b v l; depths = k.depths }
 
-pub half_next : {y : Yard} {t : List ℕ} {s : List ℤ} {v c : ℕ} (b : Bool) → Halfway y t s v → v < size y → Child y.parents v c → Halfway y t (picked_state b v c s) c
+pub half_next : {y : Yard} {t : Children} {s : State} {v c : ℕ} (b : Bool) → Halfway y t s v → v < size y → Child y.parents v c → Halfway y t (picked_state b v c s) c
 half_next {y} {t} {s} {v} {c} b r l k = record {
   tree = r.tree;
   tables = r.tables;
-  long = simp length-set r.long;
-  demands = λ w m n. below w (omega (arith, half_small r m)) (λ e. absurd (omega (arith, n, ap weigh e))) ∙ r.demands w m (omega (arith, n, lighter));
-  pebbles = λ u m. below (256 + u) (omega (arith, half_small r m)) (omega (arith, half_small r k.lt)) ∙ r.pebbles u m;
-  lasts = λ a u m n.
-      let p = last_place a u (half_small r m) in
-      rw (get_or-set_other (stepped b c s) (last_at b v) (last_at a u) (pos c) (pos 0) (last_other a b u v (half_small r m) (half_small r l) (λ e. absurd (omega (arith, n, lighter, ap weigh e)))), get_or-set_other s c (last_at a u) (nextℤ b (get_or s c (pos 0))) (pos 0) (λ e. absurd (omega (arith, p, half_small r k.lt))))
-      (r.lasts a u m (omega (arith, n, lighter)));
-  depths = λ u m.
-      get_or-set_other (stepped b c s) (last_at b v) (1024 + u) (pos c) (pos 0) (λ e. absurd (omega (arith, last_place b v (half_small r l))))
-      ∙ get_or-set_other s c (1024 + u) (nextℤ b (get_or s c (pos 0))) (pos 0) (omega (arith, half_small r k.lt)) ∙ r.depths u m;
+  long = picked_long b v c s r.long;
+  demands = λ w m n. get_or-set_other s.demands c w (nextℤ b (get_or s.demands c (pos 0))) (pos 0) (λ e. absurd (omega (arith, n, ap weigh e))) ∙ r.demands w m (omega (arith, n, lighter));
+  pebbles = r.pebbles;
+  lasts = λ a u m n. rw (last_stays b v c s a u (λ e. absurd (omega (arith, n, lighter, ap weigh e)))) (r.lasts a u m (omega (arith, n, lighter)));
+  depths = r.depths;
 }
   where
     weigh : ℕ → ℕ
@@ -77,9 +74,6 @@ half_next {y} {t} {s} {v} {c} b r l k = record {
 
     lighter : weigh c < weigh v
     lighter = weight_child (wood y r.tree) v c l k
-
-    below : (i : ℕ) → i < 512 → i ≢ c → get_or (picked_state b v c s) i (pos 0) ≡ get_or s i (pos 0)
-    below i j d = get_or-set_other (stepped b c s) (last_at b v) i (pos c) (pos 0) (λ e. absurd (omega (arith, last_place b v (half_small r l)))) ∙ get_or-set_other s c i (nextℤ b (get_or s c (pos 0))) (pos 0) d
 
 -- they say whether the node is blocked
 pub free_full : (y : Yard) (v : ℕ) (b : Bool) → b ≡ ltb (pebble y v) (capacity y v) → full y v ≡ not b
@@ -93,7 +87,7 @@ pub empty_blocked : (y : Yard) (v : ℕ) → pebble y v ≡ 0 → blocked y fals
 empty_blocked y v e = ap not (le-ltb 0 (pebble y v) (omega arith))
 
 -- there is a place for the move over the edge of v, whose parent is below 256 too, and behind it those before it
-module _ {b : Bool} {y : Yard} {t : List ℕ} {s : List ℤ} {end v : ℕ} (a : AskedFill b y t s end v) where
+module _ {b : Bool} {y : Yard} {t : Children} {s : State} {end v : ℕ} (a : AskedFill b y t s end v) where
   pub one_place : 1 ≤ end
   one_place = omega (arith, a.places, weight_pos (wood y a.halfway.tree) v a.due.lt)
 
@@ -107,14 +101,14 @@ module _ {b : Bool} {y : Yard} {t : List ℕ} {s : List ℤ} {end v : ℕ} (a : 
   up_small q = rw q (half_small a.halfway ((wood y a.halfway.tree).parent_lt v a.due.lt))
 
 -- where v is blocked, the child that is chosen makes way
-module _ {b : Bool} {y : Yard} {t : List ℕ} {s : List ℤ} {end v : ℕ} (a : AskedFill b y t s end v) (e : blocked y b v ≡ true) where
+module _ {b : Bool} {y : Yard} {t : Children} {s : State} {end v : ℕ} (a : AskedFill b y t s end v) (e : blocked y b v ≡ true) where
   kid : Child y.parents v (choice (need y b) y v) × Due y b (choice (need y b) y v)
   kid = blocked_child choice choice_sound y a.halfway.tree b v a.due e
 
   lower : weight y.parents (choice (need y b) y v) < weight y.parents v
   lower = weight_child (wood y a.halfway.tree) v (choice (need y b) y v) a.due.lt kid.0
 
-  module _ {c : ℕ} {s' : List ℤ} (q : c ≡ choice (need y b) y v) (p : Picks b v c s s') where
+  module _ {c : ℕ} {s' : State} (q : c ≡ choice (need y b) y v) (p : Picks b v c s s') where
     chosen_picked : s' ≡ picked_state b v (choice (need y b) y v) s
     chosen_picked = p.1 (λ f. absurd (omega (arith, lower, ap (weight y.parents) (sym q ∙ f)))) ∙ rw q
 
@@ -125,7 +119,7 @@ module _ {b : Bool} {y : Yard} {t : List ℕ} {s : List ℤ} {end v : ℕ} (a : 
     chosen_asked h = rw (q, chosen_picked) (record { halfway = half_next b a.halfway a.due.lt kid.0; due = kid.1; places = omega (arith, a.places, lower); few = omega (arith, a.few) })
 
     -- its filling clears v
-    pub cleared_behind : {n k : ℕ} {s'' : List ℤ} {list list' : List ℕ} → Filled b y n c s' s'' list list' k → Cleared b y n v s s'' list list' k
+    pub cleared_behind : {n k : ℕ} {s'' : State} {list list' : List ℕ} → Filled b y n c s' s'' list list' k → Cleared b y n v s s'' list list' k
     cleared_behind {s'' = s''} r =
         let f = rw (q, chosen_picked) at r in
         record {
@@ -133,18 +127,18 @@ module _ {b : Bool} {y : Yard} {t : List ℕ} {s : List ℤ} {end v : ℕ} (a : 
           serves = behind e f.serves;
           counted = f.counted;
           written = f.written;
-          state = subst (λ (x : ℕ). stepped b (256 + x) s'' ≡ moved_all b f.moves s) kid.0.up (f.state s (ap (λ (x : ℕ). picked_state b x (choice (need y b) y v) s) (sym kid.0.up)));
+          state = subst (λ (x : ℕ). pebble_counted b x s'' ≡ moved_all b f.moves s) kid.0.up (f.state s (ap (λ (x : ℕ). picked_state b x (choice (need y b) y v) s) (sym kid.0.up)));
         }
 
 -- a v that is not blocked takes the pebble, or gives it
-pub cleared_here : {b : Bool} {y : Yard} {t : List ℕ} {s : List ℤ} {end n v : ℕ} {list : List ℕ} → AskedFill b y t s end v → blocked y b v ≡ false → Cleared b y n v s (stepped (not b) (256 + v) s) list list n
+pub cleared_here : {b : Bool} {y : Yard} {t : Children} {s : State} {end n v : ℕ} {list : List ℕ} → AskedFill b y t s end v → blocked y b v ≡ false → Cleared b y n v s (pebble_counted (not b) v s) list list n
 unfolding moved_all bytes
 cleared_here {b} {s = s} {n = n} {v} {list} a e = record {
   moves = [];
   serves = direct e;
   counted = omega arith;
   written = sym (take-append-drop (2 * n) list);
-  state = step_redo b (256 + v) s (omega (arith, a.halfway.long, half_small a.halfway a.due.lt));
+  state = count_redo b v s (omega (arith, a.halfway.long.pebbles, half_small a.halfway a.due.lt));
 }
 
 -- lists that end alike
@@ -187,15 +181,15 @@ module _ (y : Yard) (t : Tree y) where
   small : (v : ℕ) → v < size y → v < 256
   small v l = tree_small y v t l
 
-  module _ (b : Bool) {p w : ℕ} (pl : p < 256) (wl : w < 256) where
-    one_pick : {q v : ℕ} → Child y.parents q v → q < size y → weight y.parents q < weight y.parents p → weight y.parents v < weight y.parents w → (s : List ℤ)
+  module _ (b : Bool) (p w : ℕ) where
+    one_pick : {q v : ℕ} → Child y.parents q v → q < size y → weight y.parents q < weight y.parents p → weight y.parents v < weight y.parents w → (s : State)
         → moved_all b (crossing y.parents b v ∷ []) (picked_state b p w s) ≡ picked_state b p w (moved_all b (crossing y.parents b v ∷ []) s)
     one_pick {q} {v} k l g h s =
         moved_crossing y.parents b v (picked_state b p w s)
-        ∙ rw k.up (move_pick b pl wl (small q l) (small v k.lt) (λ o. absurd (omega (arith, g, ap (weight y.parents) o))) (λ o. absurd (omega (arith, h, ap (weight y.parents) o))) s)
+        ∙ rw k.up (move_pick b (λ o. absurd (omega (arith, g, ap (weight y.parents) o))) (λ o. absurd (omega (arith, h, ap (weight y.parents) o))) s)
         ∙ ap (picked_state b p w) (sym (moved_crossing y.parents b v s))
 
-    moved_pick : {q v : ℕ} {ms : List Move} → Serves choice y b v ms → Due y b v → Child y.parents q v → q < size y → weight y.parents q < weight y.parents p → weight y.parents v < weight y.parents w → (s : List ℤ)
+    moved_pick : {q v : ℕ} {ms : List Move} → Serves choice y b v ms → Due y b v → Child y.parents q v → q < size y → weight y.parents q < weight y.parents p → weight y.parents v < weight y.parents w → (s : State)
         → moved_all b ms (picked_state b p w s) ≡ picked_state b p w (moved_all b ms s)
     moved_pick (direct e) u k l g h s = one_pick k l g h s
     moved_pick {q} {v} (behind {ms = ms} e r) u k l g h s =
@@ -208,7 +202,7 @@ module _ (y : Yard) (t : Tree y) where
         ∙ ap (picked_state b p w) (sym (moved_append b ms (crossing y.parents b v ∷ []) s))
 
   -- those before the last one, for which v was cleared
-  way_pick : {b : Bool} {v : ℕ} (ms ns : List Move) → Serves choice y b v ns → ns ≡ ms ++ (crossing y.parents b v ∷ []) → Due y b v → Child y.parents (up y.parents v) v → (s : List ℤ)
+  way_pick : {b : Bool} {v : ℕ} (ms ns : List Move) → Serves choice y b v ns → ns ≡ ms ++ (crossing y.parents b v ∷ []) → Due y b v → Child y.parents (up y.parents v) v → (s : State)
       → moved_all b ms (picked_state b (up y.parents v) v s) ≡ picked_state b (up y.parents v) v (moved_all b ms s)
   unfolding moved_all
   way_pick {b} {v} ms ns (direct e) q u k s = rw (snoc_one ms (crossing y.parents b v) q)
@@ -217,9 +211,9 @@ module _ (y : Yard) (t : Tree y) where
       let l = (wood y t).parent_lt v u.lt in
       let n = weight_child (wood y t) (up y.parents v) v l k in
       let m = weight_child (wood y t) v (choice (need y b) y v) u.lt c.0 in
-      rw (← (snoc_same os ms (crossing y.parents b v) q)) (moved_pick b (small (up y.parents v) l) (small v u.lt) r c.1 c.0 u.lt n m s)
+      rw (← (snoc_same os ms (crossing y.parents b v) q)) (moved_pick b (up y.parents v) v r c.1 c.0 u.lt n m s)
 
-  pub served_kept : {b : Bool} {v : ℕ} {ms : List Move} → Serves choice y b v ms → Due y b v → Neediest (need y b) y (up y.parents v) v → (s : List ℤ) → Kept y s → Kept (run y ms) (moved_all b ms s)
+  pub served_kept : {b : Bool} {v : ℕ} {ms : List Move} → Serves choice y b v ms → Due y b v → Neediest (need y b) y (up y.parents v) v → (s : State) → Kept y s → Kept (run y ms) (moved_all b ms s)
   unfolding due_step after choice
   served_kept {b} {v} (direct e) u n s k =
       subst (Kept (run y (crossing y.parents b v ∷ []))) (shift_steps y.parents b v s n.needy.0.other ∙ sym (moved_crossing y.parents b v s))
@@ -236,7 +230,7 @@ module _ (y : Yard) (t : Tree y) where
       (neediest_same ms (λ i j. need_behind y t b v c ms u q.0 p n.needy.0 j) n))
 
 -- clearing and the last move are a filling
-pub filled_last : {b : Bool} {y : Yard} {t : List ℕ} {n end u v k : ℕ} {s s' : List ℤ} {list list' : List ℕ}
+pub filled_last : {b : Bool} {y : Yard} {t : Children} {n end u v k : ℕ} {s s' : State} {list list' : List ℕ}
     → AskedFill b y t s end v → end ≡ n + 1 → length list ≡ 512 → u ≡ up y.parents v → Cleared b y n v s s' (recorded b u v n list) list' k → Filled b y end v s s' list list' k
 filled_last {b} {y} {t} {n} {end} {u} {v} {k} {s} {s'} {list} a h l q c = record {
   long = l;
@@ -246,11 +240,11 @@ filled_last {b} {y} {t} {n} {end} {u} {v} {k} {s} {s'} {list} a h l q c = record
   written = c.written ∙ rw (h, crossing_is y.parents b v, ← q, recorded_split b u v n list (omega (arith, a.few))) (written_before c.moves (cond b u v) (cond b v u) k n list (omega (arith, c.counted)) (omega (arith, a.few)));
   state = λ s₀ e. sym (
       moved_append b c.moves (m ∷ []) s₀ ∙ moved_crossing y.parents b v (moved_all b c.moves s₀)
-      ∙ ap (λ (z : List ℤ). stepped (not b) (256 + v) (stepped b (256 + x) z)) (
+      ∙ ap (λ (z : State). pebble_counted (not b) v (pebble_counted b x z)) (
       sym (way_pick y tree c.moves (c.moves ++ (m ∷ [])) c.serves refl a.due here s₀) ∙ ap (moved_all b c.moves) (sym e) ∙ sym c.state
       )
-      ∙ step_step (not b) b (256 + v) (256 + x) (stepped b (256 + v) s') (λ o. here.other (omega arith))
-      ∙ ap (stepped b (256 + x)) (step_undo b (256 + v) s' (omega (arith, long, half_small a.halfway a.due.lt)))
+      ∙ count_count (not b) b v x (pebble_counted b v s') here.other
+      ∙ ap (pebble_counted b x) (count_undo b v s' (omega (arith, long, half_small a.halfway a.due.lt)))
       );
 }
   where
@@ -266,11 +260,11 @@ filled_last {b} {y} {t} {n} {end} {u} {v} {k} {s} {s'} {list} a h l q c = record
     here : Child y.parents x v
     here = record { lt = a.due.lt; up = refl; other = λ e. a.due.off_root ((wood y tree).root_only v a.due.lt (sym e)) }
 
-    long : length s' ≡ 1280
-    long = sym (length-set s' (256 + v) (nextℤ b (get_or s' (256 + v) (pos 0)))) ∙ ap length c.state ∙ moved_length b c.moves s ∙ a.halfway.long
+    long : length s'.pebbles ≡ 256
+    long = sym (length-set s'.pebbles v (nextℤ b (get_or s'.pebbles v (pos 0)))) ∙ ap (λ (z : State). length z.pebbles) c.state ∙ moved_length b c.moves s ∙ a.halfway.long.pebbles
 
 -- a turn at u, whose child v was picked: what filling v or drawing from it asks, and the counts of both
-module _ {b : Bool} {y : Yard} {t : List ℕ} {s₀ s : List ℤ} {plan : List ℕ} {u v : ℕ} (a : AskedServe b y t s₀ s plan u v) where
+module _ {b : Bool} {y : Yard} {t : Children} {s₀ s : State} {plan : List ℕ} {u v : ℕ} (a : AskedServe b y t s₀ s plan u v) where
   grown : Tree y
   grown = a.described.tree
 
@@ -286,10 +280,10 @@ module _ {b : Bool} {y : Yard} {t : List ℕ} {s₀ s : List ℤ} {plan : List �
   pub serve_asked : AskedFill b y t s 256 v
   serve_asked = record { halfway = serve_half; due = a.due; places = omega (arith, weight_le y.parents v, (facts y grown).few); few = omega arith }
 
-  few : (w : ℕ) → w < size y → nat_abs (get_or s (256 + w) (pos 0)) ≤ 255
+  few : (w : ℕ) → w < size y → nat_abs (get_or s.pebbles w (pos 0)) ≤ 255
   few w l = let f = facts y grown in rw (serve_half.pebbles w l) (omega (arith, f.pebble_le w l, f.capacity_le w l))
 
-  pub serve_small : (u < 256) × (v < 256) × (u ≢ v) × Small s (256 + u) × Small s (256 + v)
+  pub serve_small : (u < 256) × (v < 256) × (u ≢ v) × Small s.pebbles u × Small s.pebbles v
   serve_small = (half_small serve_half u_lt, half_small serve_half a.due.lt, (λ e. a.chosen.needy.0.other (sym e)), omega (arith, few u u_lt), omega (arith, few v a.due.lt))
 
   module _ {ms : List Move} (r : Serves choice y b v ms) where
@@ -303,7 +297,7 @@ module _ {b : Bool} {y : Yard} {t : List ℕ} {s₀ s : List ℤ} {plan : List �
   pub serve_one_room : blocked y b v ≡ false → 2 ≤ length plan
   serve_one_room e = omega (arith, serve_room (direct e))
 
-  pub serve_one : blocked y b v ≡ false → Served b y v (stepped (not b) (256 + v) (stepped b (256 + u) s)) plan (recorded b u v 0 plan) 1
+  pub serve_one : blocked y b v ≡ false → Served b y v (pebble_counted (not b) v (pebble_counted b u s)) plan (recorded b u v 0 plan) 1
   unfolding bytes
   serve_one e = record {
     moves = crossing y.parents b v ∷ [];
@@ -311,20 +305,20 @@ module _ {b : Bool} {y : Yard} {t : List ℕ} {s₀ s : List ℤ} {plan : List �
     made = record { kept = rw (a.picked, serve_up, ← (moved_crossing y.parents b v s₀)) (serve_kept (direct e)); written = rw (crossing_is y.parents b v, ← serve_up) (recorded_split b u v 0 plan (omega (arith, serve_room (direct e)))); counted = refl };
   }
 
-  module _ {s' : List ℤ} {list list' : List ℕ} {k : ℕ} (f : Filled b y 256 v s s' list list' k) where
+  module _ {s' : State} {list list' : List ℕ} {k : ℕ} (f : Filled b y 256 v s s' list list' k) where
     -- the state, and the count at u that is still to change
-    done : stepped b (256 + u) s' ≡ moved_all b f.moves s₀
+    done : pebble_counted b u s' ≡ moved_all b f.moves s₀
     done = rw serve_up (f.state s₀ (rw (← serve_up) a.picked))
 
-    kept : Kept (run y f.moves) (stepped b (256 + u) s')
+    kept : Kept (run y f.moves) (pebble_counted b u s')
     kept = rw done (serve_kept f.serves)
 
-    pub serve_few : Small s' (256 + u)
+    pub serve_few : Small s'.pebbles u
     serve_few =
         let g = facts (run y f.moves) (good_tree y grown f.moves (serves_shift choice choice_sound y grown f.serves a.due).good) in
-        let l : length s' ≡ 1280 = sym (length-set s' (256 + u) (nextℤ b (get_or s' (256 + u) (pos 0)))) ∙ kept.long in
-        let n = step_near (not b) (256 + u) (256 + u) (stepped b (256 + u) s') in
-        omega (arith, rw (step_undo b (256 + u) s' (omega (arith, l, serve_small.0)), kept.pebbles u u_lt) at n, g.pebble_le u u_lt, g.capacity_le u u_lt)
+        let l : length s'.pebbles ≡ 256 = sym (length-set s'.pebbles u (nextℤ b (get_or s'.pebbles u (pos 0)))) ∙ kept.long.pebbles in
+        let n = step_near (not b) u u (stepped b u s'.pebbles) in
+        omega (arith, rw (step_undo b u s'.pebbles (omega (arith, l, serve_small.0)), kept.pebbles u u_lt) at n, g.pebble_le u u_lt, g.capacity_le u u_lt)
 
     -- the list, and room for them
     front : length (take (2 * k) list) ≡ 2 * k
@@ -333,7 +327,7 @@ module _ {b : Bool} {y : Yard} {t : List ℕ} {s₀ s : List ℤ} {plan : List �
     pub serve_list : (length list' ≡ 512) × (k ≤ 256) × (512 ≤ length plan + 2 * k)
     serve_list = (ap length f.written ∙ omega (arith, front, f.counted, length-append (take (2 * k) list) (bytes f.moves ++ drop 512 list), length-append (bytes f.moves) (drop 512 list), length_bytes f.moves, length-drop 512 list, f.long), omega (arith, f.counted), omega (arith, f.counted, serve_room f.serves))
 
-    pub serve_all : {s'' : List ℤ} {plan' : List ℕ} {count : ℕ} → s'' ≡ stepped b (256 + u) s' → plan' ≡ overwrite (drop (2 * k) list') plan → count + k ≡ 256 → Served b y v s'' plan plan' count
+    pub serve_all : {s'' : State} {plan' : List ℕ} {count : ℕ} → s'' ≡ pebble_counted b u s' → plan' ≡ overwrite (drop (2 * k) list') plan → count + k ≡ 256 → Served b y v s'' plan plan' count
     serve_all p q c = record {
       moves = f.moves;
       serves = f.serves;

@@ -15,6 +15,7 @@ use Rattle.laws.proofs.Basics.{none_below}
 use Rattle.laws.proofs.Found.{lowest_is, lowest_missing, below_rest, below_cong}
 use Rattle.laws.specs.Choice.{Child}
 use Rattle.laws.proofs.Trees.{is_child_law}
+use Rattle.serve.specs.declared.tree.Children.{Children}
 use Rattle.serve.specs.Serving.{is_child_from, children_from, Lowest, Tables}
 
 pub from_0 : (ps : List ℕ) (u : ℕ) → children_from ps u 0 ≡ below (length ps) (is_child ps u)
@@ -47,7 +48,7 @@ module _ {ps : List ℕ} {u i c : ℕ} (e : Lowest ps u i c) where
         higher v false q = rw q
 
 -- behind each child the next, by the tables
-pub next_is : {ps t : List ℕ} {u c : ℕ} → Tables ps t → Child ps u c → Lowest ps u (c + 1) (get_or t (512 + c) 0)
+pub next_is : {ps : List ℕ} {t : Children} {u c : ℕ} → Tables ps t → Child ps u c → Lowest ps u (c + 1) (get_or t.next c 0)
 next_is {c = c} h k = rw k.up at (h.next c k.lt (omega arith) (λ e. k.other (sym e ∙ k.up)))
 
 -- what falls from child to child of u, and is 0 at u itself, behind the last

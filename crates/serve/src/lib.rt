@@ -3,4 +3,5 @@
 
 pub mod choose;
 pub mod pebble;
+pub mod state;
 pub mod tree;

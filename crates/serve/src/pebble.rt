@@ -2,30 +2,33 @@
 ghost use Rattle.std.specs.Prelude.{◌≡◌, ◌≢◌, true, false, not, ℕ, ◌+◌, ◌*◌, ◌<◌, ◌≤◌, List, length, drop, ℤ, ltb};
 ghost use Rattle.model.specs.Yard.{Yard, up};
 ghost use Rattle.model.specs.Calls.Answers.{overwrite};
-ghost use Rattle.serve.specs.Serving.{Small, Room, stepped, recorded, AskedFill, Filled, Cleared, AskedServe, Served};
+ghost use Rattle.serve.specs.Serving.{Small, Room, pebble_counted, recorded, AskedFill, Filled, Cleared, AskedServe, Served};
 
-use crate::choose::{DEPTHS, PEBBLES, nearer, pick};
-use lists::copy::copy;
+use crate::choose::{nearer, pick};
+use crate::state::State;
+use crate::tree::Children;
 
 // How many moves the list of a filling has places for, and how many bytes it has.
 const PLACES: usize = 256;
 
 const LIST_BYTES: usize = 2 * PLACES;
 
-// Whether a node has a place for one more pebble.
-fn has_place(s: &[i16; 1280], v: usize) -> bool
-    requires { (v < 256) × ((p : ℕ) × (d : ℕ) × Room s.now v p d) }
-    ensures { (p d : ℕ) → Room s.now v p d → result ≡ ltb p d }
-{
-    s[PEBBLES + v] < s[DEPTHS + v]
-}
+impl State {
+    // Whether a node has a place for one more pebble.
+    fn has_place(&self, v: usize) -> bool
+        requires { (v < 256) × ((p : ℕ) × (d : ℕ) × Room self.now v p d) }
+        ensures { (p d : ℕ) → Room self.now v p d → result ≡ ltb p d }
+    {
+        self.pebbles[v] < self.depths[v]
+    }
 
-// One pebble less at a node (true), or one more.
-fn count_pebble(s: &mut [i16; 1280], v: usize, less: bool)
-    requires { (v < 256) × Small s.old (256 + v) }
-    ensures { s.new ≡ stepped less (256 + v) s.old }
-{
-    s[PEBBLES + v] = nearer(s[PEBBLES + v], less);
+    // One pebble less at a node (true), or one more.
+    fn count_pebble(&mut self, v: usize, less: bool)
+        requires { (v < 256) × Small self.old.pebbles v }
+        ensures { self.new ≡ pebble_counted less v self.old }
+    {
+        self.pebbles[v] = nearer(self.pebbles[v], less);
+    }
 }
 
 // Algorithm 4: writes the move of a pebble over the edge of v, whose parent is p, away from the root or towards it, at place k of the list.
@@ -46,8 +49,8 @@ pub fn record_move(plan: &mut [u8], k: usize, p: usize, v: usize, away: bool)
 // is cleared into the places before that one. Answers where the moves begin.
 #[cycle(clear_node_inject_pebble)]
 pub fn inject_pebble(
-    t: &[u8; 768],
-    s: &mut [i16; 1280],
+    t: &Children,
+    s: &mut State,
     moves: &mut [u8; 512],
     end: usize,
     u: usize,
@@ -62,18 +65,12 @@ pub fn inject_pebble(
 
 // Clears v, so that it has a place, and takes that place. To clear a full v, fill the child that is picked.
 #[cycle(clear_node_inject_pebble)]
-fn clear_node(
-    t: &[u8; 768],
-    s: &mut [i16; 1280],
-    moves: &mut [u8; 512],
-    end: usize,
-    v: usize,
-) -> usize
+fn clear_node(t: &Children, s: &mut State, moves: &mut [u8; 512], end: usize, v: usize) -> usize
     requires { (y : Yard) × AskedFill true y t.now s.old (end + 1) v }
     ensures { (y : Yard) → AskedFill true y t.now s.old (end + 1) v → Cleared true y end v s.old s.new moves.old moves.new result }
 {
-    if has_place(s, v) {
-        count_pebble(s, v, false);
+    if s.has_place(v) {
+        s.count_pebble(v, false);
         return end;
     }
     let c = pick(t, s, v, true);
@@ -82,8 +79,8 @@ fn clear_node(
 
 // Algorithm 3: draws from v, which was picked for it, into its parent u. Into an empty v a pebble is drawn first.
 pub fn extract_pebble(
-    t: &[u8; 768],
-    s: &mut [i16; 1280],
+    t: &Children,
+    s: &mut State,
     moves: &mut [u8; 512],
     end: usize,
     u: usize,
@@ -93,8 +90,8 @@ pub fn extract_pebble(
     ensures { (y : Yard) → AskedFill false y t.now s.old end v → u ≡ up y.parents v → Filled false y end v s.old s.new moves.old moves.new result }
 {
     record_move(moves, end - 1, u, v, false);
-    if s[PEBBLES + v] != 0 {
-        count_pebble(s, v, true);
+    if s.pebbles[v] != 0 {
+        s.count_pebble(v, true);
         return end - 1;
     }
     let c = pick(t, s, v, false);
@@ -102,13 +99,13 @@ pub fn extract_pebble(
 }
 
 // A single move over the edge of v, whose parent is u, to the front of the plan.
-fn move_pebble(s: &mut [i16; 1280], plan: &mut [u8], u: usize, v: usize, away: bool)
-    requires { (u < 256) × (v < 256) × (u ≢ v) × Small s.old (256 + u) × Small s.old (256 + v) × (2 ≤ length plan.old) }
-    ensures s_value { s.new ≡ stepped (not away) (256 + v) (stepped away (256 + u) s.old) }
+fn move_pebble(s: &mut State, plan: &mut [u8], u: usize, v: usize, away: bool)
+    requires { (u < 256) × (v < 256) × (u ≢ v) × Small s.old.pebbles u × Small s.old.pebbles v × (2 ≤ length plan.old) }
+    ensures s_value { s.new ≡ pebble_counted (not away) v (pebble_counted away u s.old) }
     ensures plan_value { plan.new ≡ recorded away u v 0 plan.old }
 {
-    count_pebble(s, u, away);
-    count_pebble(s, v, !away);
+    s.count_pebble(u, away);
+    s.count_pebble(v, !away);
     record_move(plan, 0, u, v, away);
 }
 
@@ -118,49 +115,49 @@ fn hand_over(moves: &[u8], k: usize, plan: &mut [u8]) -> usize
     ensures k_value { result + k ≡ 256 }
     ensures plan_value { plan.new ≡ overwrite (drop (2 * k) moves.now) plan.old }
 {
-    copy(&moves[2 * k..], &mut plan[..LIST_BYTES - 2 * k]);
+    plan[..LIST_BYTES - 2 * k].copy_from_slice(&moves[2 * k..]);
     PLACES - k
 }
 
 // Fills the child c of u that was picked, by moves at the front of the plan; answers how many. Mostly c has a place, and it is one;
 // else they are written to a list that is lent for it, and handed over.
 pub fn fill_child(
-    t: &[u8; 768],
-    s: &mut [i16; 1280],
+    t: &Children,
+    s: &mut State,
     plan: &mut [u8],
     moves: &mut [u8; 512],
     u: usize,
     c: usize,
 ) -> usize
-    requires { (y : Yard) × (s₀ : List ℤ) × AskedServe true y t.now s₀ s.old plan.old u c }
-    ensures { (y : Yard) (s₀ : List ℤ) → AskedServe true y t.now s₀ s.old plan.old u c → Served true y c s.new plan.old plan.new result }
+    requires { (y : Yard) × (s₀ : State) × AskedServe true y t.now s₀ s.old plan.old u c }
+    ensures { (y : Yard) (s₀ : State) → AskedServe true y t.now s₀ s.old plan.old u c → Served true y c s.new plan.old plan.new result }
 {
-    if has_place(s, c) {
+    if s.has_place(c) {
         move_pebble(s, plan, u, c, true);
         return 1;
     }
     let k = inject_pebble(t, s, moves, PLACES, u, c);
-    count_pebble(s, u, true);
+    s.count_pebble(u, true);
     hand_over(moves, k, plan)
 }
 
 // Draws from the child c of u that was picked, in the same way.
 pub fn draw_child(
-    t: &[u8; 768],
-    s: &mut [i16; 1280],
+    t: &Children,
+    s: &mut State,
     plan: &mut [u8],
     moves: &mut [u8; 512],
     u: usize,
     c: usize,
 ) -> usize
-    requires { (y : Yard) × (s₀ : List ℤ) × AskedServe false y t.now s₀ s.old plan.old u c }
-    ensures { (y : Yard) (s₀ : List ℤ) → AskedServe false y t.now s₀ s.old plan.old u c → Served false y c s.new plan.old plan.new result }
+    requires { (y : Yard) × (s₀ : State) × AskedServe false y t.now s₀ s.old plan.old u c }
+    ensures { (y : Yard) (s₀ : State) → AskedServe false y t.now s₀ s.old plan.old u c → Served false y c s.new plan.old plan.new result }
 {
-    if s[PEBBLES + c] != 0 {
+    if s.pebbles[c] != 0 {
         move_pebble(s, plan, u, c, false);
         return 1;
     }
     let k = extract_pebble(t, s, moves, PLACES, u, c);
-    count_pebble(s, u, false);
+    s.count_pebble(u, false);
     hand_over(moves, k, plan)
 }

@@ -1,46 +1,52 @@
-// The tables of a tree: parents, lowest children, next siblings.
+// The children of the nodes of a tree, linked in rising order.
 ghost use Rattle.std.specs.Prelude.{◌≡◌, ◌<◌, ◌≤◌, length};
 ghost use Rattle.model.specs.Judge.{Parents};
-ghost use Rattle.serve.specs.Serving.{Linked, Tables, linked_to};
+ghost use Rattle.serve.specs.Serving.{Alone, Tables, linked_to};
 
-use crate::choose::{LOWEST, NEXT, wide};
-
-// With no node linked yet: parents, and each node as its own lowest child.
-fn unlinked(parents: &[u8]) -> [u8; 768]
-    requires { length parents.now ≤ 256 }
-    ensures { Linked (length parents.now) parents.now result }
-{
-    let mut t = [0u8; 768];
-    let mut v = 0;
-    while v < parents.len() {
-        t[v] = parents[v];
-        t[LOWEST + v] = v as u8;
-        v += 1;
-    }
-    t
+// For each node its lowest child, or itself if it has none; and the next child of its parent, or
+// the parent itself behind the last.
+#[derive(Drop)]
+pub struct Children {
+    pub lowest: [u8; 256],
+    pub next: [u8; 256],
 }
 
-// Puts v before the children of p that are linked already.
-pub fn link(t: &mut [u8; 768], v: usize, p: usize)
-    requires { (v < 256) × (p < 256) }
-    ensures { t.new ≡ linked_to t.old v p }
-{
-    t[NEXT + v] = t[LOWEST + p];
-    t[LOWEST + p] = v as u8;
+impl Children {
+    // With none of n nodes linked yet: each as its own lowest child.
+    pub fn unlinked(n: usize) -> Children
+        requires { n ≤ 256 }
+        ensures { Alone n result }
+    {
+        let mut lowest = [0u8; 256];
+        for v in 0..n {
+            lowest[v] = v as u8;
+        }
+        Children {
+            lowest,
+            next: [0; 256],
+        }
+    }
+
+    // Puts v before the children of p that are linked already.
+    pub fn link(&mut self, v: usize, p: usize)
+        requires { (v < 256) × (p < 256) }
+        ensures { self.new ≡ linked_to self.old v p }
+    {
+        self.next[v] = self.lowest[p];
+        self.lowest[p] = v as u8;
+    }
 }
 
 // Linked from the highest node down, so that each parent's children come in rising order.
-pub fn tables(parents: &[u8]) -> [u8; 768]
+pub fn tables(parents: &[u8]) -> Children
     requires { Parents parents.now }
     ensures { Tables parents.now result }
 {
-    let mut t = unlinked(parents);
-    let mut v = parents.len();
-    while v > 0 {
-        v -= 1;
-        let p = wide(parents[v]);
+    let mut t = Children::unlinked(parents.len());
+    for v in (0..parents.len()).rev() {
+        let p = parents[v] as usize;
         if p != v {
-            link(&mut t, v, p);
+            t.link(v, p);
         }
     }
     t

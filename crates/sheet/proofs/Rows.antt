@@ -28,9 +28,11 @@ stop_inner zero n = absurd (n refl)
 stop_inner (suc k) n = refl
 
 module _ (vs : List ℕ) (i : ℕ) (h : i < length vs) where
-  pub line_next : line (drop i vs) ≡ (decimal (get_or vs i 0) ++ (stopBefore (length vs - (i + 1)) ∷ [])) ++ line (drop (i + 1) vs)
+  pub line_next : line (drop i vs) ≡ (decimal (get_or vs i 0) ++ (stopBefore (length vs - 1 - i) ∷ [])) ++ line (drop (i + 1) vs)
   unfolding line
-  line_next = rw (drop_next vs i h, length-drop (i + 1) vs) (sym (append_assoc (decimal (get_or vs i 0)) _ _))
+  line_next =
+      let n : length vs - (i + 1) ≡ length vs - 1 - i = omega arith in
+      rw (drop_next vs i h, length-drop (i + 1) vs, n) (sym (append_assoc (decimal (get_or vs i 0)) _ _))
 
   pub length_line_next : length (line (drop i vs)) ≡ length (decimal (get_or vs i 0)) + 1 + length (line (drop (i + 1) vs))
   length_line_next = rw line_next (simp length-append (omega arith))
@@ -63,35 +65,29 @@ module _ (y : Yard) where
   unfolding header text
   length_yard_sheet = sym (length-append header (rows y 0)) ∙ ap length rows_all
 
--- the lines of the moves from byte i of a plan on
-abbrev pub moves : List ℕ → ℕ → List ℕ
-moves plan i = lines (map (λ (m : Move). m.from ∷ m.to ∷ []) (moves_of (drop i plan)))
+-- the lines of a plan's moves: that of the first, then those of the rest
+abbrev pub moves : List ℕ → List ℕ
+moves plan = lines (map (λ (m : Move). m.from ∷ m.to ∷ []) (moves_of plan))
 
-module _ (plan : List ℕ) where
-  pub moves_next : (i : ℕ) → i + 1 < length plan → moves plan i ≡ line (get_or plan i 0 ∷ get_or plan (i + 1) 0 ∷ []) ++ moves plan (i + 2)
-  unfolding lines moves_of
-  moves_next i h =
-      let n : i + 1 + 1 ≡ i + 2 = omega arith in
-      rw (drop_next plan i (omega arith), drop_next plan (i + 1) h, n)
+pub moves_next : (pair rest : List ℕ) → length pair ≡ 2 → moves (pair ++ rest) ≡ line (get_or pair 0 0 ∷ get_or pair 1 0 ∷ []) ++ moves rest
+unfolding lines moves_of
+moves_next [] rest h = absurd (omega arith)
+moves_next (a ∷ []) rest h = absurd (omega arith)
+moves_next (a ∷ b ∷ []) rest h = refl
+moves_next (a ∷ b ∷ d ∷ pair) rest h = absurd (omega arith)
 
-  pub length_moves_next : (i : ℕ) → i + 1 < length plan → length (moves plan i) ≡ length (line (get_or plan i 0 ∷ get_or plan (i + 1) 0 ∷ [])) + length (moves plan (i + 2))
-  length_moves_next i h = ap length (moves_next i h) ∙ length-append (line (get_or plan i 0 ∷ get_or plan (i + 1) 0 ∷ [])) (moves plan (i + 2))
+pub moves_end : (plan : List ℕ) → length plan < 2 → moves plan ≡ []
+unfolding lines moves_of
+moves_end [] h = refl
+moves_end (a ∷ []) h = refl
+moves_end (a ∷ b ∷ plan) h = absurd (omega arith)
 
-  pub moves_end : (i : ℕ) → length plan ≤ i + 1 → moves plan i ≡ []
-  unfolding lines moves_of
-  moves_end i h = rw (short (drop i plan) (rw length-drop (omega arith)))
-    where
-      short : (l : List ℕ) → length l ≤ 1 → moves_of l ≡ []
-      short [] h = refl
-      short (a ∷ []) h = refl
-      short (a ∷ b ∷ l) h = absurd (omega arith)
-
-  pub moves_all : text "from to\n" ++ moves plan 0 ≡ move_lines (moves_of plan)
-  unfolding move_lines
-  moves_all = refl
+pub moves_all : (plan : List ℕ) → text "from to\n" ++ moves plan ≡ move_lines (moves_of plan)
+unfolding move_lines
+moves_all plan = refl
 
 -- which take at most 4 bytes for each of a plan's
-pub length_moves : (plan : List ℕ) → ((i : ℕ) → get_or plan i 0 < 256) → length (moves plan 0) ≤ 4 * length plan
+pub length_moves : (plan : List ℕ) → ((i : ℕ) → get_or plan i 0 < 256) → length (moves plan) ≤ 4 * length plan
 unfolding lines moves_of
 length_moves [] h = omega arith
 length_moves (a ∷ []) h = omega arith
@@ -101,7 +97,7 @@ length_moves (a ∷ b ∷ plan) h =
 
 pub length_move_lines : (plan : List ℕ) → ((i : ℕ) → get_or plan i 0 < 256) → length (move_lines (moves_of plan)) ≤ 8 + 4 * length plan
 unfolding text
-length_move_lines plan h = omega (arith, ap length (moves_all plan), length-append (text "from to\n") (moves plan 0), length_moves plan h)
+length_move_lines plan h = omega (arith, ap length (moves_all plan), length-append (text "from to\n") (moves plan), length_moves plan h)
 
 -- a line of two values
 pub length_pair : (n p : ℕ) → n < 1_000_000 → p < 1_000_000 → length (line (n ∷ p ∷ [])) ≤ 14

@@ -1,13 +1,14 @@
 -- Storing words into a list: a word and one behind it are stored as one, and what is left of a word is stored behind its front. So a loop that
 -- stores a word part by part has, at each turn, the rest to store, which makes of the list what the whole makes of the list at the start.
 use mathlib.Core.Path.{◌≡◌, refl, sym, ap, ◌∙◌, subst}
-use mathlib.Core.List.{List, [], ◌∷◌, ◌++◌}
+use mathlib.Core.List.{List, [], ◌∷◌, ◌++◌, append_assoc}
 use Prim.Native.Nat.{ℕ, suc, ◌+◌, ◌/◌, ◌%◌, ◌≤◌, ◌<◌}
 use native.Mathlib.Nat.{zero-add, add-zero, add-suc, suc-add}
 use native.Mathlib.Numerals.{add-one}
 use native.Mathlib.Omega.{arith}
 use lib.ListN.{length, take, drop, set, get_or, length-append}
-use lib.Seq.{take-append_seam, drop-cons, set_comm, sets, length-sets, sets-eq}
+use lib.Seq.{take-append_seam, drop-cons, drop-drop, set_comm, sets, length-sets, sets-eq}
+use borrow.Rule.Slice.PartMut.{put_mid}
 use Rattle.model.specs.Calls.Answers.{overwrite}
 use Rattle.model.specs.Sheets.{decimal}
 use Rattle.sheet.specs.Written.{Written}
@@ -49,6 +50,10 @@ written_length {w} {at} {old = old} a = ap length a.list ∙ length-sets old at 
 
 pub written_none : (at : ℕ) (l : List ℕ) → Written [] at l at l
 written_none at l = record { list = refl; end = omega arith }
+
+-- a copy into a part
+pub written_part : (w : List ℕ) (at k : ℕ) (l : List ℕ) → k ≡ length w → at + length w ≤ length l → Written w at l (at + length w) (put_mid at k l w)
+written_part w at k l e h = record { list = rw (e, drop-drop, sets-eq w l at h) (sym (append_assoc (take at l) w (drop (at + length w) l))); end = refl }
 
 pub written_byte : (b at : ℕ) (l : List ℕ) → Written (b ∷ []) at l (at + 1) (set l at b)
 written_byte b at l = record { list = refl; end = refl }

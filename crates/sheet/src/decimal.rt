@@ -7,6 +7,7 @@ ghost use Rattle.sheet.specs.Written.{Written};
 fn width(n: usize) -> usize
     ensures { result ≡ length (decimal n) }
 {
+    // The library's `ilog10` is a little slower here.
     let mut rest = n;
     let mut count = 1;
     while rest >= 10 {
@@ -21,15 +22,16 @@ pub fn put_decimal(out: &mut [u8], at: usize, n: usize) -> usize
     requires { at + length (decimal n) ≤ length out.old }
     ensures { Written (decimal n) at out.old result out.new }
 {
+    // A `for` over the places, backwards, takes about half as long again.
     let end = at + width(n);
     let mut i = end - 1;
     let mut rest = n;
     while rest >= 10 {
-        out[i] = 48 + (rest % 10) as u8;
+        out[i] = b'0' + (rest % 10) as u8;
         rest /= 10;
         i -= 1;
     }
-    out[i] = 48 + rest as u8;
+    out[i] = b'0' + rest as u8;
     end
 }
 
@@ -38,10 +40,7 @@ pub fn put_text(out: &mut [u8], at: usize, text: &[u8]) -> usize
     requires { at + length text.now ≤ length out.old }
     ensures { Written text.now at out.old result out.new }
 {
-    let mut i = 0;
-    while i < text.len() {
-        out[at + i] = text[i];
-        i += 1;
-    }
-    at + i
+    let end = at + text.len();
+    out[at..end].copy_from_slice(text);
+    end
 }

@@ -9,10 +9,7 @@ use crate::decimal::put_decimal;
 pub fn stop_before(others: usize) -> u8
     ensures { result ≡ stopBefore others }
 {
-    if others == 0 {
-        return b'\n';
-    }
-    b' '
+    if others == 0 { b'\n' } else { b' ' }
 }
 
 // Writes a line of values from `at` on, and answers the place behind it.
@@ -21,11 +18,9 @@ pub fn put_line(out: &mut [u8], at: usize, values: &[usize]) -> usize
     ensures { Written (line values.now) at out.old result out.new }
 {
     let mut end = at;
-    let mut i = 0;
-    while i < values.len() {
-        end = put_decimal(out, end, values[i]);
-        i += 1;
-        out[end] = stop_before(values.len() - i);
+    for (i, &value) in values.iter().enumerate() {
+        end = put_decimal(out, end, value);
+        out[end] = stop_before(values.len() - 1 - i);
         end += 1;
     }
     end

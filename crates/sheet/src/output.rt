@@ -24,12 +24,8 @@ pub fn put_moves(plan: &[u8], out: &mut [u8]) -> usize
     ensures { Written (move_lines (moves_of plan.now)) 0 out.old result out.new }
 {
     let mut at = put_text(out, 0, &MOVE_HEAD);
-    let mut i = 0;
-    while i + 1 < plan.len() {
-        let from = plan[i] as usize;
-        let to = plan[i + 1] as usize;
-        at = put_line(out, at, &[from, to]);
-        i += 2;
+    for pair in plan.chunks_exact(2) {
+        at = put_line(out, at, &[pair[0] as usize, pair[1] as usize]);
     }
     at
 }

@@ -26,10 +26,8 @@ fn put_edges(ups: &[u32], downs: &[u32], root: usize, out: &mut [u8], at: usize)
     ensures { Written (edge_lines ups.now downs.now root (length ups.now)) at out.old result out.new }
 {
     let mut end = at;
-    let mut v = 0;
-    while v < ups.len() {
+    for v in 0..ups.len() {
         end = put_edge(out, end, v, root, ups[v], downs[v]);
-        v += 1;
     }
     end
 }

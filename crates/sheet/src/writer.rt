@@ -8,7 +8,7 @@ ghost use Rattle.sheet.specs.Written.{SameLength, Written};
 use crate::decimal::put_text;
 use crate::line::put_line;
 use judge::test::test_lengths;
-use model::{Counted, Done, Refusal};
+use model::{Lists, Refusal};
 
 // The header of a yard sheet.
 pub const HEADER_BYTES: usize = 30;
@@ -18,7 +18,8 @@ pub const HEADER: [u8; HEADER_BYTES] = *b"berth parent car target depth\n";
 // Room for every sheet.
 const SHEET_BYTES: usize = 5_040;
 
-// Writes the sheet of four lists at the front of a list, and answers its length.
+// Writes the sheet of four lists at the front of a list, and answers its length. Here and below the four
+// are not one struct: the sheet's length needs that entries are bytes, which is known of lists lent alone.
 fn put_sheet(
     parents: &[u8],
     pebbles: &[u8],
@@ -31,14 +32,12 @@ fn put_sheet(
     ensures { Written (yard_sheet (given parents.now pebbles.now targets.now depths.now)) 0 sheet.old result sheet.new }
 {
     let mut at = put_text(sheet, 0, &HEADER);
-    let mut v = 0;
-    while v < parents.len() {
+    for v in 0..parents.len() {
         let parent = parents[v] as usize;
         let pebble = pebbles[v] as usize;
         let target = targets[v] as usize;
         let depth = depths[v] as usize;
         at = put_line(sheet, at, &[v, parent, pebble, target, depth]);
-        v += 1;
     }
     at
 }
@@ -51,19 +50,21 @@ pub fn write_sheet(
     targets: &[u8],
     depths: &[u8],
     sheet: &mut [u8],
-) -> Counted
+) -> Result<usize, Refusal>
     ensures result_value { paper_counted result ≡ write_answer (given parents.now pebbles.now targets.now depths.now) sheet.old }
     ensures sheet_value { sheet.new ≡ write_list (given parents.now pebbles.now targets.now depths.now) sheet.old }
 {
-    let lengths = test_lengths(parents, pebbles, targets, depths);
-    if let Done::Refused(r) = lengths {
-        return Counted::Refused(r);
-    }
+    test_lengths(&Lists {
+        parents,
+        pebbles,
+        targets,
+        depths,
+    })?;
     let mut whole = [0u8; SHEET_BYTES];
     let needed = put_sheet(parents, pebbles, targets, depths, &mut whole);
     if needed > sheet.len() {
-        return Counted::Refused(Refusal::ListTooShort(needed));
+        return Err(Refusal::ListTooShort(needed));
     }
     put_text(sheet, 0, &whole[..needed]);
-    Counted::Number(needed)
+    Ok(needed)
 }

@@ -1,50 +1,35 @@
 // The account call, the bound, the displaced, and the longest plan of n nodes.
-use crate::signed::{signed_list, signed_part};
-use cases::kinds::kind;
-use cases::lines::field;
-use cases::lists::value;
-use cases::print::{counted, done, measured, text};
+use crate::given::Lists;
+use crate::signed::Demands;
+use anyhow::Result;
+use cases::lists::number;
+use cases::print::Answer;
 use demand::call::demands;
 use figures::bound::{length_bound, longest_plan};
 use figures::displaced::displaced;
+use std::alloc::Global;
 
-// The answer, and the list, which is full of 9 before the call.
-fn account(line: &[u8], parents: &[u8], pebbles: &[u8], targets: &[u8], depths: &[u8]) {
-    let mut list = [9i16; 300];
-    let list = signed_part(field(line, 6), &mut list);
-    done(demands(parents, pebbles, targets, depths, list));
-    signed_list(b", list", list);
+// The answer, and the list of a length, which is full of 9 before the call.
+pub fn account(alloc: Global, lists: &Lists, length: &str) -> Result<String> {
+    let mut list = vec![in alloc; 9; number(length)?]?;
+    let answer = Answer(demands(&lists.lent(), &mut list));
+    Ok(format!(in alloc; "{answer}, list{}", Demands(&list))?)
 }
 
 // The answer for 256 nodes, and the first two and the last two demands.
-fn account_ends(parents: &[u8], pebbles: &[u8], targets: &[u8], depths: &[u8]) {
-    let mut list = [9i16; 256];
-    done(demands(parents, pebbles, targets, depths, &mut list));
-    signed_list(b", ends", &[list[0], list[1], list[254], list[255]]);
+pub fn account_ends(alloc: Global, lists: &Lists) -> Result<String> {
+    let mut list = [9; 256];
+    let answer = Answer(demands(&lists.lent(), &mut list));
+    let ends = [list[0], list[1], list[254], list[255]];
+    Ok(format!(in alloc; "{answer}, ends{}", Demands(&ends))?)
 }
 
-fn figures(parents: &[u8], pebbles: &[u8], targets: &[u8], depths: &[u8]) {
-    text(b"bound ");
-    measured(length_bound(parents, pebbles, targets, depths));
-    text(b", displaced ");
-    counted(displaced(parents, pebbles, targets, depths));
+pub fn figures(alloc: Global, lists: &Lists) -> Result<String> {
+    let bound = Answer(length_bound(&lists.lent()));
+    let displaced = Answer(displaced(&lists.lent()));
+    Ok(format!(in alloc; "bound {bound}, displaced {displaced}")?)
 }
 
-pub fn case(line: &[u8], parents: &[u8], pebbles: &[u8], targets: &[u8], depths: &[u8]) -> bool {
-    match kind(line, b"account 6 | ends 5 | figures 5") {
-        0 => account(line, parents, pebbles, targets, depths),
-        1 => account_ends(parents, pebbles, targets, depths),
-        2 => figures(parents, pebbles, targets, depths),
-        _ => return false,
-    }
-    true
-}
-
-// A case on a number of nodes alone.
-pub fn case_alone(line: &[u8]) -> bool {
-    match kind(line, b"longest 2") {
-        0 => counted(longest_plan(value(field(line, 2)))),
-        _ => return false,
-    }
-    true
+pub fn longest(alloc: Global, n: &str) -> Result<String> {
+    Ok(format!(in alloc; "{}", Answer(longest_plan(number(n)?)))?)
 }

@@ -1,44 +1,21 @@
-// Lists of demands: parts of them, and in print.
-use cases::lines::bad;
-use cases::lists::value;
-use cases::print::{figure, text};
-use demand::signed::size;
+// Lists of demands in print.
+use std::fmt;
 
-// As many of a list's first entries as a field says.
-pub fn signed_part<'a>(digits: &[u8], list: &'a mut [i16]) -> &'a mut [i16] {
-    let n = value(digits);
-    if n < list.len() {
-        return &mut list[..n];
-    }
-    bad(digits);
-    list
-}
+// The demands of a list, each behind a space. A number outside −2,048 to 2,048, which no demand is,
+// is told as 9999 with its sign.
+#[derive(Drop)]
+pub struct Demands<'a>(pub &'a [i16]);
 
-// A number's size, and 9,999 for a number outside −2,048 to 2,048, which no demand is.
-fn magnitude(x: i16) -> usize {
-    if x < -2048 {
-        return 9999;
-    }
-    if x > 2048 {
-        return 9999;
-    }
-    size(x)
-}
-
-fn signed_entry(x: i16) {
-    if x < 0 {
-        figure(b" -", magnitude(x));
-        return;
-    }
-    figure(b" ", magnitude(x));
-}
-
-// A list with its name before it.
-pub fn signed_list(name: &[u8], list: &[i16]) {
-    text(name);
-    let mut i = 0;
-    while i < list.len() {
-        signed_entry(list[i]);
-        i += 1;
+impl fmt::Display for Demands<'_> {
+    fn fmt<W: fmt::Write>(&self, f: &mut fmt::Formatter<W>) -> fmt::Result {
+        for &demand in self.0 {
+            let told = match demand {
+                ..-2048 => -9999,
+                -2048..=2048 => demand,
+                _ => 9999,
+            };
+            write!(f, " {told}")?;
+        }
+        Ok(())
     }
 }

@@ -1,71 +1,64 @@
-// Yard states, and pushes of them. What is told ends with the size and the first four pebbles of the yard that came back.
-use cases::kinds::kind;
-use cases::lines::field;
-use cases::lists::{entries, value};
-use cases::print::{done, figure, first};
+// Yard states, and pushes of them. What is told ends with the size and the first four pebbles of
+// the yard that came back, which is then the state.
+use crate::given::Lists;
+use anyhow::{Context, Result};
+use cases::lists::number;
+use cases::print::{Answer, first};
+use std::alloc::{AllocError, Global};
+use std::mem;
 use yard::state::{Answered, Yard};
 
-fn show(a: Answered) -> Yard {
-    let answer = a.answer;
-    let yard = a.yard;
-    let pebbles = yard.pebbles;
-    done(answer);
-    figure(b", size ", yard.size);
-    first(b" pebbles", &pebbles, 4);
-    yard
+fn told(alloc: Global, state: &mut Yard, answered: Answered) -> Result<String, AllocError> {
+    *state = answered.yard;
+    let answer = Answer(answered.answer);
+    let size = state.size;
+    format!(in alloc; "{answer}, size {size} pebbles{}", first(&state.pebbles))
 }
 
-// A push; its nodes stand in two fields.
-fn push_state(line: &[u8], yard: Yard, from_field: usize, to_field: usize) -> Yard {
-    let from = value(field(line, from_field));
-    let to = value(field(line, to_field));
-    show(yard.push(from, to))
+// A push of the state.
+pub fn push(alloc: Global, state: &mut Yard, from: &str, to: &str) -> Result<String> {
+    let (from, to) = (number(from)?, number(to)?);
+    let before = mem::replace(state, Yard::new());
+    Ok(told(alloc, state, before.push(from, to))?)
+}
+
+// A push of a fresh yard.
+pub fn push_fresh(alloc: Global, state: &mut Yard, from: &str, to: &str) -> Result<String> {
+    *state = Yard::new();
+    push(alloc, state, from, to)
 }
 
 // A yard made from lists.
-fn made(line: &[u8]) -> Yard {
-    let mut parents = [0u8; 300];
-    let mut pebbles = [0u8; 300];
-    let mut targets = [0u8; 300];
-    let mut depths = [0u8; 300];
-    let parents = entries(field(line, 2), &mut parents);
-    let pebbles = entries(field(line, 3), &mut pebbles);
-    let targets = entries(field(line, 4), &mut targets);
-    let depths = entries(field(line, 5), &mut depths);
-    show(Yard::from_lists(parents, pebbles, targets, depths))
+pub fn make(alloc: Global, state: &mut Yard, lists: &Lists) -> Result<String> {
+    let made = Yard::from_lists(&lists.lent());
+    Ok(told(alloc, state, made)?)
 }
 
-// A state as it stands in the fields, with zeros behind each list.
-fn state(line: &[u8]) -> Yard {
-    let mut parents = [0u8; 256];
-    let mut pebbles = [0u8; 256];
-    let mut targets = [0u8; 256];
-    let mut depths = [0u8; 256];
-    entries(field(line, 2), &mut parents);
-    entries(field(line, 3), &mut pebbles);
-    entries(field(line, 4), &mut targets);
-    entries(field(line, 5), &mut depths);
-    let size = value(field(line, 6));
-    Yard {
-        parents,
-        pebbles,
-        targets,
-        depths,
-        size,
-    }
+// A list with zeros behind it.
+fn padded(list: &[u8]) -> Result<[u8; Yard::MAX]> {
+    let mut array = [0; Yard::MAX];
+    let front = array
+        .get_mut(..list.len())
+        .context("a list that is too long")?;
+    front.copy_from_slice(list);
+    Ok(array)
 }
 
-// Which of the kinds of a state a case is of.
-pub fn state_kind(line: &[u8]) -> usize {
-    kind(line, b"fresh 3 | made 5 | then 3 | state 8")
-}
-
-// A case of such a kind, with the yard before it; the yard that came back.
-pub fn case(line: &[u8], which: usize, yard: Yard) -> Yard {
-    match which {
-        0 => push_state(line, Yard::new(), 2, 3),
-        1 => made(line),
-        2 => push_state(line, yard, 2, 3),
-        _ => push_state(line, state(line), 7, 8),
-    }
+// A push of a state whose arrays begin with the lists and go on with zeros.
+pub fn push_state(
+    alloc: Global,
+    state: &mut Yard,
+    lists: &Lists,
+    size: &str,
+    from: &str,
+    to: &str,
+) -> Result<String> {
+    *state = Yard {
+        parents: padded(&lists.parents)?,
+        pebbles: padded(&lists.pebbles)?,
+        targets: padded(&lists.targets)?,
+        depths: padded(&lists.depths)?,
+        size: number(size)?,
+    };
+    push(alloc, state, from, to)
 }

@@ -1,6 +1,6 @@
 // The call.
 ghost use Rattle.std.specs.Prelude.{◌≡◌, ◌&&◌, ◌≤◌, ◌<◌, length, leb, ltb};
-ghost use Rattle.model.specs.Given.{given, handed};
+ghost use Rattle.model.specs.Given.{listed};
 ghost use Rattle.model.specs.Judge.{first_of, Tree};
 ghost use Rattle.model.specs.Wear as Wear;
 ghost use Rattle.model.specs.Calls.Answers.{answer};
@@ -15,91 +15,49 @@ use checker::check::test_plan;
 use checker::obey::whole_plan;
 use judge::totals::test_matched;
 use lists::find::first_below;
-use model::{Done, Refusal, Worn};
+use model::{Lists, Refusal, Worn};
 
 // Obeys a whole plan on a copy of the pebbles of a tree, counting: refusals 10 to 13 move by move, then 14.
-fn wear_to_end(
-    parents: &[u8],
-    pebbles: &[u8],
-    targets: &[u8],
-    depths: &[u8],
-    plan: &[u8],
-    width: usize,
-) -> Worn
-    requires { Tree (handed parents.now pebbles.now targets.now depths.now) × AskedWear plan.now width }
-    ensures { paper_worn result ≡ answer (first_of (obey_tests (given parents.now pebbles.now targets.now depths.now) (moves_of plan.now))) (Wear.wear (given parents.now pebbles.now targets.now depths.now) width (moves_of plan.now)) }
+fn wear_to_end(yard: &Lists, plan: &[u8], width: usize) -> Result<Worn, Refusal>
+    requires { Tree (listed yard.now) × AskedWear plan.now width }
+    ensures { paper_worn result ≡ answer (first_of (obey_tests (listed yard.now) (moves_of plan.now))) (Wear.wear (listed yard.now) width (moves_of plan.now)) }
 {
-    let n = parents.len();
+    let n = yard.parents.len();
     let mut counts = [0u8; 256];
-    let worn = count_copy(
-        parents,
-        pebbles,
-        &mut counts[..n],
-        targets,
-        depths,
-        plan,
-        width,
-    );
-    if let Worn::Refused(r) = worn {
-        return Worn::Refused(r);
+    let worn = count_copy(yard, &mut counts[..n], plan, width)?;
+    if let Some(empty) = first_below(&counts[..n], yard.targets) {
+        return Err(Refusal::TargetEmpty(empty));
     }
-    let empty = first_below(&counts[..n], targets);
-    if empty < n {
-        return Worn::Refused(Refusal::TargetEmpty(empty));
-    }
-    worn
+    Ok(worn)
 }
 
 // The wear of a plan that has a stretch of this width.
-fn wear_of_stretches(
-    parents: &[u8],
-    pebbles: &[u8],
-    targets: &[u8],
-    depths: &[u8],
-    plan: &[u8],
-    width: usize,
-) -> Worn
+fn wear_of_stretches(yard: &Lists, plan: &[u8], width: usize) -> Result<Worn, Refusal>
     requires { (0 < width) × (width ≤ length (moves_of plan.now)) }
-    ensures { paper_worn result ≡ wear_answer (given parents.now pebbles.now targets.now depths.now) plan.now width }
+    ensures { paper_worn result ≡ wear_answer (listed yard.now) plan.now width }
 {
-    let tested = test_matched(parents, pebbles, targets, depths);
-    if let Done::Refused(r) = tested {
-        return Worn::Refused(r);
-    }
+    test_matched(yard)?;
     if !whole_plan(plan) {
-        return Worn::Refused(Refusal::PlanLength);
+        return Err(Refusal::PlanLength);
     }
-    wear_to_end(parents, pebbles, targets, depths, plan, width)
+    wear_to_end(yard, plan, width)
 }
 
 // Whether a plan has a stretch of this width: else refusal 28 meets it.
 fn has_stretch(plan: &[u8], width: usize) -> bool
     ensures { result ≡ (ltb 0 width) && (leb width (length (moves_of plan.now))) }
 {
-    if width == 0 {
-        return false;
-    }
-    width <= plan.len() / 2
+    0 < width && width <= plan.len() / 2
 }
 
 // The most crossings of one edge within any `width` moves in a row of an accepted plan, the first move of the first stretch that has them, and the lowest such
 // edge in it. Refused as by the checker, then with 28 for a width of 0 or above the number of moves. Linear in moves and nodes, whatever the width is.
-pub fn wear(
-    parents: &[u8],
-    pebbles: &[u8],
-    targets: &[u8],
-    depths: &[u8],
-    plan: &[u8],
-    width: u32,
-) -> Worn
-    ensures { paper_worn result ≡ wear_answer (given parents.now pebbles.now targets.now depths.now) plan.now width }
+pub fn wear(yard: &Lists, plan: &[u8], width: u32) -> Result<Worn, Refusal>
+    ensures { paper_worn result ≡ wear_answer (listed yard.now) plan.now width }
 {
     if has_stretch(plan, width as usize) {
-        return wear_of_stretches(parents, pebbles, targets, depths, plan, width as usize);
+        return wear_of_stretches(yard, plan, width as usize);
     }
-    let tested = test_plan(parents, pebbles, targets, depths, plan);
-    if let Done::Refused(r) = tested {
-        return Worn::Refused(r);
-    }
-    Worn::Refused(Refusal::Width)
+    test_plan(yard, plan)?;
+    Err(Refusal::Width)
 }

@@ -6,7 +6,7 @@ ghost use Rattle.model.specs.Paper.{paper_done};
 
 use crate::step::step;
 use judge::test::test_yard;
-use model::Done;
+use model::{Lists, Refusal};
 
 // The tests of the yard, then the step: refusals 1 to 6, then 10 to 13 with place 0. Refused, the pebbles stay as they were.
 pub fn push_lists(
@@ -16,13 +16,15 @@ pub fn push_lists(
     depths: &[u8],
     from: usize,
     to: usize,
-) -> Done
+) -> Result<(), Refusal>
     ensures result_value { paper_done result ≡ push_fault (given parents.now pebbles.old targets.now depths.now) (push from to) }
     ensures pebbles_value { pebbles.new ≡ pushed_pebbles (given parents.now pebbles.old targets.now depths.now) (push from to) }
 {
-    let tested = test_yard(parents, pebbles, targets, depths);
-    if let Done::Refused(r) = tested {
-        return Done::Refused(r);
-    }
+    test_yard(&Lists {
+        parents,
+        pebbles,
+        targets,
+        depths,
+    })?;
     step(parents, pebbles, depths, from, to, 0)
 }

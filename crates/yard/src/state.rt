@@ -1,7 +1,7 @@
 // The yard state, by value, and one push of it.
 ghost use Rattle.std.specs.Prelude.{◌≡◌, ◌≤◌, length};
 ghost use Rattle.model.specs.Yard.{max_size, fresh};
-ghost use Rattle.model.specs.Given.{given};
+ghost use Rattle.model.specs.Given.{listed};
 ghost use Rattle.model.specs.Judge.{judge};
 ghost use Rattle.model.specs.Push.{push, push_fault, pushed};
 ghost use Rattle.model.specs.Paper.{paper_done};
@@ -10,7 +10,7 @@ ghost use Rattle.yard.specs.State.{yard_in, state_of, or_fresh, state_after};
 
 use crate::push::push_lists;
 use judge::test::test_yard;
-use model::{Done, Refusal};
+use model::{Lists, Refusal};
 
 // A yard of up to `Yard::MAX` nodes: the first `size` entries of each array count.
 #[derive(Drop)]
@@ -26,7 +26,7 @@ pub struct Yard {
 #[derive(Drop)]
 pub struct Answered {
     pub yard: Yard,
-    pub answer: Done,
+    pub answer: Result<(), Refusal>,
 }
 
 // A list of at most `Yard::MAX` entries, continued by zeros.
@@ -35,11 +35,7 @@ fn padded(list: &[u8]) -> [u8; Yard::MAX]
     ensures { result ≡ State.padded max_size list.now }
 {
     let mut array = [0u8; Yard::MAX];
-    let mut i = 0;
-    while i < list.len() {
-        array[i] = list[i];
-        i += 1;
-    }
+    array[..list.len()].copy_from_slice(list);
     array
 }
 
@@ -66,27 +62,27 @@ impl Yard {
     }
 
     // The yard of four lists; refused as they are (1 to 6), a fresh one. The last clause says what lies behind its nodes too: zeros.
-    pub fn from_lists(parents: &[u8], pebbles: &[u8], targets: &[u8], depths: &[u8]) -> Answered
-        ensures answer_value { paper_done result.answer ≡ judge (given parents.now pebbles.now targets.now depths.now) }
-        ensures yard_value { yard_in result.yard ≡ or_fresh (given parents.now pebbles.now targets.now depths.now) }
-        ensures yard_value_2 { result.yard ≡ state_of (or_fresh (given parents.now pebbles.now targets.now depths.now)) }
+    pub fn from_lists(yard: &Lists) -> Answered
+        ensures answer_value { paper_done result.answer ≡ judge (listed yard.now) }
+        ensures yard_value { yard_in result.yard ≡ or_fresh (listed yard.now) }
+        ensures yard_value_2 { result.yard ≡ state_of (or_fresh (listed yard.now)) }
     {
-        let answer = test_yard(parents, pebbles, targets, depths);
-        if let Done::Refused(r) = answer {
+        let answer = test_yard(yard);
+        if let Err(r) = answer {
             return Answered {
                 yard: Yard::new(),
-                answer: Done::Refused(r),
+                answer: Err(r),
             };
         }
         Answered {
             yard: Yard {
-                parents: padded(parents),
-                pebbles: padded(pebbles),
-                targets: padded(targets),
-                depths: padded(depths),
-                size: parents.len(),
+                parents: padded(yard.parents),
+                pebbles: padded(yard.pebbles),
+                targets: padded(yard.targets),
+                depths: padded(yard.depths),
+                size: yard.parents.len(),
             },
-            answer: Done::Accepted,
+            answer: Ok(()),
         }
     }
 
@@ -101,7 +97,7 @@ impl Yard {
         if size > Yard::MAX {
             return Answered {
                 yard: self,
-                answer: Done::Refused(Refusal::NodeCount(0)),
+                answer: Err(Refusal::NodeCount(0)),
             };
         }
         let parents = self.parents;

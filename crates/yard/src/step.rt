@@ -8,7 +8,7 @@ ghost use Rattle.model.specs.Calls.Answers.{lent};
 ghost use Rattle.model.specs.Paper.{paper, paper_done};
 ghost use Rattle.yard.specs.Given.{given_bare, handed_bare, Alike};
 
-use model::{Done, Refusal};
+use model::Refusal;
 
 // Whether one of two nodes is the other's parent, and they differ.
 fn adjacent(parents: &[u8], a: usize, b: usize) -> bool
@@ -85,14 +85,14 @@ pub fn test_move(
     from: usize,
     to: usize,
     place: usize,
-) -> Done
+) -> Result<(), Refusal>
     requires { Alike parents.now pebbles.now depths.now }
     ensures { paper_done result ≡ move_fault (given_bare parents.now pebbles.now depths.now) (push from to) place }
 {
     if !free(parents, pebbles, depths, from, to) {
-        return Done::Refused(fault(parents, pebbles, depths, from, to, place));
+        return Err(fault(parents, pebbles, depths, from, to, place));
     }
-    Done::Accepted
+    Ok(())
 }
 
 // Judges a move likewise, and makes it if none meets it; a refusal leaves the
@@ -104,17 +104,17 @@ pub fn step(
     from: usize,
     to: usize,
     place: usize,
-) -> Done
+) -> Result<(), Refusal>
     requires { Alike parents.now pebbles.old depths.now }
     ensures result_value { paper_done result ≡ move_fault (given_bare parents.now pebbles.old depths.now) (push from to) place }
     ensures pebbles_value { pebbles.new ≡ lent (paper_done result) (shifted pebbles.old (push from to)) pebbles.old }
 {
     if !free(parents, pebbles, depths, from, to) {
-        return Done::Refused(fault(parents, pebbles, depths, from, to, place));
+        return Err(fault(parents, pebbles, depths, from, to, place));
     }
     let first = pebbles[from];
     let second = pebbles[to];
     pebbles[from] = first - 1;
     pebbles[to] = second + 1;
-    Done::Accepted
+    Ok(())
 }

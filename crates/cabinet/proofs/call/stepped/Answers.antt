@@ -6,8 +6,8 @@ use Rattle.laws.proofs.Blocks.{step_fault_none, registers_of_block_of}
 use Rattle.cabinet.proofs.Laws.{left_refused, left_accepted}
 use Rattle.cabinet.proofs.call.stepped.Goals as goal
 
-pub returns-in-Refused : goal.returns-in-Refused
-returns-in-Refused c = left_refused _ c.args.plan.now c.args.failed c.args.r (sees c.test_step-tested.ensures c.in-Refused.is)
+pub returns-in-Err : goal.returns-in-Err
+returns-in-Err c = left_refused _ c.args.plan.now c.args.failed c.args.r (sees c.test_step-tested.ensures c.in-Err.is)
 
 pub tell-told-requires : goal.tell-told-requires
 tell-told-requires c =
@@ -23,8 +23,8 @@ returns-then-raised c =
     left_accepted _ c.args.plan.now c.args.failed c.args.r e _ _ _ c.tell-told.ensures c.next_registers-next.ensures
     (sym c.if-raised.true ∙ c.raised.ensures) c.push_next.ensures
 
-pub returns : goal.returns
-returns c =
+pub returns-else-raised : goal.returns-else-raised
+returns-else-raised c =
     let e = sees c.test_step-tested.ensures c.in_default.is in
     left_accepted _ c.args.plan.now c.args.failed c.args.r e _ _ _ c.tell-told.ensures c.next_registers-next.ensures
     (sym c.if-raised.false ∙ c.raised.ensures) c.push_next.ensures

@@ -4,33 +4,32 @@ use borrow.Author.Tests.{ne_eqb}
 use Rattle.model.specs.Calls.Registers.{registers_then}
 use Rattle.cabinet.proofs.registers.next_registers.Goals as goal
 
-pub returns-then-r-eq1 : goal.returns-then-r-eq1
+pub returns-in-1-default : goal.returns-in-1-default
 unfolding registers_then
-returns-then-r-eq1 c = rw c.if-r-eq1.true c.counted.ensures
+returns-in-1-default c = rw c.in-1-default.is-0 c.counted.ensures
 
-pub returns-then-r-eq2 : goal.returns-then-r-eq2
+pub returns-in-2-default : goal.returns-in-2-default
 unfolding registers_then
-returns-then-r-eq2 c = rw c.if-r-eq2.true c.stopped.ensures
+returns-in-2-default c = rw c.in-2-default.is-0 c.stopped.ensures
 
-pub returns-then-r-eq3 : goal.returns-then-r-eq3
+pub returns-in-3-default : goal.returns-in-3-default
 unfolding registers_then
-returns-then-r-eq3 c = rw c.if-r-eq3.true c.acknowledged.ensures
+returns-in-3-default c = rw c.in-3-default.is-0 c.acknowledged.ensures
 
-pub returns-then-r-ne0 : goal.returns-then-r-ne0
+pub returns-in-0-eq1 : goal.returns-in-0-eq1
 unfolding registers_then
-returns-then-r-ne0 c =
-    rw (ne_eqb _ 1 c.if-r-eq1.false, ne_eqb _ 2 c.if-r-eq2.false, ne_eqb _ 3 c.if-r-eq3.false, ne_eqb _ 0 c.if-r-ne0.true)
+returns-in-0-eq1 c = c.jammed.ensures ∙ rw (c.in-0-eq1.is-0, c.in-0-eq1.is-1, c.if-told.true)
 
-pub returns-then-r-ne1 : goal.returns-then-r-ne1
+pub returns-in-0-eq1-2 : goal.returns-in-0-eq1-2
 unfolding registers_then
-returns-then-r-ne1 c = rw (c.if-r-ne0.false, ne_eqb _ 1 c.if-r-ne1.true)
+returns-in-0-eq1-2 c = rw (c.in-0-eq1.is-0, c.in-0-eq1.is-1, c.if-told.false) c.advanced.ensures
 
-pub returns-then-told : goal.returns-then-told
+pub returns-in_default : goal.returns-in_default
 unfolding registers_then
-returns-then-told c =
-    c.jammed.ensures ∙ rw (c.if-r-ne0.false, c.if-r-ne1.false, c.if-told.true)
+returns-in_default c = rw (c.in_default.is-0, ne_eqb _ 1 c.in_default.is-1.1)
 
-pub returns : goal.returns
+pub returns-in_default-2 : goal.returns-in_default-2
 unfolding registers_then
-returns c =
-    rw (c.if-r-ne0.false, c.if-r-ne1.false, c.if-told.false) c.advanced.ensures
+returns-in_default-2 c =
+    let n = c.in_default.is-0 in
+    rw (ne_eqb _ 1 n.0.0.0.1, ne_eqb _ 2 n.0.0.1, ne_eqb _ 3 n.0.1, ne_eqb _ 0 n.1)

@@ -1,8 +1,8 @@
--- `with_finished` writes bit 0 as the definition does.
-use mathlib.Core.Path.{refl}
+-- `with_finished` sets bit 0.
 use Rattle.model.specs.Calls.Registers.{set_bit}
+use Rattle.cabinet.proofs.Flags.{or_one}
 use Rattle.cabinet.proofs.registers.with_finished.Goals as goal
 
 pub returns : goal.returns
 unfolding set_bit
-returns c = refl
+returns c = or_one c.args.flags

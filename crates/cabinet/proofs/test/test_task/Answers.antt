@@ -6,27 +6,27 @@ use Rattle.laws.proofs.Basics.{single}
 use Rattle.laws.proofs.Blocks.{register_fault_none, running_left}
 use Rattle.cabinet.proofs.test.test_task.Goals as goal
 
-pub returns-then-r-ne0 : goal.returns-then-r-ne0
+pub returns-in-1-eq0 : goal.returns-in-1-eq0
 unfolding task_fault
-returns-then-r-ne0 c = rw (c.if-r-eq1.true, ne_eqb _ 0 c.if-r-ne0.true)
+returns-in-1-eq0 c = c.test_plan.ensures ∙ rw (c.in-1-eq0.is-0, c.in-1-eq0.is-1) (sym (single _))
 
-pub returns-then-r-eq1 : goal.returns-then-r-eq1
+pub returns-in-1-default : goal.returns-in-1-default
 unfolding task_fault
-returns-then-r-eq1 c = c.test_plan.ensures ∙ rw (c.if-r-eq1.true, c.if-r-ne0.false) (sym (single _))
-
-pub returns-then-r-ne0-2 : goal.returns-then-r-ne0-2
-unfolding task_fault
-returns-then-r-ne0-2 c = rw (ne_eqb _ 1 c.if-r-eq1.false, ne_eqb _ 0 c.if-r-ne0-2.true)
-
-pub returns-then-r-ne1 : goal.returns-then-r-ne1
-unfolding task_fault
-returns-then-r-ne1 c = rw (c.if-r-ne0-2.false, ne_eqb _ 1 c.if-r-ne1.true)
+returns-in-1-default c = rw (c.in-1-default.is-0, ne_eqb _ 0 c.in-1-default.is-1.1)
 
 pub test_next-requires : goal.test_next-requires
 test_next-requires c =
     let h = (register_fault_none (whole_moves c.args.plan.now) c.args.r).0 c.requires.1 in
-    (c.requires.0, running_left h c.if-r-ne1.false, h.left_le)
+    (c.requires.0, running_left h c.in-0-eq1.is-1, h.left_le)
 
-pub returns : goal.returns
+pub returns-in-0-eq1 : goal.returns-in-0-eq1
 unfolding task_fault
-returns c = c.test_next.ensures ∙ rw (c.if-r-ne0-2.false, c.if-r-ne1.false)
+returns-in-0-eq1 c = c.test_next.ensures ∙ rw (c.in-0-eq1.is-0, c.in-0-eq1.is-1)
+
+pub returns-in_default : goal.returns-in_default
+unfolding task_fault
+returns-in_default c = rw (c.in_default.is-0, ne_eqb _ 1 c.in_default.is-1.1)
+
+pub returns-in_default-2 : goal.returns-in_default-2
+unfolding task_fault
+returns-in_default-2 c = rw (ne_eqb _ 1 c.in_default.is-0.0.1, ne_eqb _ 0 c.in_default.is-0.1)

@@ -1,6 +1,6 @@
 -- `obey_to_end` obeys a copy in the first entries of an array, one for each node. If no move is refused they are the counts at
 -- the end, and the search for an empty target decides.
-use mathlib.Core.Path.{◌≡◌, sym, ap, ◌∙◌}
+use mathlib.Core.Path.{◌≡◌, refl, sym, ap, ◌∙◌}
 use mathlib.Core.List.{List}
 use Prim.Native.Nat.{ℕ}
 use native.Mathlib.Omega.{arith}
@@ -14,7 +14,8 @@ use Rattle.model.specs.Calls.Plans.{moves_of}
 use Rattle.laws.proofs.Found.{lowest_fault, lowest_none}
 use Rattle.laws.proofs.Judged.{facts}
 use Rattle.laws.proofs.Runs.{obeys, run_tree}
-use Rattle.laws.proofs.Calls.{sees}
+use Rattle.laws.proofs.Refused.{passed_on}
+use Rattle.lists.proofs.Found.{some_is, none_is}
 use Rattle.checker.proofs.Laws.{front_all, front_zeros, came_back}
 use Rattle.checker.proofs.check.obey_to_end.Goals as goal
 
@@ -29,37 +30,38 @@ slice_bounds-counts-end c = (facts _ c.requires).few.1
 pub slice_bounds-obey_copy-end : goal.slice_bounds-obey_copy-end
 slice_bounds-obey_copy-end c = sym (front_zeros _ (facts _ c.requires).few.1)
 
-pub obey_copy-done-requires : goal.obey_copy-done-requires
-obey_copy-done-requires c =
+pub obey_copy-requires : goal.obey_copy-requires
+obey_copy-requires c =
     let f = facts _ c.requires in
     record { tree = (c.requires, omega arith); counts_len = front_zeros _ f.few.1 ∙ sym f.pebbles_size }
 
-pub returns-in-Refused : goal.returns-in-Refused
-returns-in-Refused c = rw (rw front_all at (sees c.obey_copy-done.ensures.result_value c.in-Refused.is))
+pub returns-in_err-obey_copy : goal.returns-in_err-obey_copy
+returns-in_err-obey_copy c = passed_on _ _ c.from_residual.ensures.1 (rw (rw front_all at (sym c.in_err-obey_copy.ensures.result_value)))
 
 pub slice_bounds-counts-end-2 : goal.slice_bounds-counts-end-2
-slice_bounds-counts-end-2 c = (came_back _ _ (facts _ c.requires).few.1 c.obey_copy-done.auto.counts).fits
+slice_bounds-counts-end-2 c = (came_back _ _ (facts _ c.requires).few.1 c.obey_copy.auto.counts).fits
 
 pub slice_bounds-first_below-end : goal.slice_bounds-first_below-end
-slice_bounds-first_below-end c = (came_back _ _ (facts _ c.requires).few.1 c.obey_copy-done.auto.counts).long
+slice_bounds-first_below-end c = (came_back _ _ (facts _ c.requires).few.1 c.obey_copy.auto.counts).long
 
-pub first_below-empty-requires : goal.first_below-empty-requires
-first_below-empty-requires c =
+pub first_below-requires : goal.first_below-requires
+first_below-requires c =
     let f = facts _ c.requires in
-    f.targets_size ∙ (came_back _ _ f.few.1 c.obey_copy-done.auto.counts).long
+    f.targets_size ∙ (came_back _ _ f.few.1 c.obey_copy.auto.counts).long
 
-pub returns-then-empty-n : goal.returns-then-empty-n
-returns-then-empty-n c =
-    let o = c.obey_copy-done in
+pub returns-in-Some : goal.returns-in-Some
+returns-in-Some c =
+    let o = c.obey_copy in
     let back = came_back _ _ (facts _ c.requires).few.1 o.auto.counts in
-    let at-end = back.is ∙ rw (c.in_default.is, front_all) at o.ensures.counts_value in
-    let e = ended _ c.requires (moves_of c.args.plan.now) _ at-end _ c.first_below-empty.ensures in
-    rw (rw front_all at (sees o.ensures.result_value c.in_default.is), lowest_fault _ _ 14 _ e c.if-empty-n.true)
+    let at-end = back.is ∙ rw front_all at c.in_ok-obey_copy.ensures.counts_value in
+    let f = some_is _ _ _ c.in-Some.ensures in
+    let e = ended _ c.requires (moves_of c.args.plan.now) _ at-end _ f.0 in
+    rw (rw front_all at (sym c.in_ok-obey_copy.ensures.result_value), lowest_fault _ _ 14 _ e (omega (arith, f.1, back.long, ap length back.is)))
 
 pub returns : goal.returns
 returns c =
-    let o = c.obey_copy-done in
+    let o = c.obey_copy in
     let back = came_back _ _ (facts _ c.requires).few.1 o.auto.counts in
-    let at-end = back.is ∙ rw (c.in_default.is, front_all) at o.ensures.counts_value in
-    let e = ended _ c.requires (moves_of c.args.plan.now) _ at-end _ c.first_below-empty.ensures in
-    rw (rw front_all at (sees o.ensures.result_value c.in_default.is), ap (at_lowest 14) (lowest_none _ _ _ e c.if-empty-n.false))
+    let at-end = back.is ∙ rw front_all at c.in_ok-obey_copy.ensures.counts_value in
+    let e = ended _ c.requires (moves_of c.args.plan.now) _ at-end _ refl in
+    rw (rw front_all at (sym c.in_ok-obey_copy.ensures.result_value), ap (at_lowest 14) (lowest_none _ _ _ e (omega (arith, none_is _ _ c.in_default.ensures, back.long, ap length back.is))))

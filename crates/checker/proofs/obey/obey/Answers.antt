@@ -1,11 +1,11 @@
 -- `obey` makes one step for each move: the move that a turn makes is the first of those that are left.
-use mathlib.Core.Path.{refl, ◌∙◌}
+use mathlib.Core.Path.{refl, sym, ◌∙◌}
 use native.Mathlib.Omega.{arith}
 use lib.Seq.{take-take}
 use Rattle.model.specs.Push.{after}
 use Rattle.model.specs.Calls.Plans.{moves_of}
 use Rattle.laws.proofs.Judged.{facts}
-use Rattle.laws.proofs.Calls.{sees}
+use Rattle.laws.proofs.Refused.{is_passed, passed_on}
 use Rattle.checker.proofs.Laws.{front_length, front_at, left_none, left_refused, left_next}
 use Rattle.checker.proofs.obey.obey.Goals as goal
 
@@ -14,22 +14,22 @@ unfolding after
 loop-i-init c = (omega arith, (c.requires.0, refl, refl))
 
 -- at the loop's head there are as many pebbles and depths as there are nodes
-pub step-done-requires : goal.step-done-requires
-step-done-requires c =
+pub step-requires : goal.step-requires
+step-requires c =
     let f = facts _ c.loop-i.invariant.1.0 in
     (f.pebbles_size, f.depths_size)
 
-pub returns-in-Refused : goal.returns-in-Refused
-returns-in-Refused c =
+pub returns-in_err-step : goal.returns-in_err-step
+returns-in_err-step c =
     let a = c.args in
     let inv = c.loop-i.invariant.1 in
     let n = front_length a.plan.now a.count c.requires.1 in
     let e = front_at a.plan.now a.count c.requires.1 c.loop-i.i (omega arith) in
-    let refused = sees c.step-done.ensures.result_value c.in-Refused.is in
+    let refused = sym c.in_err-step.ensures.result_value in
     let r = left_refused _ _ _ _ inv _ (omega (arith, n)) e _ _ refused (omega arith) in record {
-      result_value = r.0;
+      result_value = passed_on _ _ c.from_residual.ensures.1 r.0;
       pebbles_value =
-          rw (c.step-done.ensures.pebbles_value, c.in-Refused.is, r.1)
+          rw (is_passed _ _ c.from_residual.ensures.1, c.in_err-step.ensures.pebbles_value, r.1)
           (inv.2 ∙ rw (take-take c.loop-i.i a.count (moves_of a.plan.now) (omega arith)));
     }
 
@@ -38,8 +38,8 @@ loop-i-preserved c =
     let a = c.args in
     let n = front_length a.plan.now a.count c.requires.1 in
     let e = front_at a.plan.now a.count c.requires.1 c.loop-i.i (omega arith) in
-    let k = sees c.step-done.ensures.result_value c.in_default.is in
-    (omega arith, rw (c.step-done.ensures.pebbles_value, c.in_default.is) (left_next _ _ _ _ c.loop-i.invariant.1 _ (omega (arith, n)) e k))
+    let k = sym c.in_ok-step.ensures.result_value in
+    (omega arith, rw c.in_ok-step.ensures.pebbles_value (left_next _ _ _ _ c.loop-i.invariant.1 _ (omega (arith, n)) e k))
 
 pub returns : goal.returns
 returns c =

@@ -1,6 +1,6 @@
 -- `obey` makes one step for each move. The loop's invariant: none of the moves made is refused, they have left the pebbles, and the moves
--- that are left decide the answer (`Left`). The measure is the number of moves that are left.
-use Prim.Native.Nat.{◌-◌, ◌≤◌}
+-- that are left decide the answer (`Left`).
+use Prim.Native.Nat.{◌≤◌}
 use lib.ListN.{take}
 use Rattle.model.specs.Yard.{yard_of}
 use Rattle.model.specs.Calls.Plans.{moves_of}
@@ -11,6 +11,3 @@ abbrev pub invariant-loop-i : goal.invariant-loop-i
 invariant-loop-i l =
     let y = yard_of l.parents l.initial.pebbles l.targets l.depths in
     (l.i ≤ l.count) × Left y (take l.count (moves_of l.plan)) l.i l.pebbles
-
-abbrev pub decreases-loop-i : goal.decreases-loop-i
-decreases-loop-i l = l.count - l.i

@@ -2,10 +2,10 @@
 use Rattle.checker.proofs.obey.obey_copy.Goals as goal
 
 pub obey-requires : goal.obey-requires
-obey-requires c = rw c.copy.ensures c.requires.tree
+obey-requires c = rw c.copy_from_slice.ensures.after c.requires.tree
 
 pub returns : goal.returns
 returns c = record {
-  result_value = rw c.copy.ensures at c.obey.ensures.result_value;
-  counts_value = rw c.copy.ensures at c.obey.ensures.pebbles_value;
+  result_value = rw c.copy_from_slice.ensures.after at c.obey.ensures.result_value;
+  counts_value = rw c.copy_from_slice.ensures.after at c.obey.ensures.pebbles_value;
 }

@@ -1,57 +1,32 @@
--- `count_crossings` has counted, before each turn, the crossings of the first k moves. The measure is the moves left.
-use mathlib.Core.Path.{refl, ap, ◌∙◌}
-use Prim.Native.Nat.{◌+◌, ◌*◌, ◌/◌, ◌<◌}
+-- `count_crossings` has counted, before each turn, the crossings of the moves that were taken.
+use mathlib.Core.Path.{◌∙◌}
 use native.Mathlib.Omega.{arith}
-use lib.ListN.{length, get_or}
-use lib.Seq.{take_all}
-use lib.Dec.{eqb}
-use Rattle.model.specs.Yard.{up}
-use Rattle.model.specs.Push.{count}
-use Rattle.model.specs.Calls.Plans.{moves_of}
-use Rattle.laws.proofs.Calls.{moves_of_half, move_at}
-use Rattle.checks.proofs.Counting.{length_raised, crossed_next, turn, nodes, few, zero_entry}
+use Rattle.checks.proofs.Counting.{nodes, few, counting_none, counting_next, counting_end}
 use Rattle.checks.proofs.crossings.count_crossings.Goals as goal
 
-pub loop-k-init : goal.loop-k-init
-unfolding count
-loop-k-init c = (omega arith, refl, refl, refl, λ v. (zero_entry 256 v, zero_entry 256 v))
+pub loop-pair-init : goal.loop-pair-init
+loop-pair-init c =
+    let e = c.chunks_exact-pair-items.ensures in
+    rw (c.into_iter-pair-iterator.ensures.into_iter_gives, e.rest) (e.size, counting_none c.requires)
 
 pub cross-requires : goal.cross-requires
 cross-requires c =
-    let l = c.loop-k in
-    let t : l.k < length c.args.plan.now / 2 = omega (arith, l.invariant.1) in
-    (omega (arith, nodes c.requires l.k t), (few c.requires l.k t l.ups l.downs l.invariant.4 _).0)
+    let s = c.in-Some.ensures.steps in
+    let n = nodes c.loop-pair.invariant.1 c.in-Some.pair.now _ s.1.0 (omega arith) in
+    (omega (arith, n), (few c.loop-pair.invariant.1 c.requires _).0)
 
-pub cross-requires-in-loop-k : goal.cross-requires-in-loop-k
-cross-requires-in-loop-k c =
-    let l = c.loop-k in
-    let t : l.k < length c.args.plan.now / 2 = omega (arith, l.invariant.1) in
-    (omega (arith, nodes c.requires l.k t), (few c.requires l.k t l.ups l.downs l.invariant.4 _).1)
+pub cross-requires-in-loop-pair : goal.cross-requires-in-loop-pair
+cross-requires-in-loop-pair c =
+    let s = c.in-Some.ensures.steps in
+    let n = nodes c.loop-pair.invariant.1 c.in-Some.pair.now _ s.1.0 (omega arith) in
+    (omega (arith, n), (few c.loop-pair.invariant.1 c.requires _).1)
 
-pub loop-k-preserved : goal.loop-k-preserved
-loop-k-preserved c =
-    let l = c.loop-k in
-    let i = l.invariant in
-    let ps = c.args.parents.now in
-    let plan = c.args.plan.now in
-    let a = get_or plan (2 * l.k) 0 in
-    let b = get_or plan (2 * l.k + 1) 0 in
-    let t = turn c.requires l.k (omega (arith, i.1)) in
-    let n = nodes c.requires l.k (omega (arith, i.1)) in
-    let u = c.cross.ensures in
-    let d = c.cross-in-loop-k.ensures in
-    let m = move_at plan l.k t.0 in
-    let e = crossed_next ps (moves_of plan) l.k t.1 a b l.ups l.downs m (omega (arith, n, i.2)) (omega (arith, n, i.3)) i.4 in (
-      omega arith,
-      i.1,
-      ap length u ∙ length_raised a (eqb (up ps a) b) l.ups ∙ i.2,
-      ap length d ∙ length_raised b (eqb (up ps b) a) l.downs ∙ i.3,
-      rw (u, d) e,
-    )
+pub loop-pair-preserved : goal.loop-pair-preserved
+loop-pair-preserved c =
+    let s = c.in-Some.ensures.steps in
+    (s.0 ∙ c.loop-pair.invariant.0, rw (c.cross.ensures, c.cross-in-loop-pair.ensures) (counting_next c.loop-pair.invariant.1 c.in-Some.pair.now _ s.1.0 (omega arith)))
 
 pub returns : goal.returns
 returns c =
-    let i = c.loop-k.invariant in
-    let p = c.args.plan.now in
-    let all = take_all c.loop-k.k (moves_of p) (omega (arith, moves_of_half p, i.1)) in
-    record { up_length = i.2; down_length = i.3; are = rw all at i.4 }
+    let s = c.in-None.ensures.steps in
+    counting_end c.loop-pair.invariant.1 (omega arith)

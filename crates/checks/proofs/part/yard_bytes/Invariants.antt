@@ -1,12 +1,9 @@
--- `yard_bytes` goes on from byte to byte: the part is the i bytes before and what is left of it. The measure is the bytes left.
+-- `yard_bytes` goes on from byte to byte: the part is the i bytes before and what is left of it.
 use mathlib.Core.Path.{◌≡◌}
-use Prim.Native.Nat.{◌+◌, ◌-◌, ◌≤◌}
+use Prim.Native.Nat.{◌+◌}
 use lib.ListN.{length, drop}
 use Rattle.model.specs.CheckSheets.{yard_part}
 use Rattle.checks.proofs.part.yard_bytes.Given as goal
 
 abbrev pub invariant-loop-i : goal.invariant-loop-i
-invariant-loop-i l = (l.i ≤ length l.input) × (length (yard_part l.input) ≡ l.i + length (yard_part (drop l.i l.input)))
-
-abbrev pub decreases-loop-i : goal.decreases-loop-i
-decreases-loop-i l = length l.input - l.i
+invariant-loop-i l = length (yard_part l.input) ≡ l.i + length (yard_part (drop l.i l.input))

@@ -8,5 +8,5 @@ use Rattle.checks.proofs.program.put_checked.Goals as goal
 
 pub put_refused-requires : goal.put_refused-requires
 put_refused-requires c =
-    let e = rw c.in-Refused.is at c.read_plan.ensures.plan_value in
-    (plan_row (length c.args.parents.now + 2) _ (omega (arith, c.requires.0)) (sym e), omega (arith, c.requires.2))
+    let e = rw c.in-Err.is at c.read_plan.ensures.plan_value in
+    (plan_row (length c.args.yard.now.parents.now + 2) _ (omega (arith, c.requires.0)) (sym e), omega (arith, c.requires.2))

@@ -1,26 +1,27 @@
 -- `demands` is refused as the lists are, and then if its own list has another length than theirs; or else `fill`, whose requirements these
 -- tests are, writes the demands.
 use native.Mathlib.Omega.{arith}
-use Rattle.model.specs.Yard.{yard_of}
+use mathlib.Core.Path.{sym}
+use Rattle.model.specs.Given.{listed}
 use Rattle.model.specs.Calls.Demands.{demands_of}
-use Rattle.laws.proofs.Calls.{sees}
+use Rattle.laws.proofs.Refused.{passed_on}
 use Rattle.demand.proofs.Answers.{refuses, accepts, demands_refused, demands_length, demands_none}
 use Rattle.demand.proofs.call.demands.Goals as goal
 
-pub returns-in-Refused : goal.returns-in-Refused
-returns-in-Refused c =
+pub returns-in_err-test_yard : goal.returns-in_err-test_yard
+returns-in_err-test_yard c =
     let a = c.args in
-    let y = yard_of a.parents.now a.pebbles.now a.targets.now a.depths.now in
-    let e = demands_refused y a.list.now (sees c.test_yard-tested.ensures c.in-Refused.is) in record {
-      result_value = (refuses a.list.now (demands_of y) e).0;
+    let y = listed a.yard.now in
+    let e = demands_refused y a.list.now (sym c.in_err-test_yard.ensures) in record {
+      result_value = passed_on _ _ c.from_residual.ensures.1 (refuses a.list.now (demands_of y) e).0;
       list_value = (refuses a.list.now (demands_of y) e).1;
     }
 
-pub returns-then-list-parents : goal.returns-then-list-parents
-returns-then-list-parents c =
+pub returns-then-list-yard : goal.returns-then-list-yard
+returns-then-list-yard c =
     let a = c.args in
-    let y = yard_of a.parents.now a.pebbles.now a.targets.now a.depths.now in
-    let e = demands_length y a.list.now (sees c.test_yard-tested.ensures c.in_default.is) (λ e. omega arith) in record {
+    let y = listed a.yard.now in
+    let e = demands_length y a.list.now (sym c.in_ok-test_yard.ensures) (λ e. omega arith) in record {
       result_value = (refuses a.list.now (demands_of y) e).0;
       list_value = (refuses a.list.now (demands_of y) e).1;
     }
@@ -28,8 +29,8 @@ returns-then-list-parents c =
 pub returns : goal.returns
 returns c =
     let a = c.args in
-    let y = yard_of a.parents.now a.pebbles.now a.targets.now a.depths.now in
-    let e = demands_none y a.list.now (sees c.test_yard-tested.ensures c.in_default.is) (omega arith) in record {
+    let y = listed a.yard.now in
+    let e = demands_none y a.list.now (sym c.in_ok-test_yard.ensures) (omega arith) in record {
       result_value = (accepts a.list.now e c.fill.ensures).0;
       list_value = (accepts a.list.now e c.fill.ensures).1;
     }

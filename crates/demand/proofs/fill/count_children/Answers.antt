@@ -39,28 +39,27 @@ both parents counts v u bytes i l =
 
 pub loop-v-init : goal.loop-v-init
 unfolding sum
-loop-v-init c = (omega arith, refl, λ i l. get_or-replicate 512 i _ 0 l)
+loop-v-init c = (refl, λ i l. get_or-replicate 512 i _ 0 l)
 
 pub overflow_add-counts : goal.overflow_add-counts
 overflow_add-counts c =
-    omega (arith, c.loop-v.invariant.2 c.place-i.result (omega arith), few c.loop-v.v (at c.args.parents.now) c.place-i.result)
+    omega (arith, c.loop-v.invariant.1 c.place.result (omega arith), few c.loop-v.v (at c.args.parents.now) c.place.result)
 
 pub loop-v-preserved : goal.loop-v-preserved
 unfolding sum
 loop-v-preserved c =
     let loop = c.loop-v in
-    let p = c.place-i.result in (
-      omega arith,
-      simp length-set loop.invariant.1,
+    let p = c.place.result in (
+      simp length-set loop.invariant.0,
       λ i l. let more = stored loop.counts p i (get_or loop.counts p 0 + 1) 1 0 (omega arith) (omega arith) in
-          rw (add-one loop.v, ← c.place-i.ensures.0) (omega (arith, loop.invariant.2 i l, ap one (eqb_sym i p), more)),
+          rw (add-one loop.v, ← c.place.ensures.0) (omega (arith, loop.invariant.1 i l, ap one (eqb_sym i p), more)),
     )
 
 pub add_halves-requires : goal.add_halves-requires
 add_halves-requires c = λ u l.
     let loop = c.loop-v in
     let parents = c.args.parents.now in
-    let sum_of = both parents loop.counts loop.v u (λ v. (c.type_inv.parents v).fits) loop.invariant.2 l in
+    let sum_of = both parents loop.counts loop.v u (λ v. (c.type_inv.parents v).fits) loop.invariant.1 l in
     omega (arith, sum_of, few loop.v (up parents) u)
 
 pub returns : goal.returns
@@ -70,6 +69,6 @@ returns c =
     let all : loop.v ≡ length parents = omega arith in (
       c.add_halves.ensures.0,
       λ u l.
-          let sum_of = both parents loop.counts loop.v u (λ v. (c.type_inv.parents v).fits) loop.invariant.2 l in
+          let sum_of = both parents loop.counts loop.v u (λ v. (c.type_inv.parents v).fits) loop.invariant.1 l in
           omega (arith, c.add_halves.ensures.1 u l, sum_of, ap (λ (n : ℕ). sum n (λ v. one (eqb (up parents v) u))) all),
     )

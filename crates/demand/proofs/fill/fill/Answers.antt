@@ -1,5 +1,5 @@
 -- `fill` gathers a list that meets equation 2 at every node of a tree: the list of the demands.
-use Rattle.model.specs.Yard.{yard_of}
+use Rattle.model.specs.Given.{listed}
 use Rattle.laws.proofs.Judged.{tree_lists}
 use Rattle.laws.proofs.Equation2.{only_demands}
 use Rattle.demand.proofs.fill.fill.Goals as goal
@@ -7,12 +7,12 @@ use Rattle.demand.proofs.fill.fill.Goals as goal
 pub gather-requires : goal.gather-requires
 gather-requires c =
     let a = c.args in
-    let y = yard_of a.parents.now a.pebbles.now a.targets.now a.depths.now in
+    let y = listed a.yard.now in
     (tree_lists y c.requires.0, c.requires.1)
 
 pub returns : goal.returns
 returns c =
     let a = c.args in
-    let y = yard_of a.parents.now a.pebbles.now a.targets.now a.depths.now in
+    let y = listed a.yard.now in
     let e = c.gather.ensures in
     (only_demands y c.requires.0 _ e.long).0 (e.meets (e.tree c.requires.0))

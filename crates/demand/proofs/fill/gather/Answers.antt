@@ -9,7 +9,8 @@ use lib.ListN.{length, get_or}
 use mir.Syntax.{w16}
 use mir.Val.{to_z, of_z}
 use mir.ValLaws.{to_z-of_z}
-use Rattle.model.specs.Yard.{Yard, yard_of, size, parent}
+use Rattle.model.specs.Given.{listed}
+use Rattle.model.specs.Yard.{Yard, size, parent}
 use Rattle.laws.proofs.Judged.{flat, shape_wood}
 use Rattle.demand.proofs.Numbers.{small_fits}
 use Rattle.demand.proofs.Partial.{waiting, Ready, small, starts, all_wait, parent_lt, parent_waits, waits, above_waits, fewer}
@@ -27,7 +28,7 @@ held {y} {pending} {list} {u} r = rw (back (parent y u) (parent_lt r) (above_wai
     back v l w = to_z-of_z w16 (get_or list v (pos 0)) (small_fits (get_or list v (pos 0)) (small r.state v l w))
 
 abbrev yard : After-plus → Yard
-yard c = yard_of c.args.parents.now c.args.pebbles.now c.args.targets.now c.args.depths.now
+yard c = listed c.args.yard.now
 
 ready : (c : After-plus) → Ready (yard c) c.loop-pending.pending c.loop-pending.list c.loop-pending.u
 ready c = record { state = c.loop-pending.invariant.1; lt = c.loop-pending.invariant.0; alone = c.loop-pending-test.true }
@@ -35,11 +36,10 @@ ready c = record { state = c.loop-pending.invariant.1; lt = c.loop-pending.invar
 pub loop-v-init : goal.loop-v-init
 loop-v-init c =
     let a = c.args in
-    let y = yard_of a.parents.now a.pebbles.now a.targets.now a.depths.now in
+    let y = listed a.yard.now in
     let f = flat y c.requires.0 in
     let counted = c.count_children-pending.ensures in
     let long : length c.own.new.list ≡ size y = c.own.auto.list ∙ c.requires.1 in (
-      omega arith,
       starts y _ _ f (omega (arith, f.few.1, counted.0)) long (λ v l. counted.1 v (omega (arith, f.few.1)))
           (λ v l. c.own.ensures v (omega (arith, c.requires.1))),
       (λ w l. absurd (omega arith)),
@@ -49,7 +49,7 @@ loop-v-init c =
 pub plus-requires : goal.plus-requires
 plus-requires c =
     let a = c.args in
-    let y = yard_of a.parents.now a.pebbles.now a.targets.now a.depths.now in
+    let y = listed a.yard.now in
     let l = c.loop-pending in
     let r : Ready y l.pending l.list l.u = record { state = l.invariant.1; lt = l.invariant.0; alone = c.loop-pending-test.true } in
     omega (arith, ap nat_abs (held r), joined_small r)
@@ -73,12 +73,12 @@ loop-pending-preserved c =
 pub returns : goal.returns
 returns c =
     let a = c.args in
-    let y = yard_of a.parents.now a.pebbles.now a.targets.now a.depths.now in
+    let y = listed a.yard.now in
     let i = c.loop-v.invariant in
-    let none : (w : ℕ) → w < size y → get_or c.loop-v.pending w 0 ≡ 1 → ⊥ = λ w k. i.2 w (omega arith) in
+    let none : (w : ℕ) → w < size y → get_or c.loop-v.pending w 0 ≡ 1 → ⊥ = λ w k. i.1 w (omega arith) in
     record {
-      long = i.1.long;
-      shape = λ e. shape_wood (left_wood i.1 none (sym i.3 ∙ e)).1 y.pebbles y.targets y.depths;
-      tree = λ t. i.3 ∙ root_left i.1 none t;
-      meets = λ e. left_meets i.1 none (sym i.3 ∙ e);
+      long = i.0.long;
+      shape = λ e. shape_wood (left_wood i.0 none (sym i.2 ∙ e)).1 y.pebbles y.targets y.depths;
+      tree = λ t. i.2 ∙ root_left i.0 none t;
+      meets = λ e. left_meets i.0 none (sym i.2 ∙ e);
     }

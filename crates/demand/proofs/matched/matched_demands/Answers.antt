@@ -8,17 +8,18 @@ use lib.IntN.{ℤ, pos}
 use mir.Syntax.{w16}
 use mir.Val.{to_z, of_z}
 use mir.ValLaws.{to_z-of_z}
-use Rattle.model.specs.Yard.{Yard, yard_of, root, demand}
+use Rattle.model.specs.Given.{listed}
+use Rattle.model.specs.Yard.{Yard, root, demand}
 use Rattle.model.specs.Judge.{Tree}
 use Rattle.demand.specs.Filling.{demands_then}
 use Rattle.laws.proofs.Judged.{facts, wood}
-use Rattle.laws.proofs.Calls.{sees, matched_refused, matched_totals, matched_none}
+use Rattle.laws.proofs.Refused.{passed_on}
+use Rattle.laws.proofs.Calls.{matched_refused, matched_totals, matched_none}
 use Rattle.laws.proofs.Signed.{demand_range}
-use Rattle.lists.proofs.Root.{root_found}
 use Rattle.demand.proofs.Numbers.{small_fits}
 use Rattle.demand.proofs.Answers.{demands_at, then_front}
 use Rattle.demand.proofs.Refused.{root_demand}
-use Rattle.demand.proofs.matched.matched_demands.Goals.{After-first_own-root}
+use Rattle.demand.proofs.matched.matched_demands.Goals.{After-root_of-root}
 use Rattle.demand.proofs.matched.matched_demands.Goals as goal
 
 -- the root's entry
@@ -26,32 +27,32 @@ entry : (y : Yard) (list : List ℤ) {now : List ℤ} {v : ℕ} → Tree y → n
     → get_or now v (pos 0) ≡ demand y (root y)
 entry y list t e found = rw found (demands_at y _ (root y) (then_front y list e t) (wood y t).root_lt)
 
-within : (c : After-first_own-root) → c.first_own-root.result < 256
+within : (c : After-root_of-root) → c.root_of-root.result < 256
 within c =
     let a = c.args in
-    let y = yard_of a.parents.now a.pebbles.now a.targets.now a.depths.now in
-    let t = sees c.tree_demands-tested.ensures.result_value c.in_default.is in
-    omega (arith, root_found y t _ c.first_own-root.ensures, (wood y t).root_lt, (facts y t).few)
+    let y = listed a.yard.now in
+    let t = (sym c.in_ok-tree_demands.ensures.result_value) in
+    omega (arith, c.root_of-root.ensures, (wood y t).root_lt, (facts y t).few)
 
-pub returns-in-Refused : goal.returns-in-Refused
-returns-in-Refused c = record {
-  result_value = sym (matched_refused _ (sees c.tree_demands-tested.ensures.result_value c.in-Refused.is));
-  list_value = c.tree_demands-tested.ensures.list_value;
+pub returns-in_err-tree_demands : goal.returns-in_err-tree_demands
+returns-in_err-tree_demands c = record {
+  result_value = passed_on _ _ c.from_residual.ensures.1 (sym (matched_refused _ (sym c.in_err-tree_demands.ensures.result_value)));
+  list_value = c.tree_demands.ensures.list_value;
 }
 
 pub offset_bounds-list-root : goal.offset_bounds-list-root
 offset_bounds-list-root c = omega (arith, within c)
 
-pub slice_copy_out-t-13 : goal.slice_copy_out-t-13
-slice_copy_out-t-13 c = omega (arith, within c, c.requires, c.list-1.given)
+pub slice_copy_out-t-12 : goal.slice_copy_out-t-12
+slice_copy_out-t-12 c = omega (arith, within c, c.requires, c.list-1.given)
 
 pub returns-then-list-root-ne0 : goal.returns-then-list-root-ne0
 returns-then-list-root-ne0 c =
     let a = c.args in
-    let y = yard_of a.parents.now a.pebbles.now a.targets.now a.depths.now in
-    let t = sees c.tree_demands-tested.ensures.result_value c.in_default.is in
-    let e = c.tree_demands-tested.ensures.list_value in
-    let z = entry y _ t e (root_found y t _ c.first_own-root.ensures) in
+    let y = listed a.yard.now in
+    let t = (sym c.in_ok-tree_demands.ensures.result_value) in
+    let e = c.tree_demands.ensures.list_value in
+    let z = entry y _ t e (c.root_of-root.ensures) in
     record {
       result_value = sym (matched_totals y t (λ m. c.if-list-root-ne0.true (ap (of_z w16) (z ∙ (root_demand y t).0 m))));
       list_value = e;
@@ -61,10 +62,10 @@ returns-then-list-root-ne0 c =
 pub returns : goal.returns
 returns c =
     let a = c.args in
-    let y = yard_of a.parents.now a.pebbles.now a.targets.now a.depths.now in
-    let t = sees c.tree_demands-tested.ensures.result_value c.in_default.is in
-    let e = c.tree_demands-tested.ensures.list_value in
-    let z = entry y _ t e (root_found y t _ c.first_own-root.ensures) in
+    let y = listed a.yard.now in
+    let t = (sym c.in_ok-tree_demands.ensures.result_value) in
+    let e = c.tree_demands.ensures.list_value in
+    let z = entry y _ t e (c.root_of-root.ensures) in
     let held = sym (to_z-of_z w16 _ (small_fits _ (rw z (demand_range y t (root y))))) in
     record {
       result_value = sym (matched_none y t ((root_demand y t).1 (sym z ∙ held ∙ ap (to_z w16) c.if-list-root-ne0.false)));

@@ -2,10 +2,8 @@
 -- Marking).
 use native.Mathlib.Omega.{arith}
 use mathlib.Core.Path.{refl}
-use mathlib.Core.Bool.{false≢true}
-use Rattle.laws.proofs.Distance.{distance_lt}
 use Rattle.distance.proofs.Climbing.{write_beside}
-use Rattle.distance.proofs.Marking.{few, as_long, partly_beside}
+use Rattle.distance.proofs.Marking.{as_long, partly_beside}
 use Rattle.distance.proofs.far.know.Goals as goal
 
 pub returns-then-above-lt255 : goal.returns-then-above-lt255
@@ -15,11 +13,3 @@ returns-then-above-lt255 c =
       list_len = (w.entries.long, λ _. w);
       value = λ y a f q. (refl, partly_beside f q (omega (arith, p.2, as_long f)) c.if-list-v-ne256.false c.if-above-lt255.true);
     }
-
-pub returns-then-far-eq256 : goal.returns-then-far-eq256
-returns-then-far-eq256 c = record {
-  list_len = (c.requires.1.long, λ q. absurd (false≢true q));
-  value = λ y b f q.
-      let most = distance_lt y f.tree b c.args.v f.node (omega (arith, c.requires.2, as_long f)) in
-      absurd (omega (arith, c.if-far-eq256.true, c.far_away-far.ensures.value y b f q, most, few f));
-}

@@ -9,12 +9,13 @@ use Prim.Native.Nat.{ℕ, ◌≤◌, ◌<◌}
 use lib.ListN.{length}
 use lib.IntN.{ℤ}
 use lib.Seq.{length-take-le}
+use Rattle.model.specs.Given.{listed}
 use Rattle.model.specs.declared.Event.{Event}
-use Rattle.model.specs.Yard.{Yard, yard_of, size, pebble, target, capacity}
+use Rattle.model.specs.Yard.{Yard, size, pebble, target, capacity}
 use Rattle.model.specs.Judge.{first_of, Tree}
 use Rattle.model.specs.Calls.Events.{ready_tests}
 use Rattle.laws.proofs.Judged.{facts}
-use Rattle.laws.proofs.Calls.{sees}
+use Rattle.laws.proofs.Refused.{passed_on}
 use Rattle.laws.proofs.EventRuns.{ready_judge, ready_length, ready_node, ready_already, ready_none, event_refused}
 use Rattle.demand.proofs.Answers.{then_front}
 use Rattle.event.specs.Change.{can}
@@ -31,50 +32,50 @@ ready : (y : Yard) (list : List ℤ) (e : Event) (v : ℕ) → Tree y → length
     → (b : Bool) → b ≡ can e (pebble y v) (target y v) (capacity y v) → b ≡ true → first_of (ready_tests y list e v) ≡ none
 ready y list e v t k l b told q = ready_none y list e v t k l (sym (possible_can y e v) ∙ sym told ∙ q)
 
-pub returns-in-Refused : goal.returns-in-Refused
-returns-in-Refused c =
+pub returns-in_err-tree_demands : goal.returns-in_err-tree_demands
+returns-in_err-tree_demands c =
     let a = c.args in
-    let y = yard_of a.parents.now a.pebbles.now a.targets.now a.depths.now in
-    let judged = sees c.tree_demands-tested.ensures.result_value c.in-Refused.is in
-    sym (event_refused y a.list.now a.event a.node (ready_judge y a.list.now a.event a.node judged))
+    let y = listed a.yard.now in
+    let judged = (sym c.in_err-tree_demands.ensures.result_value) in
+    passed_on _ _ c.from_residual.ensures.1 (sym (event_refused y a.list.now a.event a.node (ready_judge y a.list.now a.event a.node judged)))
 
 pub returns-then-list-n : goal.returns-then-list-n
 returns-then-list-n c =
     let a = c.args in
-    let y = yard_of a.parents.now a.pebbles.now a.targets.now a.depths.now in
-    let t = sees c.tree_demands-tested.ensures.result_value c.in_default.is in
+    let y = listed a.yard.now in
+    let t = (sym c.in_ok-tree_demands.ensures.result_value) in
     sym (event_refused y a.list.now a.event a.node (ready_length y a.list.now a.event a.node t c.if-list-n.true))
 
 pub returns-then-node-n : goal.returns-then-node-n
 returns-then-node-n c =
     let a = c.args in
-    let y = yard_of a.parents.now a.pebbles.now a.targets.now a.depths.now in
-    let t = sees c.tree_demands-tested.ensures.result_value c.in_default.is in
+    let y = listed a.yard.now in
+    let t = (sym c.in_ok-tree_demands.ensures.result_value) in
     sym (event_refused y a.list.now a.event a.node (ready_node y a.list.now a.event a.node t c.if-list-n.false c.if-node-n.true))
 
-pub bounds-pebbles-node : goal.bounds-pebbles-node
-bounds-pebbles-node c =
+pub bounds-yard-node : goal.bounds-yard-node
+bounds-yard-node c =
     let a = c.args in
-    let y = yard_of a.parents.now a.pebbles.now a.targets.now a.depths.now in
-    omega (arith, (facts y (sees c.tree_demands-tested.ensures.result_value c.in_default.is)).pebbles_size)
+    let y = listed a.yard.now in
+    omega (arith, (facts y (sym c.in_ok-tree_demands.ensures.result_value)).pebbles_size)
 
-pub bounds-targets-node : goal.bounds-targets-node
-bounds-targets-node c =
+pub bounds-yard-node-2 : goal.bounds-yard-node-2
+bounds-yard-node-2 c =
     let a = c.args in
-    let y = yard_of a.parents.now a.pebbles.now a.targets.now a.depths.now in
-    omega (arith, (facts y (sees c.tree_demands-tested.ensures.result_value c.in_default.is)).targets_size)
+    let y = listed a.yard.now in
+    omega (arith, (facts y (sym c.in_ok-tree_demands.ensures.result_value)).targets_size)
 
-pub bounds-depths-node : goal.bounds-depths-node
-bounds-depths-node c =
+pub bounds-yard-node-3 : goal.bounds-yard-node-3
+bounds-yard-node-3 c =
     let a = c.args in
-    let y = yard_of a.parents.now a.pebbles.now a.targets.now a.depths.now in
-    omega (arith, (facts y (sees c.tree_demands-tested.ensures.result_value c.in_default.is)).depths_size)
+    let y = listed a.yard.now in
+    omega (arith, (facts y (sym c.in_ok-tree_demands.ensures.result_value)).depths_size)
 
 pub returns-then-not-can_happen : goal.returns-then-not-can_happen
 returns-then-not-can_happen c =
     let a = c.args in
-    let y = yard_of a.parents.now a.pebbles.now a.targets.now a.depths.now in
-    let t = sees c.tree_demands-tested.ensures.result_value c.in_default.is in
+    let y = listed a.yard.now in
+    let t = (sym c.in_ok-tree_demands.ensures.result_value) in
     let l : a.node < size y = omega (arith, c.if-node-n.false) in
     let told = sym (possible_can y a.event a.node) ∙ sym c.can_happen.ensures ∙ c.if-not-can_happen.true in
     sym (event_refused y a.list.now a.event a.node (ready_already y a.list.now a.event a.node t c.if-list-n.false l told))
@@ -82,36 +83,36 @@ returns-then-not-can_happen c =
 pub slice_bounds-fresh-end : goal.slice_bounds-fresh-end
 slice_bounds-fresh-end c =
     let a = c.args in
-    let y = yard_of a.parents.now a.pebbles.now a.targets.now a.depths.now in
-    room y (sees c.tree_demands-tested.ensures.result_value c.in_default.is) _ (omega arith)
+    let y = listed a.yard.now in
+    room y (sym c.in_ok-tree_demands.ensures.result_value) _ (omega arith)
 
 pub slice_bounds-first_difference-end : goal.slice_bounds-first_difference-end
 slice_bounds-first_difference-end c =
     let a = c.args in
-    let y = yard_of a.parents.now a.pebbles.now a.targets.now a.depths.now in
-    sym (length-take-le _ _ (room y (sees c.tree_demands-tested.ensures.result_value c.in_default.is) _ (omega arith)))
+    let y = listed a.yard.now in
+    sym (length-take-le _ _ (room y (sym c.in_ok-tree_demands.ensures.result_value) _ (omega arith)))
 
-pub first_difference-stale-requires : goal.first_difference-stale-requires
-first_difference-stale-requires c =
+pub first_difference-requires : goal.first_difference-requires
+first_difference-requires c =
     let a = c.args in
-    let y = yard_of a.parents.now a.pebbles.now a.targets.now a.depths.now in
-    let t = sees c.tree_demands-tested.ensures.result_value c.in_default.is in
+    let y = listed a.yard.now in
+    let t = (sym c.in_ok-tree_demands.ensures.result_value) in
     (c.if-list-n.false ∙ sym (length-take-le _ _ (room y t _ (omega arith))), omega (arith, c.if-list-n.false, (facts y t).few))
 
-pub returns-then-stale-n : goal.returns-then-stale-n
-returns-then-stale-n c =
+pub returns-in-Some : goal.returns-in-Some
+returns-in-Some c =
     let a = c.args in
-    let y = yard_of a.parents.now a.pebbles.now a.targets.now a.depths.now in
-    let t = sees c.tree_demands-tested.ensures.result_value c.in_default.is in
+    let y = listed a.yard.now in
+    let t = (sym c.in_ok-tree_demands.ensures.result_value) in
     let r = ready y a.list.now a.event a.node t c.if-list-n.false (omega arith) _ c.can_happen.ensures c.if-not-can_happen.false in
-    let d = then_front y _ c.tree_demands-tested.ensures.list_value t in
-    sym (stale_refused y a.list.now a.event a.node r d c.first_difference-stale.ensures c.if-stale-n.true)
+    let d = then_front y _ c.tree_demands.ensures.list_value t in
+    sym (stale_refused y a.list.now a.event a.node r d c.in-Some.ensures)
 
 pub returns : goal.returns
 returns c =
     let a = c.args in
-    let y = yard_of a.parents.now a.pebbles.now a.targets.now a.depths.now in
-    let t = sees c.tree_demands-tested.ensures.result_value c.in_default.is in
+    let y = listed a.yard.now in
+    let t = (sym c.in_ok-tree_demands.ensures.result_value) in
     let r = ready y a.list.now a.event a.node t c.if-list-n.false (omega arith) _ c.can_happen.ensures c.if-not-can_happen.false in
-    let d = then_front y _ c.tree_demands-tested.ensures.list_value t in
-    sym (stale_passed y a.list.now a.event a.node r d c.first_difference-stale.ensures (omega (arith, c.if-stale-n.false)))
+    let d = then_front y _ c.tree_demands.ensures.list_value t in
+    sym (stale_passed y a.list.now a.event a.node r d c.in_default.ensures)

@@ -3,12 +3,13 @@ use native.Mathlib.Omega.{arith}
 use Prim.Native.Nat.{ℕ, ◌≤◌}
 use mathlib.Core.Path.{◌≡◌, sym, ap, ◌∙◌}
 use lib.Seq.{length-take-le}
-use Rattle.model.specs.Yard.{Yard, yard_of, size}
+use Rattle.model.specs.Given.{listed}
+use Rattle.model.specs.Yard.{Yard, size}
 use Rattle.model.specs.Judge.{Tree}
 use Rattle.model.specs.Calls.Answers.{answered}
 use Rattle.model.specs.Calls.Demands.{length_of}
 use Rattle.laws.proofs.Judged.{facts}
-use Rattle.laws.proofs.Calls.{sees, matched_tree}
+use Rattle.laws.proofs.Calls.{matched_tree}
 use Rattle.laws.proofs.Signed.{shortest_small}
 use Rattle.laws.proofs.Longest.{bound_answer_law}
 use Rattle.demand.proofs.Answers.{then_front, demands_small, demands_sum}
@@ -21,36 +22,36 @@ room y t n e = omega (arith, (facts y t).few)
 pub slice_bounds-demands-end : goal.slice_bounds-demands-end
 slice_bounds-demands-end c =
     let a = c.args in
-    let y = yard_of a.parents.now a.pebbles.now a.targets.now a.depths.now in
-    let t = matched_tree y (sees c.matched_demands-tested.ensures.result_value c.in_default.is) in
+    let y = listed a.yard.now in
+    let t = matched_tree y (sym c.in_ok-matched_demands.ensures.result_value) in
     room y t.0 _ (omega arith)
 
 pub slice_bounds-sizes-end : goal.slice_bounds-sizes-end
 slice_bounds-sizes-end c =
     let a = c.args in
-    let y = yard_of a.parents.now a.pebbles.now a.targets.now a.depths.now in
-    let t = matched_tree y (sees c.matched_demands-tested.ensures.result_value c.in_default.is) in
+    let y = listed a.yard.now in
+    let t = matched_tree y (sym c.in_ok-matched_demands.ensures.result_value) in
     sym (length-take-le _ _ (room y t.0 _ (omega arith)))
 
 pub sizes-moves-requires : goal.sizes-moves-requires
 sizes-moves-requires c =
     let a = c.args in
-    let y = yard_of a.parents.now a.pebbles.now a.targets.now a.depths.now in
-    let t = matched_tree y (sees c.matched_demands-tested.ensures.result_value c.in_default.is) in
-    demands_small y t.0 (then_front y _ c.matched_demands-tested.ensures.list_value t.0)
+    let y = listed a.yard.now in
+    let t = matched_tree y (sym c.in_ok-matched_demands.ensures.result_value) in
+    demands_small y t.0 (then_front y _ c.matched_demands.ensures.list_value t.0)
 
 pub overflow_mul-result : goal.overflow_mul-result
 overflow_mul-result c =
     let a = c.args in
-    let y = yard_of a.parents.now a.pebbles.now a.targets.now a.depths.now in
-    let t = matched_tree y (sees c.matched_demands-tested.ensures.result_value c.in_default.is) in
-    let measured = c.sizes-moves.ensures ∙ demands_sum y (then_front y _ c.matched_demands-tested.ensures.list_value t.0) in
+    let y = listed a.yard.now in
+    let t = matched_tree y (sym c.in_ok-matched_demands.ensures.result_value) in
+    let measured = c.sizes-moves.ensures ∙ demands_sum y (then_front y _ c.matched_demands.ensures.list_value t.0) in
     omega (arith, measured, shortest_small y t.0)
 
 pub returns : goal.returns
 returns c =
     let a = c.args in
-    let y = yard_of a.parents.now a.pebbles.now a.targets.now a.depths.now in
-    let passes = sees c.matched_demands-tested.ensures.result_value c.in_default.is in
-    let d = then_front y _ c.matched_demands-tested.ensures.list_value (matched_tree y passes).0 in
+    let y = listed a.yard.now in
+    let passes = (sym c.in_ok-matched_demands.ensures.result_value) in
+    let d = then_front y _ c.matched_demands.ensures.list_value (matched_tree y passes).0 in
     rw (bound_answer_law y, passes) (ap (λ (n : ℕ). answered (length_of n)) (c.sizes-moves.ensures ∙ demands_sum y d))

@@ -1,5 +1,6 @@
--- `leaving` counts: after v turns a node's count is that of the pebbles that leave it over the first v edges, since a turn adds a
--- demand's size at the node that its edge is crossed from. No count is more than 2,048 for each of them.
+-- `leaving` counts: a node's count is that of the pebbles that leave it over the edges of the
+-- nodes below v, since a turn adds a demand's size at the node that its edge is crossed from. No
+-- count is more than 2,048 for each of them.
 use native.Mathlib.Omega.{arith}
 use native.Mathlib.Numerals.{add-one}
 use Prim.Native.Nat.{ℕ, zero, suc, ◌+◌, ◌*◌, ◌≤◌, ◌<◌}
@@ -19,10 +20,10 @@ use Rattle.figures.proofs.displaced.leaving.Goals as goal
 
 -- where the edge of v is crossed from
 found : (c : After-size) → let a = c.args in let v = c.loop-v.v in
-    c.source-u.result ≡ source_or 256 (entry a.demands.now v) v (up a.parents.now v)
+    c.unwrap_or-u.result ≡ source_or 256 (entry a.demands.now v) v (up a.parents.now v)
 found c =
     let v = c.loop-v.v in
-    c.source-u.ensures
+    c.unwrap_or-u.ensures ∙ c.source.ensures 256
     ∙ ap (λ (z : ℤ). source_or 256 z v (up c.args.parents.now v)) (to_z-of_z w16 _ (small_fits _ (c.requires.by_index v)))
 
 within : (c : After-size) → let a = c.args in let v = c.loop-v.v in
@@ -40,7 +41,7 @@ sized c =
 
 pub loop-v-init : goal.loop-v-init
 unfolding sum
-loop-v-init c = (omega arith, refl, zeros 257, λ u. omega (arith, zeros 257 u))
+loop-v-init c = (refl, zeros 257, λ u. omega (arith, zeros 257 u))
   where
     zeros : (n u : ℕ) → get_or {A = ℕ} (replicate n 0) u 0 ≡ 0
     zeros zero u = refl
@@ -67,12 +68,11 @@ loop-v-preserved c =
     let from = source_or 256 d loop.v p in
     let next : (u : ℕ) → get_or (set loop.counts from (get_or loop.counts from 0 + nat_abs d)) u 0
     ≡ get_or loop.counts u 0 + one (eqb from u) * nat_abs d =
-    λ u. counted loop.counts d loop.v p u (get_or loop.counts u 0) (omega (arith, h, loop.invariant.1)) refl
+    λ u. counted loop.counts d loop.v p u (get_or loop.counts u 0) (omega (arith, h, loop.invariant.0)) refl
     in (
-      omega arith,
-      simp length-set loop.invariant.1,
-      (λ u. rw (add-one loop.v, found c, (sized c).0) (next u ∙ rw (loop.invariant.2 u))),
-      λ u. rw (found c, (sized c).0) (omega (arith, next u, loop.invariant.3 u, one_times (eqb from u) (nat_abs d), sized c)),
+      simp length-set loop.invariant.0,
+      (λ u. rw (add-one loop.v, found c, (sized c).0) (next u ∙ rw (loop.invariant.1 u))),
+      λ u. rw (found c, (sized c).0) (omega (arith, next u, loop.invariant.2 u, one_times (eqb from u) (nat_abs d), sized c)),
     )
   where
     one_times : (b : Bool) (n : ℕ) → one b * n ≤ n

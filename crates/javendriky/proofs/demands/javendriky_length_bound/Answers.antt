@@ -16,10 +16,10 @@ module _ {a : Answer Length} (y : Yard) (e : a ≡ bound_answer y) where
   few_bytes = rw e (list_bytes_small y)
 
 pub overflow_cast-bytes : goal.overflow_cast-bytes
-overflow_cast-bytes c = let l = few_bytes _ (rw c.in-Length.is at c.length_bound.ensures) in omega arith
+overflow_cast-bytes c = let l = few_bytes _ (rw c.in-Ok.is at c.length_bound.ensures) in omega arith
 
 pub overflow_cast-result : goal.overflow_cast-result
-overflow_cast-result c = let l = few_moves _ (rw c.in-Length.is at c.length_bound.ensures) in omega arith
+overflow_cast-result c = let l = few_moves _ (rw c.in-Ok.is at c.length_bound.ensures) in omega arith
 
 pub refused-requires : goal.refused-requires
-refused-requires c = few_moves _ (rw c.in-Refused.is at c.length_bound.ensures)
+refused-requires c = few_moves _ (rw c.in-Err.is at c.length_bound.ensures)

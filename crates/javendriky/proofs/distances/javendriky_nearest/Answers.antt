@@ -17,10 +17,10 @@ module _ {a : Answer Nearest} (y : Yard) (v : ℕ) (e : a ≡ nearest_answer y v
   small_far = rw e (nearest_small y v).1
 
 pub overflow_cast-distance : goal.overflow_cast-distance
-overflow_cast-distance c = let l = small_far _ _ (rw c.in-Node.is at c.nearest.ensures) in omega arith
+overflow_cast-distance c = let l = small_far _ _ (rw c.in-Ok.is at c.nearest.ensures) in omega arith
 
 pub overflow_cast-result : goal.overflow_cast-result
-overflow_cast-result c = let l = small_node _ _ (rw c.in-Node.is at c.nearest.ensures) in omega arith
+overflow_cast-result c = let l = small_node _ _ (rw c.in-Ok.is at c.nearest.ensures) in omega arith
 
 pub refused-requires : goal.refused-requires
-refused-requires c = small_node _ _ (rw c.in-Refused.is at c.nearest.ensures)
+refused-requires c = small_node _ _ (rw c.in-Err.is at c.nearest.ensures)

@@ -22,13 +22,13 @@ module _ {a : Answer Wear} (y : Yard) (bs : List ℕ) (w : ℕ) (e : a ≡ wear_
   small_edge = rw e (wear_edge_small y bs w)
 
 pub overflow_cast-first : goal.overflow_cast-first
-overflow_cast-first c = let l = small_first _ _ _ (rw c.in-Most.is at c.wear.ensures) in omega arith
+overflow_cast-first c = let l = small_first _ _ _ (rw c.in-Ok.is at c.wear.ensures) in omega arith
 
 pub overflow_cast-edge : goal.overflow_cast-edge
-overflow_cast-edge c = let l = small_edge _ _ _ (rw c.in-Most.is at c.wear.ensures) in omega arith
+overflow_cast-edge c = let l = small_edge _ _ _ (rw c.in-Ok.is at c.wear.ensures) in omega arith
 
 pub overflow_cast-result : goal.overflow_cast-result
-overflow_cast-result c = let l = small_most _ _ _ (rw c.in-Most.is at c.wear.ensures) in omega arith
+overflow_cast-result c = let l = small_most _ _ _ (rw c.in-Ok.is at c.wear.ensures) in omega arith
 
 pub refused-requires : goal.refused-requires
-refused-requires c = small_most _ _ _ (rw c.in-Refused.is at c.wear.ensures)
+refused-requires c = small_most _ _ _ (rw c.in-Err.is at c.wear.ensures)

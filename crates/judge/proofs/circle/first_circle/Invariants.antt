@@ -2,7 +2,7 @@
 -- root, so v is the lowest such node, and one that ends at a known node shows that all its nodes reach the root.
 use Prim.Native.Nat.{ℕ, ◌≤◌, ◌<◌, ◌-◌}
 use mathlib.Core.Path.{◌≡◌}
-use mathlib.Core.Bool.{true}
+use mathlib.Core.Bool.{true, false}
 use mathlib.Core.List.{List}
 use lib.ListN.{length, get_or}
 use Rattle.model.specs.Yard.{climbs}
@@ -13,15 +13,11 @@ abbrev pub Reaches : List ℕ → ℕ → ℕ → Type 0
 Reaches ps t w = climbs (length ps) ps w t ≡ true
 
 abbrev pub invariant-loop-u : goal.invariant-loop-u
-invariant-loop-u l =
-    (l.found ≡ l.initial.found) × (l.steps ≤ l.n) × (l.u < l.n) × (above l.steps l.parents l.v ≡ l.u) × ((j : ℕ) → j < l.steps → above j l.parents l.v ≡ l.root → ⊥)
+invariant-loop-u l = (l.steps ≤ l.n) × (l.u < l.n) × (above l.steps l.parents l.v ≡ l.u) × ((j : ℕ) → j < l.steps → above j l.parents l.v ≡ l.root → ⊥)
 
 abbrev pub decreases-loop-u : goal.decreases-loop-u
 decreases-loop-u l = l.n - l.steps
 
-abbrev pub invariant-nodes : goal.invariant-nodes
-invariant-nodes l =
-    (l.v ≤ l.n) × (l.found ≡ l.n) × (get_or l.known l.root 0 ≡ 1) × ((w : ℕ) → (get_or l.known w 0 ≡ 0 → ⊥) → Reaches l.parents l.root w) × ((w : ℕ) → w < l.v → Reaches l.parents l.root w)
-
-abbrev pub decreases-nodes : goal.decreases-nodes
-decreases-nodes l = l.n - l.v
+abbrev pub invariant-loop-v : goal.invariant-loop-v
+invariant-loop-v l =
+    (get_or l.known l.root false ≡ true) × ((w : ℕ) → get_or l.known w false ≡ true → Reaches l.parents l.root w) × ((w : ℕ) → w < l.v → Reaches l.parents l.root w)

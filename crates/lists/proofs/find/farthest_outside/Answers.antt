@@ -2,13 +2,16 @@
 use native.Mathlib.Omega.{arith}
 use native.Mathlib.Numerals.{add-one}
 use borrow.Author.Rules.{rules}
+use Prim.Native.Nat.{◌-◌}
+use lib.ListN.{get_or}
 use Rattle.model.specs.Yard as Yard
+use Rattle.lists.proofs.Larger.{max_is}
 use Rattle.lists.proofs.find.farthest_outside.Goals as goal
 
-pub loop-i-init : goal.loop-i-init
+pub loop-x-init : goal.loop-x-init
 unfolding Yard.most
-loop-i-init c = search rules
+loop-x-init c = search rules
 
-pub loop-i-preserved : goal.loop-i-preserved
+pub loop-x-preserved : goal.loop-x-preserved
 unfolding Yard.most
-loop-i-preserved c = (omega arith, rw add-one (omega (arith, c.larger-most.ensures, c.larger-far.ensures, c.above-in-loop-i.ensures, c.above.ensures)))
+loop-x-preserved c = rw add-one (omega (arith, max_is c.loop-x.most c.max-far.result, max_is (c.args.low - get_or c.args.list.now c.loop-x.x-index 0) (get_or c.args.list.now c.loop-x.x-index 0 - c.args.high)))

@@ -11,7 +11,6 @@ use Rattle.model.specs.Yard.{Yard, size}
 use Rattle.model.specs.Judge.{Tree}
 use Rattle.model.specs.Calls.Demands.{demands_of}
 use Rattle.laws.proofs.Judged.{facts}
-use Rattle.lists.proofs.Root.{root_found}
 use Rattle.demand.proofs.Answers.{demands_long, demands_front, demands_small}
 use Rattle.sheet.specs.Report.{Columns}
 use Rattle.sheet.proofs.Edges.{report_short}
@@ -111,9 +110,9 @@ returns c =
     let l = c.split.auto.ups ∙ zeros _ p.tree in
     let k = c.split.auto.downs ∙ zeros _ p.tree in
     let e = c.fill.ensures in
-    let q = root_found _ p.tree _ c.first_own-root.ensures in
+    let q = c.root_of-root.ensures in
     let w = rw (take_at c.split.new.ups _ _ l, take_at c.split.new.downs _ _ k) at c.put_report.ensures in
-    let s = report_short _ _ c.first_own-root.result _ (columns _ p.tree _ e l k c.split.ensures) (planned_few _ p) in
+    let s = report_short _ _ c.root_of-root.result _ (columns _ p.tree _ e l k c.split.ensures) (planned_few _ p) in
     record {
       written = written_as (planned_report _ p _ _ _ _ (front _ p.tree _ e) l (all_split _ p.tree _ e _ _ c.split.ensures) q) w;
       upper_bound = omega (arith, w.end, s, l);

@@ -5,12 +5,13 @@ use Prim.Native.Nat.{ℕ, ◌<◌}
 use native.Mathlib.Omega.{arith}
 use Rattle.model.specs.Yard.{Yard}
 use Rattle.laws.proofs.Judged.{facts}
+use Rattle.openings.specs.declared.edges.Marks.{Marks}
 use Rattle.openings.specs.Listing.{AskedChildren}
 use Rattle.openings.proofs.Listing.{falls, Walking, walk_end, walk_child, walk_past, walk_room, next_child, walk_next}
 use Rattle.openings.proofs.list.list_children.Goals as goal
 
 -- at a child
-module _ {y : Yard} {t old list : List ℕ} {a i from end count c k : ℕ}
+module _ {y : Yard} {t : Marks} {old list : List ℕ} {a i from end count c k : ℕ}
     (h : AskedChildren y t old a i from end count) (w : Walking y list a c end k) (d : c ≢ a) where
   small : (c < 256) × (a < 256)
   small = let f = (facts y h.sees.tree).few.1 in (omega (arith, (walk_child w d).lt, f), omega (arith, h.node, f))
@@ -34,9 +35,6 @@ overflow_add-k c =
     let h = c.requires.2 in
     omega (arith, room h (c.loop-c.invariant c.requires.0 c.requires.1 h) c.loop-c-test.true c.if-c-end.false)
 
-pub overflow_add-c : goal.overflow_add-c
-overflow_add-c c = let h = c.requires.2 in omega (arith, small h (c.loop-c.invariant c.requires.0 c.requires.1 h) c.loop-c-test.true)
-
 pub bounds-t-c : goal.bounds-t-c
 bounds-t-c c = let h = c.requires.2 in omega (arith, small h (c.loop-c.invariant c.requires.0 c.requires.1 h) c.loop-c-test.true)
 
@@ -45,12 +43,12 @@ loop-c-smaller c =
     let h = c.requires.2 in
     let w = c.loop-c.invariant c.requires.0 c.requires.1 h in
     let d = c.loop-c-test.true in
-    rw c.wide-c.ensures.0 (falls d (small h w d).0 (next_child w d h.sees h.node c.if-c-end.false h.high))
+    (falls d (small h w d).0 (next_child w d h.sees h.node c.if-c-end.false h.high))
 
 pub loop-c-preserved : goal.loop-c-preserved
 loop-c-preserved c y i h =
     let w = c.loop-c.invariant y i h in
-    rw c.wide-c.ensures.0 (walk_next w c.loop-c-test.true h.sees h.node c.if-c-end.false h.high c.record_move.ensures)
+    (walk_next w c.loop-c-test.true h.sees h.node c.if-c-end.false h.high c.record_move.ensures)
 
 pub returns : goal.returns
 returns c y i h = walk_end (c.loop-c.invariant y i h) c.loop-c-test.false h.high

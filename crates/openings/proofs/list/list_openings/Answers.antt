@@ -4,7 +4,7 @@ use Rattle.openings.proofs.Listing.{list_none, list_whole}
 use Rattle.openings.proofs.list.list_openings.Goals as goal
 
 pub loop-a-init : goal.loop-a-init
-loop-a-init c = (omega arith, λ y h. list_none h)
+loop-a-init c = λ y h. list_none h
 
 pub returns : goal.returns
-returns c y h = list_whole h (omega (arith, c.loop-a-test.false, c.loop-a.invariant.0)) (c.loop-a.invariant.1 y h)
+returns c y h = list_whole h (omega (arith, c.loop-a-test.false, c.loop-a.auto)) (c.loop-a.invariant y h)

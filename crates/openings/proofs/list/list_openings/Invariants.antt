@@ -1,5 +1,4 @@
 -- `list_openings`: after each node the openings from the nodes so far are listed (the laws are in Listing).
-use Prim.Native.Nat.{◌-◌, ◌≤◌}
 use Rattle.model.specs.Yard.{Yard}
 use Rattle.model.specs.Openings.{openings_from}
 use Rattle.laws.proofs.Ranges.{collect}
@@ -8,8 +7,4 @@ use Rattle.openings.proofs.list.list_openings.Given as goal
 
 abbrev pub invariant-loop-a : goal.invariant-loop-a
 invariant-loop-a l =
-    (l.a ≤ l.n)
-    × ((y : Yard) → AskedAll y l.t l.parents l.initial.list l.n → Holds (collect l.a (openings_from y)) l.list l.k)
-
-abbrev pub decreases-loop-a : goal.decreases-loop-a
-decreases-loop-a l = l.n - l.a
+    (y : Yard) → AskedAll y l.t l.parents l.initial.list l.n → Holds (collect l.a (openings_from y)) l.list l.k

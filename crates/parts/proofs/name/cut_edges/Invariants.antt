@@ -1,11 +1,6 @@
 -- `parts::name::cut_edges` meets its contract: with each turn the entry of one node more is written (the laws are in Naming).
-use Prim.Native.Nat.{◌-◌, ◌≤◌}
-use lib.ListN.{length}
 use Rattle.parts.specs.Naming.{Cut}
 use Rattle.parts.proofs.name.cut_edges.Given as goal
 
 abbrev pub invariant-loop-v : goal.invariant-loop-v
-invariant-loop-v l = (l.v ≤ length l.parents) × Cut l.parents l.demands l.parts l.v
-
-abbrev pub decreases-loop-v : goal.decreases-loop-v
-decreases-loop-v l = length l.parents - l.v
+invariant-loop-v l = Cut l.parents l.demands l.parts l.v

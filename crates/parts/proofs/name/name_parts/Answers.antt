@@ -18,4 +18,6 @@ loop-v-preserved c y l =
     names_next n (c.name_node.ensures y record { leads = n.leads; node = omega (arith, c.loop-v-test.true, n.leads.long) })
 
 pub returns : goal.returns
-returns c y a = names_all (c.loop-v.invariant y (cut_leads a c.cut_edges.ensures)) c.loop-v-test.false
+returns c y a =
+    let n = c.loop-v.invariant y (cut_leads a c.cut_edges.ensures) in
+    names_all n (omega (arith, c.loop-v-test.false, c.loop-v.auto.parts))

@@ -1,7 +1,5 @@
 -- `parts::name::name_parts` meets its contract: cut at the edges of demand 0, the list leads up each part; then node by node is named (the
 -- laws are in Naming).
-use Prim.Native.Nat.{◌-◌}
-use lib.ListN.{length}
 use Rattle.model.specs.Yard.{Yard}
 use Rattle.parts.specs.Naming.{Leads}
 use Rattle.parts.proofs.Naming.{Names}
@@ -9,6 +7,3 @@ use Rattle.parts.proofs.name.name_parts.Given as goal
 
 abbrev pub invariant-loop-v : goal.invariant-loop-v
 invariant-loop-v l = (y : Yard) → Leads y l.initial.parts → Names y l.parts l.v
-
-abbrev pub decreases-loop-v : goal.decreases-loop-v
-decreases-loop-v l = length l.parts - l.v

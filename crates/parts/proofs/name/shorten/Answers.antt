@@ -7,8 +7,8 @@ use Rattle.parts.proofs.name.shorten.Goals as goal
 pub overflow_cast-parts : goal.overflow_cast-parts
 overflow_cast-parts c = omega (arith, top_small c.requires.1)
 
-pub loop-k-preserved : goal.loop-k-preserved
-loop-k-preserved c y a = rw c.wide-w.ensures.0 (short_next a (c.loop-k.invariant y a))
+pub loop-preserved : goal.loop-preserved
+loop-preserved c y a = short_next a (c.loop.invariant y a)
 
 pub returns : goal.returns
-returns c y a = short_last a (c.loop-k.invariant y a) c.loop-k-test.false
+returns c y a = short_last a (c.loop.invariant y a) c.loop-test.false

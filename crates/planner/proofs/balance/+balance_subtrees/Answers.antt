@@ -4,11 +4,12 @@ use mathlib.Core.Path.{◌≡◌, sym, ◌∙◌}
 use mathlib.Core.Logic.{◌≢◌}
 use mathlib.Core.Bool.{Bool, and-eq-true_iff}
 use mathlib.Core.List.{List}
-use Prim.Native.Nat.{ℕ, ◌+◌, ◌*◌, ◌≤◌, ◌<◌}
+use Prim.Native.Nat.{ℕ, ◌*◌, ◌≤◌, ◌<◌}
 use native.Mathlib.Omega.{arith}
 use lib.ListN.{length, get_or}
-use lib.IntN.{ℤ}
 use Rattle.model.specs.Yard.{Yard}
+use Rattle.serve.specs.declared.state.State.{State}
+use Rattle.serve.specs.declared.tree.Children.{Children}
 use Rattle.planner.specs.Balancing.{AskedEven, Settled}
 use Rattle.serve.proofs.Looking.{node_small}
 use Rattle.serve.proofs.Stretches.{made_length}
@@ -16,7 +17,7 @@ use Rattle.serve.proofs.Siblings.{next_is, ahead, ahead_falls}
 use Rattle.planner.proofs.Children.{ChildrenLeft, LoopEnded, child_lower, child_asked, left_next, LeftFrom, left_first, left_last, left_child, left_here, left_behind, left_passed}
 use Rattle.planner.proofs.balance.+balance_subtrees.Goals as goal
 
-module _ {y : Yard} {t : List ℕ} {s₀ s : List ℤ} {before plan : List ℕ} {k u : ℕ} (a : AskedEven y t s₀ before u) where
+module _ {y : Yard} {t : Children} {s₀ s : State} {before plan : List ℕ} {k u : ℕ} (a : AskedEven y t s₀ before u) where
   -- the loop at u has ended
   ended : Settled y u s before plan k → LoopEnded y before t s plan k u
   ended v = record { entry = s₀; asked = a; loop = v }
@@ -34,19 +35,14 @@ module _ {y : Yard} {t : List ℕ} {s₀ s : List ℤ} {before plan : List ℕ} 
       small : c < 256
       small = node_small a.described (left_child a l d).lt
 
-      falls_on : {n : ℕ} → n ≡ get_or t (512 + c) 0 → ahead u n < ahead u c
-      falls_on e = rw e (ahead_falls d small (next_is a.described.tables (left_child a l d)))
+      falls_on : ahead u (get_or t.next c 0) < ahead u c
+      falls_on = ahead_falls d small (next_is a.described.tables (left_child a l d))
 
 pub bounds-t-u : goal.bounds-t-u
 bounds-t-u t c = let a = c.requires.1 in omega (arith, node_small a.described a.node)
 
 pub loop-c-init : goal.loop-c-init
-loop-c-init t c y before a = left_first a.asked a.loop c.wide-c.ensures.0
-
-pub overflow_add-v : goal.overflow_add-v
-overflow_add-v t c =
-    let p = c.requires in
-    omega (arith, small p.1 (c.loop-c.invariant p.0 _ (ended p.1 (c.settle-k.ensures p.0 p.1))) c.loop-c-test.true)
+loop-c-init t c y before a = left_first a.asked a.loop
 
 pub bounds-t-v : goal.bounds-t-v
 bounds-t-v t c =
@@ -104,7 +100,7 @@ overflow_add-k t c =
 pub loop-c-smaller-then-enters : goal.loop-c-smaller-then-enters
 loop-c-smaller-then-enters t c =
     let p = c.requires in
-    falls_on p.1 (c.loop-c.invariant p.0 _ (ended p.1 (c.settle-k.ensures p.0 p.1))) c.loop-c-test.true c.wide-c-in-loop-c.ensures.0
+    falls_on p.1 (c.loop-c.invariant p.0 _ (ended p.1 (c.settle-k.ensures p.0 p.1))) c.loop-c-test.true
 
 pub loop-c-preserved-then-enters : goal.loop-c-preserved-then-enters
 loop-c-preserved-then-enters t c y before a =
@@ -114,17 +110,17 @@ loop-c-preserved-then-enters t c y before a =
     let h = left_here a.asked l d in
     let q = ((and-eq-true_iff _ _).0 (sym c.enters.ensures ∙ c.if-enters.true)).0 in
     let n = left_next a.asked k h q (c.balance_subtrees-m.ensures _ (child_asked a.asked k h)) in
-    left_behind a.asked l d c.wide-c-in-loop-c.ensures.0 n
+    left_behind a.asked l d n
 
 pub loop-c-smaller : goal.loop-c-smaller
 loop-c-smaller t c =
     let p = c.requires in
-    falls_on p.1 (c.loop-c.invariant p.0 _ (ended p.1 (c.settle-k.ensures p.0 p.1))) c.loop-c-test.true c.wide-c-in-loop-c.ensures.0
+    falls_on p.1 (c.loop-c.invariant p.0 _ (ended p.1 (c.settle-k.ensures p.0 p.1))) c.loop-c-test.true
 
 pub loop-c-preserved : goal.loop-c-preserved
 loop-c-preserved t c y before a =
     let l = c.loop-c.invariant y before a in
-    left_passed a.asked l c.loop-c-test.true c.wide-c-in-loop-c.ensures.0 (sym c.enters.ensures ∙ c.if-enters.false)
+    left_passed a.asked l c.loop-c-test.true (sym c.enters.ensures ∙ c.if-enters.false)
 
 pub returns : goal.returns
 returns t c y a = left_last a (c.loop-c.invariant y _ (ended a (c.settle-k.ensures y a))) c.loop-c-test.false

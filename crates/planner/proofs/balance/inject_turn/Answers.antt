@@ -2,8 +2,9 @@
 use mathlib.Core.Bool.{Bool}
 use mathlib.Core.List.{List}
 use Prim.Native.Nat.{ℕ}
-use lib.IntN.{ℤ}
 use Rattle.model.specs.Yard.{Yard}
+use Rattle.serve.specs.declared.state.State.{State}
+use Rattle.serve.specs.declared.tree.Children.{Children}
 use Rattle.serve.specs.Serving.{Sees}
 use Rattle.planner.specs.Balancing.{AskedTurn}
 use Rattle.serve.proofs.Serving.{half_first, half_sees}
@@ -11,7 +12,7 @@ use Rattle.planner.proofs.Settle.{taken_none, turn_asked, taken_some}
 use Rattle.planner.proofs.balance.inject_turn.Goals as goal
 
 -- what the choice looks at
-looks : {b : Bool} {y : Yard} {t : List ℕ} {s : List ℤ} {plan : List ℕ} {u : ℕ} → AskedTurn b y t s plan u → Sees y t s u
+looks : {b : Bool} {y : Yard} {t : Children} {s : State} {plan : List ℕ} {u : ℕ} → AskedTurn b y t s plan u → Sees y t s u
 looks {u = u} a = half_sees (half_first u a.asked.described) a.asked.node
 
 pub returns-then-c-u : goal.returns-then-c-u

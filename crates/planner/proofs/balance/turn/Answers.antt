@@ -4,9 +4,6 @@ use Rattle.serve.proofs.Looking.{node_small}
 use Rattle.planner.proofs.Settle.{draws, side_empty, fills_held, filled, none_filled, drawn}
 use Rattle.planner.proofs.balance.turn.Goals as goal
 
-pub overflow_add-u : goal.overflow_add-u
-overflow_add-u c = let a = c.requires.1 in omega (arith, node_small a.described a.node)
-
 pub offset_bounds-s-u : goal.offset_bounds-s-u
 offset_bounds-s-u c = let a = c.requires.1 in omega (arith, node_small a.described a.node)
 

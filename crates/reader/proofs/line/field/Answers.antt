@@ -1,39 +1,43 @@
 -- `field` reads a value digit by digit: behind its bytes so far, which are the decimal of `value`, lie the bytes from `i` on. It ends at the byte
--- `stop`, or where no value goes on as the bytes do. The measure is what is left of the sheet.
-use mathlib.Core.Path.{sym, ◌∙◌}
+-- `stop`, or where no value goes on as the bytes do.
+use mathlib.Core.Path.{◌∙◌}
+use Prim.Native.Nat.{◌≤◌}
 use native.Mathlib.Omega.{arith}
-use lib.ListN.{drop_of_length-le}
+use lib.ListN.{length, drop_of_length-le}
 use Rattle.reader.proofs.Fields.{field_nothing, field_first, field_end, field_found, field_break, field_begins}
 use Rattle.sheet.proofs.Writing.{drop_next}
 use Rattle.reader.proofs.line.field.Goals as goal
 
-pub returns-then-at-sheet : goal.returns-then-at-sheet
-returns-then-at-sheet c = field_nothing _ c.requires _ (drop_of_length-le _ c.if-at-sheet.true)
+pub returns-in_err-first : goal.returns-in_err-first
+returns-in_err-first c = rw c.from_residual.ensures (field_nothing _ c.requires _ (drop_of_length-le _ c.in_err-first.ensures.lookup.3))
 
-pub returns-then-first-lt48 : goal.returns-then-first-lt48
-returns-then-first-lt48 c =
-    field_first _ c.requires _ _ _ (drop_next c.args.sheet.now c.args.at (omega arith)) (λ d. omega (arith, d.0, c.if-first-lt48.true))
-
-pub returns-then-first-gt57 : goal.returns-then-first-gt57
-returns-then-first-gt57 c =
-    field_first _ c.requires _ _ _ (drop_next c.args.sheet.now c.args.at (omega arith)) (λ d. omega (arith, d.1, c.if-first-gt57.true))
+pub returns-then-not-is_ascii_digit : goal.returns-then-not-is_ascii_digit
+returns-then-not-is_ascii_digit c =
+    let f = c.in_ok-first.ensures.lookup.3 in
+    let n = c.if-not-is_ascii_digit.ensures.cases in
+    field_first _ c.requires _ _ _ (drop_next c.args.sheet.now c.args.at f.0) (λ d. omega (arith, f.1 0, n))
 
 pub loop-i-init : goal.loop-i-init
 loop-i-init c =
-    let a = c.args in
-    (omega arith, omega arith, field_begins a.sheet.now a.at (omega arith) (omega arith) (omega arith))
+    let f = c.in_ok-first.ensures.lookup.3 in
+    let d = c.if-not-is_ascii_digit.ensures.cases in
+    let e = f.1 0 in
+    (omega (arith, d), rw e (field_begins c.args.sheet.now c.args.at f.0 (omega (arith, d, e)) (omega (arith, d, e))))
 
 pub returns-then-b-stop : goal.returns-then-b-stop
 returns-then-b-stop c =
     let s = c.loop-i.invariant in
-    field_found _ c.requires _ _ s.1 _ s.2 _ (drop_next c.args.sheet.now c.loop-i.i (omega arith) ∙ rw c.if-b-stop.true)
+    field_found _ c.requires _ _ s.0 _ s.1 _ (drop_next c.args.sheet.now c.loop-i.i (omega arith) ∙ rw c.if-b-stop.true)
 
-pub returns-then-value-gt255 : goal.returns-then-value-gt255
-returns-then-value-gt255 c =
+pub returns-in_err-value : goal.returns-in_err-value
+returns-in_err-value c =
     let s = c.loop-i.invariant in
     let d = drop_next c.args.sheet.now c.loop-i.i (omega arith) in
-    field_break _ c.requires _ _ s.1 _ s.2 _ _ d c.if-b-stop.false c.extended-value.ensures (omega arith)
+    rw c.from_residual-in_err-value.ensures (field_break _ c.requires _ _ s.0 _ s.1 _ _ d c.if-b-stop.false c.in_err-value.ensures)
 
 pub returns : goal.returns
 returns c =
-    rw (sym (field_end _ c.requires _ _ c.loop-i.invariant.1 _ c.loop-i.invariant.2 (drop_of_length-le _ c.loop-i-test.false)))
+    let s = c.loop-i.invariant in
+    let f = c.in_ok-first.ensures.lookup.3 in
+    let l : length c.args.sheet.now ≤ c.loop-i.i = omega (arith, f.0) in
+    field_end _ c.requires _ _ s.0 _ s.1 (drop_of_length-le _ l)

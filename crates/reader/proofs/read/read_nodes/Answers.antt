@@ -19,7 +19,7 @@ returns-then-v-eq256 c = record {
 
 pub returns-in_default : goal.returns-in_default
 returns-in_default c =
-    let n = c.read_line-line in
+    let n = c.read_line in
     let e = seen (line_in c.args.sheet.now n.new.values) n.ensures c.in_default.is in
     record {
       depths_value = so_far_shape c.loop-at.invariant.1 (omega arith) (omega arith) (omega arith) e;
@@ -28,8 +28,8 @@ returns-in_default c =
 
 pub returns-then-values-v : goal.returns-then-values-v
 returns-then-values-v c =
-    let n = c.read_line-line in
-    let e = seen (line_in c.args.sheet.now n.new.values) n.ensures c.in-Behind.is in
+    let n = c.read_line in
+    let e = seen (line_in c.args.sheet.now n.new.values) n.ensures c.in-Some.is in
     record {
       depths_value = so_far_other c.loop-at.invariant.1 (omega arith) (omega arith) (omega arith) e c.if-values-v.true;
       result_bound = (omega arith, c.loop-at.invariant.1.full);
@@ -37,9 +37,9 @@ returns-then-values-v c =
 
 pub loop-at-preserved : goal.loop-at-preserved
 loop-at-preserved c =
-    let n = c.read_line-line in
-    let e = seen (line_in c.args.sheet.now n.new.values) n.ensures c.in-Behind.is in
-    (omega arith, so_far_next c.loop-at.invariant.1 (omega arith) (omega arith) n.new.values c.in-Behind.next e c.if-values-v.false)
+    let n = c.read_line in
+    let e = seen (line_in c.args.sheet.now n.new.values) n.ensures c.in-Some.is in
+    (omega arith, so_far_next c.loop-at.invariant.1 (omega arith) (omega arith) n.new.values c.in-Some.next e c.if-values-v.false)
 
 pub returns : goal.returns
 returns c = record {

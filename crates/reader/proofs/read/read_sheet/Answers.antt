@@ -1,9 +1,7 @@
 -- `read_sheet` is refused where a list is short, or as the sheet is; otherwise the nodes that were read are copied to the front of each list.
-use mathlib.Core.Path.{ap}
+use mathlib.Core.Path.{sym}
 use native.Mathlib.Omega.{arith}
-use Rattle.model.specs.declared.Counted.{Counted}
-use Rattle.reader.specs.Reading.{took, counted}
-use Rattle.reader.proofs.ReadLines.{seen}
+use Rattle.laws.proofs.Refused.{told_on}
 use Rattle.reader.proofs.ReadCall.{short_parents, short_pebbles, short_targets, short_depths, sheet_refused, sheet_read}
 use Rattle.reader.proofs.read.read_sheet.Goals as goal
 
@@ -56,16 +54,16 @@ returns-then-depths-lt256 c =
       depths_value = h.1.1.1.1;
     }
 
-pub returns-in_default : goal.returns-in_default
-returns-in_default c =
+pub returns-in_err-n : goal.returns-in_err-n
+returns-in_err-n c =
     let a = c.args in
-    let l = c.read_lines-read in
+    let l = c.read_lines in
     let m = l.new in
-    let e = seen (λ (x : Counted). took x m.parents m.pebbles m.targets m.depths) l.ensures.depths_value c.in_default.is in
+    let e = sym c.in_err-n.ensures.depths_value in
     let h = sheet_refused a.sheet.now a.parents.now a.pebbles.now a.targets.now a.depths.now
     (omega arith) (omega arith) (omega arith) (omega arith) e in
     record {
-      result_value = rw c.in_default.is h.0;
+      result_value = told_on _ _ c.from_residual.ensures.1 _ h.0;
       parents_value = h.1.0;
       pebbles_value = h.1.1.0;
       targets_value = h.1.1.1.0;
@@ -75,13 +73,13 @@ returns-in_default c =
 pub returns : goal.returns
 returns c =
     let a = c.args in
-    let l = c.read_lines-read in
+    let l = c.read_lines in
     let m = l.new in
-    let n = c.in-Number.n in
-    let e = seen (λ (x : Counted). took x m.parents m.pebbles m.targets m.depths) l.ensures.depths_value c.in-Number.is in
+    let n = c.in_ok-n.n in
+    let e = sym c.in_ok-n.ensures.depths_value in
     let h = sheet_read a.sheet.now a.parents.now a.pebbles.now a.targets.now a.depths.now
     (omega arith) (omega arith) (omega arith) (omega arith) n m.parents m.pebbles m.targets m.depths
-    (omega (arith, ap counted c.in-Number.is, l.ensures.result_bound.0)) l.ensures.result_bound.1 e
+    c.in_ok-n.ensures.result_bound.0 l.ensures.result_bound.1 e
     c.put_text.ensures c.put_text-2.ensures c.put_text-3.ensures c.put_text-4.ensures in
     record {
       result_value = h.0;

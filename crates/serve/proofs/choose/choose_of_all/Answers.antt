@@ -3,54 +3,29 @@
 use native.Mathlib.Omega.{arith}
 use mathlib.Core.Logic.{◌≢◌}
 use mathlib.Core.Bool.{Bool}
-use mathlib.Core.List.{List}
 use Prim.Native.Nat.{ℕ, ◌<◌}
 use lib.IntN.{ℤ}
 use Rattle.model.specs.Yard.{Yard}
+use Rattle.serve.specs.declared.state.State.{State}
+use Rattle.serve.specs.declared.tree.Children.{Children}
 use Rattle.serve.specs.Serving.{Sees, NextBeyond}
 use Rattle.serve.proofs.Siblings.{next_is}
 use Rattle.serve.proofs.Looking.{seen_small, demand_back, led_first, led_last, led_next, led_falls}
 use Rattle.serve.proofs.choose.choose_of_all.Goals as goal
 
 -- the next record is a node
-node : {b : Bool} {y : Yard} {t : List ℕ} {s : List ℤ} {u low c : ℕ} {most : ℤ}
+node : {b : Bool} {y : Yard} {t : Children} {s : State} {u low c : ℕ} {most : ℤ}
     → Sees y t s u → NextBeyond b y u low most c → c ≢ u → c < 256
 node w n d = seen_small w (n.found d).0.lt
-
-pub overflow_add-u : goal.overflow_add-u
-overflow_add-u c = omega (arith, seen_small c.requires.1 c.requires.1.node)
 
 pub bounds-t-u : goal.bounds-t-u
 bounds-t-u c = omega (arith, seen_small c.requires.1 c.requires.1.node)
 
 pub loop-u-init : goal.loop-u-init
-loop-u-init c y w = led_first (rw c.wide-from.ensures.0 (w.tables.first _ w.node))
-
-pub next_beyond-c-requires : goal.next_beyond-c-requires
-next_beyond-c-requires c = let p = c.requires in (p.0, p.1, (_, (c.loop-u.invariant p.0 p.1).lowest))
+loop-u-init c y w = led_first (w.tables.first _ w.node)
 
 pub returns-then-c-u : goal.returns-then-c-u
 returns-then-c-u c y w = let h = c.loop-u.invariant y w in led_last h (c.next_beyond-c.ensures y w _ h.lowest) c.if-c-u.true
-
-pub overflow_add-c : goal.overflow_add-c
-overflow_add-c c =
-    let p = c.requires in
-    omega (arith, node p.1 (c.next_beyond-c.ensures p.0 p.1 _ (c.loop-u.invariant p.0 p.1).lowest) c.if-c-u.false)
-
-pub bounds-t-c : goal.bounds-t-c
-bounds-t-c c =
-    let p = c.requires in
-    omega (arith, node p.1 (c.next_beyond-c.ensures p.0 p.1 _ (c.loop-u.invariant p.0 p.1).lowest) c.if-c-u.false)
-
-pub offset_bounds-s-c : goal.offset_bounds-s-c
-offset_bounds-s-c c =
-    let p = c.requires in
-    omega (arith, node p.1 (c.next_beyond-c.ensures p.0 p.1 _ (c.loop-u.invariant p.0 p.1).lowest) c.if-c-u.false)
-
-pub bounds-s-c : goal.bounds-s-c
-bounds-s-c c =
-    let p = c.requires in
-    omega (arith, node p.1 (c.next_beyond-c.ensures p.0 p.1 _ (c.loop-u.invariant p.0 p.1).lowest) c.if-c-u.false)
 
 pub loop-u-smaller : goal.loop-u-smaller
 loop-u-smaller c =
@@ -64,4 +39,4 @@ loop-u-preserved c y w =
     let h = c.loop-u.invariant y w in
     let n = c.next_beyond-c.ensures y w _ h.lowest in
     let k = (n.found c.if-c-u.false).0 in
-    rw (c.wide-from-in-loop-u.ensures.0, demand_back w k, w.demands _ k) (led_next h n c.if-c-u.false (next_is w.tables k))
+    rw (demand_back w k, w.demands _ k) (led_next h n c.if-c-u.false (next_is w.tables k))

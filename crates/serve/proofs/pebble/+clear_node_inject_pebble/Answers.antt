@@ -2,18 +2,18 @@
 -- free v is cleared, a full one by the filling of the child that is chosen (the laws are in Serving).
 use mathlib.Core.Path.{◌≡◌, refl, ap, ◌∙◌}
 use mathlib.Core.Bool.{Bool, true, not}
-use mathlib.Core.List.{List}
 use Prim.Native.Nat.{ℕ}
 use native.Mathlib.Omega.{arith}
 use lib.Dec.{ltb}
-use lib.IntN.{ℤ}
 use Rattle.model.specs.Yard.{Yard, pebble, capacity, full}
+use Rattle.serve.specs.declared.state.State.{State}
+use Rattle.serve.specs.declared.tree.Children.{Children}
 use Rattle.serve.specs.Serving.{Room, AskedFill}
 use Rattle.serve.proofs.Serving.{half_small, half_sees, room, count_small, one_place, one_less, less_one, up_small, free_full, chosen_up, chosen_asked, cleared_behind, cleared_here, filled_last}
 use Rattle.serve.proofs.pebble.+clear_node_inject_pebble.Goals as goal
 
 -- what is told of the place
-told : {y : Yard} {t : List ℕ} {s : List ℤ} {end v : ℕ} {b : Bool} → AskedFill true y t s end v
+told : {y : Yard} {t : Children} {s : State} {end v : ℕ} {b : Bool} → AskedFill true y t s end v
     → ((p d : ℕ) → Room s v p d → b ≡ ltb p d) → full y v ≡ not b
 told {y} {b = b} a h = free_full y _ b (h (pebble y _) (capacity y _) (room a.halfway a.due.lt))
 

@@ -2,25 +2,26 @@
 -- laws are in Serving), with one place less.
 use mathlib.Core.Path.{◌≡◌, sym, ap, ◌∙◌}
 use mathlib.Core.Bool.{true, false}
-use mathlib.Core.List.{List}
-use Prim.Native.Nat.{ℕ, ◌+◌}
+use Prim.Native.Nat.{ℕ}
 use native.Mathlib.Omega.{arith}
 use lib.ListN.{get_or}
-use lib.IntN.{ℤ, pos}
+use lib.IntN.{pos}
 use mir.Syntax.{w16}
 use mir.Val.{of_z}
 use Rattle.model.specs.Yard.{Yard}
 use Rattle.laws.specs.Algorithms.{blocked}
+use Rattle.serve.specs.declared.state.State.{State}
+use Rattle.serve.specs.declared.tree.Children.{Children}
 use Rattle.serve.specs.Serving.{AskedFill}
 use Rattle.serve.proofs.Serving.{half_small, half_sees, count_small, held_free, empty_blocked, one_place, one_less, up_small, chosen_up, chosen_asked, cleared_behind, cleared_here, filled_last}
 use Rattle.serve.proofs.pebble.+extract_pebble.Goals as goal
 
 -- v holds a pebble, or is empty
-module _ {y : Yard} {t : List ℕ} {s : List ℤ} {end v : ℕ} (a : AskedFill false y t s end v) where
-  held : (of_z w16 (get_or s (256 + v) (pos 0)) ≡ 0 → ⊥) → blocked y false v ≡ false
+module _ {y : Yard} {t : Children} {s : State} {end v : ℕ} (a : AskedFill false y t s end v) where
+  held : (of_z w16 (get_or s.pebbles v (pos 0)) ≡ 0 → ⊥) → blocked y false v ≡ false
   held d = held_free y v (λ e. d (ap (of_z w16) (a.halfway.pebbles v a.due.lt) ∙ e))
 
-  empty : of_z w16 (get_or s (256 + v) (pos 0)) ≡ 0 → blocked y false v ≡ true
+  empty : of_z w16 (get_or s.pebbles v (pos 0)) ≡ 0 → blocked y false v ≡ true
   empty e = empty_blocked y v (sym (ap (of_z w16) (a.halfway.pebbles v a.due.lt)) ∙ e)
 
 pub overflow_sub-end : goal.overflow_sub-end
@@ -30,9 +31,6 @@ pub record_move-requires : goal.record_move-requires
 record_move-requires t c =
     let p = c.requires in
     (up_small p.1 p.2, half_small p.1.halfway p.1.due.lt, omega (arith, one_place p.1, p.1.few))
-
-pub overflow_add-v : goal.overflow_add-v
-overflow_add-v t c = let p = c.requires in omega (arith, half_small p.1.halfway p.1.due.lt)
 
 pub offset_bounds-s-v : goal.offset_bounds-s-v
 offset_bounds-s-v t c = let p = c.requires in omega (arith, half_small p.1.halfway p.1.due.lt)

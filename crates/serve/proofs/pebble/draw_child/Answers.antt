@@ -3,24 +3,22 @@ use Rattle.laws.specs.Algorithms.{blocked}
 use mathlib.Core.Path.{◌≡◌, ap, ◌∙◌}
 use mathlib.Core.Bool.{false}
 use mathlib.Core.List.{List}
-use native.Mathlib.Omega.{arith}
-use Prim.Native.Nat.{ℕ, ◌+◌}
+use Prim.Native.Nat.{ℕ}
 use lib.ListN.{get_or}
-use lib.IntN.{ℤ, pos}
+use lib.IntN.{pos}
 use mir.Syntax.{w16}
 use mir.Val.{of_z}
 use Rattle.model.specs.Yard.{Yard}
+use Rattle.serve.specs.declared.state.State.{State}
+use Rattle.serve.specs.declared.tree.Children.{Children}
 use Rattle.serve.specs.Serving.{AskedServe}
 use Rattle.serve.proofs.Serving.{held_free, serve_up, serve_half, serve_asked, serve_small, serve_few, serve_list, serve_one_room, serve_one, serve_all}
 use Rattle.serve.proofs.pebble.draw_child.Goals as goal
 
 -- a c that holds a pebble
-held : {y : Yard} {t : List ℕ} {s₀ s : List ℤ} {plan : List ℕ} {u c : ℕ} → AskedServe false y t s₀ s plan u c
-    → (of_z w16 (get_or s (256 + c) (pos 0)) ≡ 0 → ⊥) → blocked y false c ≡ false
+held : {y : Yard} {t : Children} {s₀ s : State} {plan : List ℕ} {u c : ℕ} → AskedServe false y t s₀ s plan u c
+    → (of_z w16 (get_or s.pebbles c (pos 0)) ≡ 0 → ⊥) → blocked y false c ≡ false
 held {y} a d = held_free y _ (λ e. d (ap (of_z w16) ((serve_half a).pebbles _ a.due.lt) ∙ e))
-
-pub bounds-s-c : goal.bounds-s-c
-bounds-s-c c = omega (arith, (serve_small c.requires.2).1)
 
 pub move_pebble-requires : goal.move_pebble-requires
 move_pebble-requires c =

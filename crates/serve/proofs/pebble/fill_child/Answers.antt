@@ -4,14 +4,15 @@ use mathlib.Core.Bool.{Bool, true, not}
 use mathlib.Core.List.{List}
 use Prim.Native.Nat.{ℕ}
 use lib.Dec.{ltb}
-use lib.IntN.{ℤ}
 use Rattle.model.specs.Yard.{Yard, pebble, capacity, full}
+use Rattle.serve.specs.declared.state.State.{State}
+use Rattle.serve.specs.declared.tree.Children.{Children}
 use Rattle.serve.specs.Serving.{AskedServe, Room}
 use Rattle.serve.proofs.Serving.{room, free_full, serve_up, serve_half, serve_asked, serve_small, serve_few, serve_list, serve_one_room, serve_one, serve_all}
 use Rattle.serve.proofs.pebble.fill_child.Goals as goal
 
 -- what is told of the place
-told : {y : Yard} {t : List ℕ} {s₀ s : List ℤ} {plan : List ℕ} {u c : ℕ} {b : Bool} → AskedServe true y t s₀ s plan u c
+told : {y : Yard} {t : Children} {s₀ s : State} {plan : List ℕ} {u c : ℕ} {b : Bool} → AskedServe true y t s₀ s plan u c
     → ((p d : ℕ) → Room s c p d → b ≡ ltb p d) → full y c ≡ not b
 told {y} {b = b} a h = free_full y _ b (h (pebble y _) (capacity y _) (room (serve_half a) a.due.lt))
 

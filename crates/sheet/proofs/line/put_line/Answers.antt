@@ -1,4 +1,4 @@
--- `put_line` writes value after value, each with the byte that ends it: the line from value `i` on is left. The measure is the values left.
+-- `put_line` writes value after value, each with the byte that ends it: the line from value `i` on is left.
 use mathlib.Core.Path.{ap}
 use mathlib.Core.List.{[], ◌∷◌}
 use Prim.Native.Nat.{ℕ}
@@ -9,18 +9,18 @@ use Rattle.sheet.proofs.line.put_line.Goals as goal
 
 pub put_decimal-end-requires : goal.put_decimal-end-requires
 put_decimal-end-requires c =
-    let r = c.loop-i.invariant.1 in
+    let r = c.loop-i.invariant in
     omega (arith, c.requires, r.end, left_length r, length_line_next c.args.values.now c.loop-i.i (omega arith))
 
 pub bounds-out-end : goal.bounds-out-end
 bounds-out-end c =
-    let r = c.loop-i.invariant.1 in
+    let r = c.loop-i.invariant in
     let p = c.put_decimal-end in
     omega (arith, c.requires, r.end, left_length r, length_line_next c.args.values.now c.loop-i.i (omega arith), p.auto.out, p.ensures.end)
 
 pub overflow_add-end : goal.overflow_add-end
 overflow_add-end c =
-    let r = c.loop-i.invariant.1 in
+    let r = c.loop-i.invariant in
     let p = c.put_decimal-end in
     omega (arith, c.requires, r.end, left_length r, length_line_next c.args.values.now c.loop-i.i (omega arith), p.auto.out, p.ensures.end)
 
@@ -28,7 +28,7 @@ pub loop-i-preserved : goal.loop-i-preserved
 loop-i-preserved c =
     let p = c.put_decimal-end in
     let byte = written_as (ap (λ (b : ℕ). b ∷ []) c.stop_before.ensures) (written_byte c.stop_before.result p.result p.new.out) in
-    (omega arith, left_next c.loop-i.invariant.1 (line_next c.args.values.now c.loop-i.i (omega arith)) (written_append p.ensures byte))
+    left_next c.loop-i.invariant (line_next c.args.values.now c.loop-i.i (omega arith)) (written_append p.ensures byte)
 
 pub returns : goal.returns
-returns c = left_none c.loop-i.invariant.1 (line_end _ _ c.loop-i-test.false)
+returns c = left_none c.loop-i.invariant (line_end _ _ c.loop-i-test.false)

@@ -5,5 +5,5 @@ use Rattle.sheet.proofs.line.stop_before.Goals as goal
 pub returns-then-others-eq0 : goal.returns-then-others-eq0
 returns-then-others-eq0 c = stop_last _ c.if-others-eq0.true
 
-pub returns : goal.returns
-returns c = stop_inner _ c.if-others-eq0.false
+pub returns-else-others-eq0 : goal.returns-else-others-eq0
+returns-else-others-eq0 c = stop_inner _ c.if-others-eq0.false

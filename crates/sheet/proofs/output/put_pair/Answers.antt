@@ -8,9 +8,8 @@ pub put_line-requires : goal.put_line-requires
 put_line-requires c =
     omega (arith, length_pair c.args.first c.args.second c.requires.0 c.requires.1)
 
-pub returns : goal.returns
-returns c =
+pub returns-clause-out_value : goal.returns-clause-out_value
+returns-clause-out_value c =
     let p = c.put_text-at.ensures in
     let short = length_pair c.args.first c.args.second c.requires.0 c.requires.1 in
-    let f = written_front (written_append p c.put_line.ensures) (omega (arith, c.put_line.ensures.end, p.end, c.requires.2, short)) in
-    record { value = f.0; out_value = f.1 }
+    (written_front (written_append p c.put_line.ensures) (omega (arith, c.put_line.ensures.end, p.end, c.requires.2, short))).1

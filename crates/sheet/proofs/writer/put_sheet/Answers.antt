@@ -1,4 +1,4 @@
--- `put_sheet` writes the header and then line by line: the lines from node v on are left. The measure is the nodes left.
+-- `put_sheet` writes the header and then line by line: the lines from node v on are left.
 use native.Mathlib.Omega.{arith}
 use Rattle.model.specs.Yard.{yard_of}
 use Rattle.model.specs.Sheets.{header, text}
@@ -17,7 +17,7 @@ put_line-at-requires c =
     let a = c.args in
     let y = yard_of a.parents.now a.pebbles.now a.targets.now a.depths.now in
     let p = c.put_text-at in
-    let r = c.loop-v.invariant.1 in
+    let r = c.loop-v.invariant in
     omega (
       arith,
       c.requires.depths_in_bounds,
@@ -33,7 +33,7 @@ pub loop-v-preserved : goal.loop-v-preserved
 loop-v-preserved c =
     let a = c.args in
     let y = yard_of a.parents.now a.pebbles.now a.targets.now a.depths.now in
-    (omega arith, left_next c.loop-v.invariant.1 (rows_next y c.loop-v.v (omega arith)) c.put_line-at.ensures)
+    left_next c.loop-v.invariant (rows_next y c.loop-v.v (omega arith)) c.put_line-at.ensures
 
 pub returns : goal.returns
 unfolding header text
@@ -41,4 +41,4 @@ returns c =
     let a = c.args in
     let y = yard_of a.parents.now a.pebbles.now a.targets.now a.depths.now in
     let p : Written header 0 a.sheet.now _ _ = c.put_text-at.ensures in
-    written_as (rows_all y) (written_append p (left_none c.loop-v.invariant.1 (rows_end y c.loop-v.v c.loop-v-test.false)))
+    written_as (rows_all y) (written_append p (left_none c.loop-v.invariant (rows_end y c.loop-v.v c.loop-v-test.false)))

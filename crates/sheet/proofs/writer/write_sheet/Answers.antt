@@ -13,7 +13,7 @@ use Rattle.model.specs.Yard.{Yard, yard_of}
 use Rattle.model.specs.Judge.{first_of, length_tests}
 use Rattle.model.specs.Sheets.{yard_sheet, max_sheet_bytes}
 use Rattle.laws.proofs.Tests.{passed_lengths}
-use Rattle.laws.proofs.Calls.{sees}
+use Rattle.laws.proofs.Refused.{told_on}
 use Rattle.laws.proofs.Sheets.{yard_sheet_short}
 use Rattle.sheet.specs.Written.{SameLength, Written}
 use Rattle.sheet.proofs.WriteCall.{write_lengths, write_short, write_whole}
@@ -39,19 +39,19 @@ module _ (y : Yard)
       let h = sizes.1 in
       (omega arith, omega (arith, written_length w), written_taken w (omega arith))
 
-pub returns-in-Refused : goal.returns-in-Refused
-returns-in-Refused c =
+pub returns-in_err-test_lengths : goal.returns-in_err-test_lengths
+returns-in_err-test_lengths c =
     let a = c.args in
     let y = yard_of a.parents.now a.pebbles.now a.targets.now a.depths.now in
-    let f = write_lengths y a.sheet.now (sees c.test_lengths-lengths.ensures c.in-Refused.is) in
-    record { result_value = f.0; sheet_value = f.1 }
+    let f = write_lengths y a.sheet.now (sym c.in_err-test_lengths.ensures) in
+    record { result_value = told_on _ _ c.from_residual.ensures.1 _ f.0; sheet_value = f.1 }
 
 pub put_sheet-needed-requires : goal.put_sheet-needed-requires
 put_sheet-needed-requires c =
     let a = c.args in
     let y = yard_of a.parents.now a.pebbles.now a.targets.now a.depths.now in
     let t = c.type_inv in
-    let s = sizes y t.parents t.pebbles t.targets t.depths (sees c.test_lengths-lengths.ensures c.in_default.is) in
+    let s = sizes y t.parents t.pebbles t.targets t.depths (sym c.in_ok-test_lengths.ensures) in
     record { same_length = s.0; depths_in_bounds = s.1 }
 
 pub returns-then-needed-sheet : goal.returns-then-needed-sheet
@@ -59,7 +59,7 @@ returns-then-needed-sheet c =
     let a = c.args in
     let y = yard_of a.parents.now a.pebbles.now a.targets.now a.depths.now in
     let t = c.type_inv in
-    let told = sees c.test_lengths-lengths.ensures c.in_default.is in
+    let told = sym c.in_ok-test_lengths.ensures in
     let s = aside y t.parents t.pebbles t.targets t.depths told c.put_sheet-needed.ensures in
     let f = write_short y a.sheet.now told s.0 (omega arith) in
     record { result_value = f.0; sheet_value = f.1 }
@@ -69,7 +69,7 @@ slice_bounds-whole-end c =
     let a = c.args in
     let y = yard_of a.parents.now a.pebbles.now a.targets.now a.depths.now in
     let t = c.type_inv in
-    let told = sees c.test_lengths-lengths.ensures c.in_default.is in
+    let told = sym c.in_ok-test_lengths.ensures in
     (aside y t.parents t.pebbles t.targets t.depths told c.put_sheet-needed.ensures).1
 
 pub slice_bounds-put_text-end : goal.slice_bounds-put_text-end
@@ -77,7 +77,7 @@ slice_bounds-put_text-end c =
     let a = c.args in
     let y = yard_of a.parents.now a.pebbles.now a.targets.now a.depths.now in
     let t = c.type_inv in
-    let told = sees c.test_lengths-lengths.ensures c.in_default.is in
+    let told = sym c.in_ok-test_lengths.ensures in
     sym (length-take-le _ _ (aside y t.parents t.pebbles t.targets t.depths told c.put_sheet-needed.ensures).1)
 
 pub returns : goal.returns
@@ -85,7 +85,7 @@ returns c =
     let a = c.args in
     let y = yard_of a.parents.now a.pebbles.now a.targets.now a.depths.now in
     let t = c.type_inv in
-    let told = sees c.test_lengths-lengths.ensures c.in_default.is in
+    let told = sym c.in_ok-test_lengths.ensures in
     let s = aside y t.parents t.pebbles t.targets t.depths told c.put_sheet-needed.ensures in
     let f = write_whole y a.sheet.now told s.0 (omega arith) (written_as s.2 c.put_text.ensures) in
     record { result_value = f.0; sheet_value = f.1 }

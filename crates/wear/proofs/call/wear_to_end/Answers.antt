@@ -1,8 +1,9 @@
 -- `wear_to_end` obeys and counts on a copy in the first entries of an array, one for each node. If no move is refused they are the counts
 -- at the end, and the search for an empty target decides.
-use mathlib.Core.Path.{◌≡◌, sym, ap, ◌∙◌}
+use mathlib.Core.Path.{◌≡◌, refl, sym, ap, ◌∙◌}
 use mathlib.Core.List.{List}
 use Prim.Native.Nat.{ℕ}
+use native.Mathlib.Omega.{arith}
 use lib.ListN.{length}
 use lib.Dec.{ltb}
 use Rattle.lists.specs.Find.{firstBelow}
@@ -11,6 +12,8 @@ use Rattle.model.specs.Judge.{at_lowest, Tree}
 use Rattle.model.specs.Push.{Move, after, run}
 use Rattle.laws.proofs.Found.{lowest_fault, lowest_none}
 use Rattle.laws.proofs.Judged.{facts}
+use Rattle.laws.proofs.Refused.{told_on}
+use Rattle.lists.proofs.Found.{some_is, none_is}
 use Rattle.laws.proofs.Runs.{obeys, run_tree}
 use Rattle.laws.proofs.Calls.{answer_answered, answer_refused}
 use Rattle.checker.proofs.Laws.{front_zeros, came_back}
@@ -28,37 +31,38 @@ slice_bounds-counts-end c = (facts _ c.requires.0).few.1
 pub slice_bounds-count_copy-end : goal.slice_bounds-count_copy-end
 slice_bounds-count_copy-end c = sym (front_zeros _ (facts _ c.requires.0).few.1)
 
-pub count_copy-worn-requires : goal.count_copy-worn-requires
-count_copy-worn-requires c =
+pub count_copy-requires : goal.count_copy-requires
+count_copy-requires c =
     let f = facts _ c.requires.0 in
     record { tree = c.requires; counts_len = front_zeros _ f.few.1 ∙ sym f.pebbles_size }
 
-pub returns-in-Refused : goal.returns-in-Refused
-returns-in-Refused c = rw (answer_refused _ _ _ (sym c.in-Refused.ensures.result_value))
+pub returns-in_err-worn : goal.returns-in_err-worn
+returns-in_err-worn c = told_on _ _ c.from_residual.ensures.1 _ (rw (answer_refused _ _ _ (sym c.in_err-worn.ensures.result_value)))
 
 pub slice_bounds-counts-end-2 : goal.slice_bounds-counts-end-2
-slice_bounds-counts-end-2 c = (came_back _ _ (facts _ c.requires.0).few.1 c.count_copy-worn.auto.counts).fits
+slice_bounds-counts-end-2 c = (came_back _ _ (facts _ c.requires.0).few.1 c.count_copy.auto.counts).fits
 
 pub slice_bounds-first_below-end : goal.slice_bounds-first_below-end
-slice_bounds-first_below-end c = (came_back _ _ (facts _ c.requires.0).few.1 c.count_copy-worn.auto.counts).long
+slice_bounds-first_below-end c = (came_back _ _ (facts _ c.requires.0).few.1 c.count_copy.auto.counts).long
 
-pub first_below-empty-requires : goal.first_below-empty-requires
-first_below-empty-requires c =
+pub first_below-requires : goal.first_below-requires
+first_below-requires c =
     let f = facts _ c.requires.0 in
-    f.targets_size ∙ (came_back _ _ f.few.1 c.count_copy-worn.auto.counts).long
+    f.targets_size ∙ (came_back _ _ f.few.1 c.count_copy.auto.counts).long
 
-pub returns-then-empty-n : goal.returns-then-empty-n
-returns-then-empty-n c =
-    let o = c.count_copy-worn in
+pub returns-in-Some : goal.returns-in-Some
+returns-in-Some c =
+    let o = c.count_copy in
     let back = came_back _ _ (facts _ c.requires.0).few.1 o.auto.counts in
-    let free = (answer_answered _ _ _ (sym c.in_default.ensures.result_value)).0 in
-    let e = ended _ c.requires.0 _ _ _ back.is (rw free at o.ensures.counts_value) _ c.first_below-empty.ensures in
-    rw (free, lowest_fault _ _ 14 _ e c.if-empty-n.true)
+    let free = (answer_answered _ _ _ (sym c.in_ok-worn.ensures.result_value)).0 in
+    let f = some_is _ _ _ c.in-Some.ensures in
+    let e = ended _ c.requires.0 _ _ _ back.is (rw free at c.in_ok-worn.ensures.counts_value) _ f.0 in
+    rw (free, lowest_fault _ _ 14 _ e (omega (arith, f.1, back.long, ap length back.is)))
 
 pub returns : goal.returns
 returns c =
-    let o = c.count_copy-worn in
+    let o = c.count_copy in
     let back = came_back _ _ (facts _ c.requires.0).few.1 o.auto.counts in
-    let free = (answer_answered _ _ _ (sym c.in_default.ensures.result_value)).0 in
-    let e = ended _ c.requires.0 _ _ _ back.is (rw free at o.ensures.counts_value) _ c.first_below-empty.ensures in
-    o.ensures.result_value ∙ rw (free, ap (at_lowest 14) (lowest_none _ _ _ e c.if-empty-n.false))
+    let free = (answer_answered _ _ _ (sym c.in_ok-worn.ensures.result_value)).0 in
+    let e = ended _ c.requires.0 _ _ _ back.is (rw free at c.in_ok-worn.ensures.counts_value) _ refl in
+    c.in_ok-worn.ensures.result_value ∙ rw (free, ap (at_lowest 14) (lowest_none _ _ _ e (omega (arith, none_is _ _ c.in_default.ensures, back.long, ap length back.is))))

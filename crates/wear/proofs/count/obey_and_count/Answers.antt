@@ -15,7 +15,9 @@ use Rattle.wear.specs.Wearing.{AskedWear}
 use Rattle.wear.proofs.Wearing.{Obeying, Entries, Sliding, obeying_first, obeying_long, obeying_lt, obeying_refused, obeying_next}
 use Rattle.wear.proofs.Wearing.{edge_asked, edge_lt, entry_small, count_none, count_more, slide_first, slide_past}
 use Rattle.wear.proofs.Wearing.{edge_of_first, edge_of_last, shift_asked, slide_stays, slide_rises, worn_move, worn_end}
+use Rattle.laws.proofs.Refused.{told_on}
 use Rattle.wear.proofs.count.obey_and_count.Goals as goal
+use Rattle.wear.proofs.count.obey_and_count.Goals.{then-most-crossings, else-most-crossings}
 
 -- the first stretch is counted
 begun : {y : Yard} {plan qs counts : List ℕ} {w i crossings edge : ℕ} → Tree y × AskedWear plan w
@@ -27,29 +29,29 @@ pub loop-i-init : goal.loop-i-init
 loop-i-init c = (omega arith, obeying_first _ _ c.requires.0, count_none _ _)
 
 -- the first stretch: the move at hand
-pub obey_move-done-requires : goal.obey_move-done-requires
-obey_move-done-requires c =
+pub obey_move-requires : goal.obey_move-requires
+obey_move-requires c =
     let o = c.loop-i.invariant.1 in
     (obeying_long o, obeying_lt o (omega (arith, c.requires.1.wide)))
 
-pub returns-in-Refused : goal.returns-in-Refused
-returns-in-Refused c =
+pub returns-in_err-obey_move : goal.returns-in_err-obey_move
+returns-in_err-obey_move c =
     let o = c.loop-i.invariant.1 in
-    let f = c.in-Refused.ensures in
+    let f = c.in_err-obey_move.ensures in
     let r = worn_move _ _ c.args.width (obeying_refused o (omega (arith, c.requires.1.wide)) _ (sym f.result_value)) f.pebbles_value in
-    record { result_value = r.0; pebbles_value = r.1 }
+    record { result_value = told_on _ _ c.from_residual.ensures.1 _ r.0; pebbles_value = r.1 }
 
 -- it is obeyed, and crosses an edge
 pub edge_at-come-requires : goal.edge_at-come-requires
 edge_at-come-requires c =
     let l : c.loop-i.i < length (moves_of c.args.plan.now) = omega (arith, c.requires.1.wide) in
-    let f = c.in_default.ensures in
+    let f = c.in_ok-obey_move.ensures in
     edge_asked (obeying_next c.loop-i.invariant.1 l (sym f.result_value) f.pebbles_value) _ (omega arith) l
 
 pub overflow_add-counts : goal.overflow_add-counts
 overflow_add-counts c =
     let l : c.loop-i.i < length (moves_of c.args.plan.now) = omega (arith, c.requires.1.wide) in
-    let f = c.in_default.ensures in
+    let f = c.in_ok-obey_move.ensures in
     let o = obeying_next c.loop-i.invariant.1 l (sym f.result_value) f.pebbles_value in
     let e = edge_lt o c.loop-i.i (omega arith) l in
     omega (arith, entry_small c.requires.1.few c.loop-i.invariant.2 c.edge_at-come.result (rw c.edge_at-come.ensures e))
@@ -57,7 +59,7 @@ overflow_add-counts c =
 pub loop-i-preserved : goal.loop-i-preserved
 loop-i-preserved c =
     let l : c.loop-i.i < length (moves_of c.args.plan.now) = omega (arith, c.requires.1.wide) in
-    let f = c.in_default.ensures in
+    let f = c.in_ok-obey_move.ensures in
     let o = obeying_next c.loop-i.invariant.1 l (sym f.result_value) f.pebbles_value in
     (omega arith, o, count_more o c.loop-i.invariant.2 l c.edge_at-come.ensures)
 
@@ -68,33 +70,30 @@ pub lowest_edge-worst-requires : goal.lowest_edge-worst-requires
 lowest_edge-worst-requires c = (facts _ c.requires.0).few.1
 
 -- from stretch to stretch
-pub overflow_add-gone : goal.overflow_add-gone
-overflow_add-gone c =
-    let b = begun c.requires c.loop-i.invariant (omega arith) c.most_crossings-most.ensures c.lowest_edge-worst.ensures in
-    let s = c.loop-gone.invariant _ c.requires.0 b in
-    omega (arith, s.few, c.requires.1.few)
+pub overflow_sub-gone-end : goal.overflow_sub-gone-end
+overflow_sub-gone-end c = omega (arith, c.requires.1.wide, moves_half c.args.plan.now)
 
-pub obey_move-done-requires-in-loop-gone : goal.obey_move-done-requires-in-loop-gone
-obey_move-done-requires-in-loop-gone c =
+pub obey_move-requires-in-loop-gone : goal.obey_move-requires-in-loop-gone
+obey_move-requires-in-loop-gone c =
     let b = begun c.requires c.loop-i.invariant (omega arith) c.most_crossings-most.ensures c.lowest_edge-worst.ensures in
     let o = (c.loop-gone.invariant _ c.requires.0 b).obeying in
     (obeying_long o, obeying_lt o (omega (arith, moves_half c.args.plan.now)))
 
-pub returns-in-Refused-done : goal.returns-in-Refused-done
-returns-in-Refused-done c =
+pub returns-in_err-obey_move-2 : goal.returns-in_err-obey_move-2
+returns-in_err-obey_move-2 c =
     let b = begun c.requires c.loop-i.invariant (omega arith) c.most_crossings-most.ensures c.lowest_edge-worst.ensures in
     let o = (c.loop-gone.invariant _ c.requires.0 b).obeying in
-    let f = c.in-Refused-done.ensures in
+    let f = c.in_err-obey_move-2.ensures in
     let e = obeying_refused o (omega (arith, moves_half c.args.plan.now)) _ (sym f.result_value) in
     let r = worn_move _ _ c.args.width e f.pebbles_value in
-    record { result_value = r.0; pebbles_value = r.1 }
+    record { result_value = told_on _ _ c.from_residual-in_err-obey_move-2.ensures.1 _ r.0; pebbles_value = r.1 }
 
 -- the move that comes in is obeyed, in whichever yard the moves before it were
 pub edge_at-come-requires-in-loop-gone : goal.edge_at-come-requires-in-loop-gone
 edge_at-come-requires-in-loop-gone c =
     let b = begun c.requires c.loop-i.invariant (omega arith) c.most_crossings-most.ensures c.lowest_edge-worst.ensures in
     let l : c.loop-gone.gone + c.args.width < length (moves_of c.args.plan.now) = omega (arith, moves_half c.args.plan.now) in
-    let f = c.in_default-done.ensures in
+    let f = c.in_ok-obey_move-2.ensures in
     let o = obeying_next (c.loop-gone.invariant _ c.requires.0 b).obeying l (sym f.result_value) f.pebbles_value in
     edge_asked o _ (omega arith) l
 
@@ -109,29 +108,22 @@ shift-crossings-requires c =
     let b = begun c.requires c.loop-i.invariant (omega arith) c.most_crossings-most.ensures c.lowest_edge-worst.ensures in
     let s = c.loop-gone.invariant _ c.requires.0 b in
     let l : c.loop-gone.gone + c.args.width < length (moves_of c.args.plan.now) = omega (arith, moves_half c.args.plan.now) in
-    let f = c.in_default-done.ensures in
+    let f = c.in_ok-obey_move-2.ensures in
     let o = obeying_next s.obeying l (sym f.result_value) f.pebbles_value in
     shift_asked c.requires.0 c.requires.1 o s.entries l c.edge_at-come-in-loop-gone.ensures c.edge_at.ensures
-
-pub loop-gone-preserved-then-most-crossings : goal.loop-gone-preserved-then-most-crossings
-loop-gone-preserved-then-most-crossings c qs t b =
-    let s = c.loop-gone.invariant qs t b in
-    let l : c.loop-gone.gone + c.args.width < length (moves_of c.args.plan.now) = omega (arith, moves_half c.args.plan.now) in
-    let f = c.in_default-done.ensures in
-    let o = obeying_next s.obeying l (sym f.result_value) f.pebbles_value in
-    let h = c.shift-crossings.ensures in
-    let e = c.edge_at-come-in-loop-gone.ensures in
-    slide_rises t c.requires.1 o s.entries l e c.edge_at.ensures s.best h.0 h.1 _ c.if-most-crossings.true
 
 pub loop-gone-preserved : goal.loop-gone-preserved
 loop-gone-preserved c qs t b =
     let s = c.loop-gone.invariant qs t b in
     let l : c.loop-gone.gone + c.args.width < length (moves_of c.args.plan.now) = omega (arith, moves_half c.args.plan.now) in
-    let f = c.in_default-done.ensures in
+    let f = c.in_ok-obey_move-2.ensures in
     let o = obeying_next s.obeying l (sym f.result_value) f.pebbles_value in
     let h = c.shift-crossings.ensures in
     let e = c.edge_at-come-in-loop-gone.ensures in
-    slide_stays t c.requires.1 o s.entries l e c.edge_at.ensures s.best h.0 h.1 c.if-most-crossings.false
+    elim c.if-most-crossings.branch [
+      | then-most-crossings w ↦ rw (w.most-is, w.first-is) (slide_rises t c.requires.1 o s.entries l e c.edge_at.ensures s.best h.0 h.1 _ w.if-most-crossings.true)
+      | else-most-crossings w ↦ rw (w.most-is, w.first-is) (slide_stays t c.requires.1 o s.entries l e c.edge_at.ensures s.best h.0 h.1 w.if-most-crossings.false)
+    ]
 
 -- the end: every move is made
 pub returns-then-first-eq0 : goal.returns-then-first-eq0
@@ -141,8 +133,8 @@ returns-then-first-eq0 c =
     let r = worn_end _ _ _ (edge_of_first _ s c.if-first-eq0.true) (omega (arith, moves_half c.args.plan.now)) in
     record { result_value = r.0; pebbles_value = r.1 }
 
-pub overflow_add-first : goal.overflow_add-first
-overflow_add-first c =
+pub overflow_add-first-2 : goal.overflow_add-first-2
+overflow_add-first-2 c =
     let b = begun c.requires c.loop-i.invariant (omega arith) c.most_crossings-most.ensures c.lowest_edge-worst.ensures in
     let s = c.loop-gone.invariant _ c.requires.0 b in
     omega (arith, slide_past c.requires.0 s, s.few, c.requires.1.few)
