@@ -2,13 +2,13 @@
 ghost use Rattle.std.specs.Prelude.{◌≡◌, not, ◌&&◌, ◌||◌, ◌≤◌, ◌<◌, leb, ltb, eqb};
 ghost use Rattle.std.proofs.Math.Option.{none};
 ghost use Rattle.model.specs.Given.{listed};
-ghost use Rattle.model.specs.Judge.{first_of, Tree};
+ghost use Rattle.model.specs.Judge.{first_of};
 ghost use Rattle.model.specs.Calls.Registers.{idle, block_of, whole_moves, register_fault, next_tests, task_fault, step_fault};
 ghost use Rattle.model.specs.Paper.{paper_done};
 
 use checker::check::test_plan;
 use checker::obey::whole_plan;
-use judge::test::test_yard;
+use judge::tree::{TreeLists, tree_of};
 use model::{Lists, Refusal, Registers};
 use yard::step::test_move;
 
@@ -39,18 +39,18 @@ fn test_registers(r: Registers, moves: usize) -> Result<(), Refusal>
 }
 
 // 9, then 10 to 13 of the next move with its number, for a running step with command 0.
-fn test_next(yard: &Lists, plan: &[u8], r: Registers) -> Result<(), Refusal>
-    requires { Tree (listed yard.now) × (0 < r.left) × (r.left ≤ whole_moves plan.now) }
-    ensures { paper_done result ≡ first_of (next_tests (listed yard.now) plan.now r) }
+fn test_next(yard: &TreeLists, plan: &[u8], r: Registers) -> Result<(), Refusal>
+    requires { (0 < r.left) × (r.left ≤ whole_moves plan.now) }
+    ensures { paper_done result ≡ first_of (next_tests (listed yard.now.lists) plan.now r) }
 {
     if !whole_plan(plan) {
         return Err(Refusal::PlanLength);
     }
     let i = plan.len() / 2 - r.left;
     test_move(
-        yard.parents,
-        yard.pebbles,
-        yard.depths,
+        yard.lists.parents,
+        yard.lists.pebbles,
+        yard.lists.depths,
         plan[2 * i] as usize,
         plan[2 * i + 1] as usize,
         i,
@@ -58,12 +58,12 @@ fn test_next(yard: &Lists, plan: &[u8], r: Registers) -> Result<(), Refusal>
 }
 
 // 25 and the checker's refusals for a start; those of the next move where one is obeyed.
-fn test_task(yard: &Lists, plan: &[u8], r: Registers) -> Result<(), Refusal>
-    requires { Tree (listed yard.now) × (register_fault (whole_moves plan.now) r ≡ none) }
-    ensures { paper_done result ≡ task_fault (listed yard.now) plan.now r }
+fn test_task(yard: &TreeLists, plan: &[u8], r: Registers) -> Result<(), Refusal>
+    requires { register_fault (whole_moves plan.now) r ≡ none }
+    ensures { paper_done result ≡ task_fault (listed yard.now.lists) plan.now r }
 {
     match (r.command, r.status) {
-        (1, 0) => test_plan(yard, plan),
+        (1, 0) => test_plan(&yard.lists, plan),
         (1, _) => Err(Refusal::NotIdle),
         (0, 1) => test_next(yard, plan, r),
         _ => Ok(()),
@@ -74,7 +74,7 @@ fn test_task(yard: &Lists, plan: &[u8], r: Registers) -> Result<(), Refusal>
 pub fn test_step(yard: &Lists, plan: &[u8], r: Registers) -> Result<(), Refusal>
     ensures { paper_done result ≡ step_fault (listed yard.now) plan.now (block_of r) }
 {
-    test_yard(yard)?;
+    let tree = tree_of(yard)?;
     test_registers(r, plan.len() / 2)?;
-    test_task(yard, plan, r)
+    test_task(&tree, plan, r)
 }

@@ -2,7 +2,7 @@
 ghost use Rattle.std.specs.Prelude.{◌≡◌};
 ghost use Rattle.model.specs.Yard.{Matched};
 ghost use Rattle.model.specs.Given.{listed};
-ghost use Rattle.model.specs.Judge.{first_of, Tree};
+ghost use Rattle.model.specs.Judge.{first_of};
 ghost use Rattle.model.specs.Calls.Plans.{moves_of};
 ghost use Rattle.model.specs.Calls.Checks.{obey_tests, check_fault, check_answer};
 ghost use Rattle.model.specs.Paper.{paper_done, paper_checked};
@@ -11,27 +11,27 @@ ghost use Rattle.laws.specs.Demand2.{CheckerExact, Accepts};
 use crate::obey::{obey_copy, whole_plan};
 use demand::call::shortest_length;
 use judge::totals::test_matched;
+use judge::tree::TreeLists;
 use lists::find::first_below;
 use model::{Checked, Lists, Refusal};
 
 // Obeys a whole plan on a copy of the pebbles of a tree: refusals 10 to 13 move by move, then 14.
-fn obey_to_end(yard: &Lists, plan: &[u8]) -> Result<(), Refusal>
-    requires { Tree (listed yard.now) }
-    ensures { paper_done result ≡ first_of (obey_tests (listed yard.now) (moves_of plan.now)) }
+fn obey_to_end(yard: &TreeLists, plan: &[u8]) -> Result<(), Refusal>
+    ensures { paper_done result ≡ first_of (obey_tests (listed yard.now.lists) (moves_of plan.now)) }
 {
-    let n = yard.parents.len();
+    let n = yard.lists.parents.len();
     let mut counts = [0u8; 256];
     obey_copy(yard, &mut counts[..n], plan, plan.len() / 2)?;
-    if let Some(empty) = first_below(&counts[..n], yard.targets) {
+    if let Some(empty) = first_below(&counts[..n], yard.lists.targets) {
         return Err(Refusal::TargetEmpty(empty));
     }
     Ok(())
 }
 
 // Judges a plan for a tree with as many pebbles as targets: refusals 9, 10 to 13 move by move, 14.
-fn test_matched_plan(yard: &Lists, plan: &[u8]) -> Result<(), Refusal>
-    requires { Tree (listed yard.now) × Matched (listed yard.now) }
-    ensures { paper_done result ≡ check_fault (listed yard.now) plan.now }
+fn test_matched_plan(yard: &TreeLists, plan: &[u8]) -> Result<(), Refusal>
+    requires { Matched (listed yard.now.lists) }
+    ensures { paper_done result ≡ check_fault (listed yard.now.lists) plan.now }
 {
     if !whole_plan(plan) {
         return Err(Refusal::PlanLength);
@@ -44,8 +44,8 @@ fn test_matched_plan(yard: &Lists, plan: &[u8]) -> Result<(), Refusal>
 pub fn test_plan(yard: &Lists, plan: &[u8]) -> Result<(), Refusal>
     ensures { paper_done result ≡ check_fault (listed yard.now) plan.now }
 {
-    test_matched(yard)?;
-    test_matched_plan(yard, plan)
+    let tree = test_matched(yard)?;
+    test_matched_plan(&tree, plan)
 }
 
 // The checker: refused as above, else the number of moves and the excess (spare), moves minus shortest length. On a tree with as many pebbles as targets it accepts
@@ -55,7 +55,7 @@ pub fn check(yard: &Lists, plan: &[u8]) -> Result<Checked, Refusal>
     ensures checker_exact { CheckerExact (listed yard.now) plan.now (Accepts (paper_checked result)) }
 {
     test_plan(yard, plan)?;
-    let length = shortest_length(yard);
+    let length = shortest_length(&TreeLists { lists: *yard });
     let moves = plan.len() / 2;
     Ok(Checked {
         moves,

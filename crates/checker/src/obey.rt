@@ -7,7 +7,8 @@ ghost use Rattle.model.specs.Calls.Checks.{bytes_fault, moves_fault, within};
 ghost use Rattle.model.specs.Paper.{paper_done};
 ghost use Rattle.checker.specs.Obeyed.{obeyed};
 
-use model::{Lists, Refusal};
+use judge::tree::TreeLists;
+use model::Refusal;
 use yard::step::step;
 
 // Whether a plan's length is even and at most 262,144 bytes: else refusal 9 meets it.
@@ -43,12 +44,18 @@ fn obey(
 }
 
 // The same, on a copy of the pebbles: `counts` is written, whatever it held.
-pub fn obey_copy(yard: &Lists, counts: &mut [u8], plan: &[u8], count: usize) -> Result<(), Refusal>
-    requires tree { Tree (listed yard.now) × (2 * count ≤ length plan.now) }
-    requires counts_len { length counts.old ≡ length yard.now.pebbles.now }
-    ensures result_value { paper_done result ≡ moves_fault 0 (listed yard.now) (within plan.now count) }
-    ensures counts_value { counts.new ≡ after (listed yard.now) (obeyed (paper_done result) plan.now count) }
+pub fn obey_copy(
+    yard: &TreeLists,
+    counts: &mut [u8],
+    plan: &[u8],
+    count: usize,
+) -> Result<(), Refusal>
+    requires plan_len { 2 * count ≤ length plan.now }
+    requires counts_len { length counts.old ≡ length yard.now.lists.pebbles.now }
+    ensures result_value { paper_done result ≡ moves_fault 0 (listed yard.now.lists) (within plan.now count) }
+    ensures counts_value { counts.new ≡ after (listed yard.now.lists) (obeyed (paper_done result) plan.now count) }
 {
+    let yard = yard.lists;
     counts.copy_from_slice(yard.pebbles);
     obey(yard.parents, counts, yard.targets, yard.depths, plan, count)
 }

@@ -8,6 +8,7 @@ ghost use Rattle.checker.specs.Obeyed.{obeyed_or_left};
 
 use crate::obey::{obey_copy, whole_plan};
 use judge::test::test_yard;
+use judge::tree::TreeLists;
 use model::{Lists, Refusal, Tried};
 
 // Obeys the first `count` moves of a plan on a copy of the pebbles of a tree, and writes the new counts if none is refused.
@@ -26,11 +27,13 @@ fn obey_or_leave(
     let n = parents.len();
     let mut counts = [0u8; 256];
     obey_copy(
-        &Lists {
-            parents,
-            pebbles,
-            targets,
-            depths,
+        &TreeLists {
+            lists: Lists {
+                parents,
+                pebbles,
+                targets,
+                depths,
+            },
         },
         &mut counts[..n],
         plan,

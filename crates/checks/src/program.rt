@@ -10,7 +10,8 @@ use crate::crossings::{Crossings, count_crossings};
 use crate::part::yard_bytes;
 use crate::plan::{PLAN_BYTES, read_plan};
 use checker::check::check;
-use lists::root::root_of;
+use judge::root::root_of;
+use judge::tree::TreeLists;
 use model::{Checked, Lists};
 use reader::read::read_sheet;
 use sheet::decimal::put_text;
@@ -32,7 +33,7 @@ fn put_accepted(yard: &Lists, plan: &[u8], moves: usize, excess: usize, out: &mu
     ensures out_value { out.new ≡ overwrite (accepted_sheet (listed yard.now) plan.now (verdict moves excess)) out.old }
 {
     let n = yard.parents.len();
-    let root = root_of(yard);
+    let root = root_of(&TreeLists { lists: *yard });
     let Crossings { ups, downs } = count_crossings(yard.parents, plan);
     let values = put_text(out, 0, b"moves spare\n");
     let at = put_line(out, values, &[moves, excess]);

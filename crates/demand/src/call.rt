@@ -2,13 +2,12 @@
 ghost use Rattle.std.specs.Prelude.{◌≡◌};
 ghost use Rattle.model.specs.Given.{listed};
 ghost use Rattle.model.specs.Yard.{shortest};
-ghost use Rattle.model.specs.Judge.{Tree};
 ghost use Rattle.model.specs.Calls.Demands.{demands_fault, demands_list};
 ghost use Rattle.model.specs.Paper.{paper_done};
 
 use crate::fill::fill;
 use crate::signed::sizes;
-use judge::test::test_yard;
+use judge::tree::{TreeLists, tree_of};
 use model::{Lists, Refusal};
 
 // The account call: the demands of all nodes into a list of exactly one entry a node. Refusals 1 to 6, then 2 for a list of another length;
@@ -17,20 +16,19 @@ pub fn demands(yard: &Lists, list: &mut [i16]) -> Result<(), Refusal>
     ensures result_value { paper_done result ≡ demands_fault (listed yard.now) list.old }
     ensures list_value { list.new ≡ demands_list (listed yard.now) list.old }
 {
-    test_yard(yard)?;
+    let tree = tree_of(yard)?;
     if list.len() != yard.parents.len() {
         return Err(Refusal::ListLength);
     }
-    fill(yard, list);
+    fill(&tree, list);
     Ok(())
 }
 
 // The shortest length of a tree: the sum of the sizes of its demands.
-pub fn shortest_length(yard: &Lists) -> usize
-    requires { Tree (listed yard.now) }
-    ensures { result ≡ shortest (listed yard.now) }
+pub fn shortest_length(yard: &TreeLists) -> usize
+    ensures { result ≡ shortest (listed yard.now.lists) }
 {
-    let n = yard.parents.len();
+    let n = yard.lists.parents.len();
     let mut list = [0i16; 256];
     fill(yard, &mut list[..n]);
     sizes(&list[..n])

@@ -2,19 +2,20 @@
 ghost use Rattle.std.specs.Prelude.{◌≡◌, ℕ, ◌+◌, ◌*◌, ◌%◌, ◌≤◌, ◌<◌, length, get_or};
 ghost use Rattle.std.proofs.Math.Option.{none};
 ghost use Rattle.model.specs.Given.{listed};
-ghost use Rattle.model.specs.Judge.{first_of, list_tests, Tree};
+ghost use Rattle.model.specs.Judge.{first_of, list_tests};
 ghost use Rattle.model.specs.Calls.Demands.{demands_of};
 ghost use Rattle.demand.specs.Filling.{Differences, Pending, Gathered};
 
 use crate::signed::{difference, plus};
+use judge::tree::TreeLists;
 use model::Lists;
 
 // Writes the demand of each node of a tree into a list of one entry a node: the only list that meets equation 2 at every node.
-pub fn fill(yard: &Lists, list: &mut [i16])
-    requires { Tree (listed yard.now) × (length list.old ≡ length yard.now.parents.now) }
-    ensures { list.new ≡ demands_of (listed yard.now) }
+pub fn fill(yard: &TreeLists, list: &mut [i16])
+    requires { length list.old ≡ length yard.now.lists.parents.now }
+    ensures { list.new ≡ demands_of (listed yard.now.lists) }
 {
-    gather(yard, list);
+    gather(&yard.lists, list);
 }
 
 // Equation 2, of lists that refusals 1 to 4, 26 and 27 do not meet: each node's entry begins as its targets minus its pebbles, and the entries of its children are

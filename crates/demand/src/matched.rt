@@ -1,13 +1,14 @@
 // The demands of a tree, and of a yard with a plan, or the refusal of one that is none.
-ghost use Rattle.std.specs.Prelude.{◌≡◌, ◌≤◌, length, replicate, pos};
+ghost use Rattle.std.specs.Prelude.{◌≡◌, ◌≤◌, length, replicate, pos, IfOk};
 ghost use Rattle.model.specs.Given.{listed};
 ghost use Rattle.model.specs.Judge.{judge, matched_fault};
 ghost use Rattle.model.specs.Paper.{paper_done};
 ghost use Rattle.demand.specs.Filling.{demands_then};
 
 use crate::fill::gather;
-use judge::test::{test_lists, test_shape};
-use lists::root::root_of;
+use judge::root::root_of;
+use judge::test::test_lists;
+use judge::tree::{TreeLists, tree_of};
 use model::{Lists, Refusal};
 
 // Writes 0 into every entry.
@@ -21,9 +22,10 @@ fn clear(list: &mut [i16])
 // of at least 256 entries; the other entries stay. Refusals 5 and 6 leave zeros at the front, the
 // others leave the list unchanged. Linear work: gathering the demands tells whether the parents
 // form a tree.
-pub fn tree_demands(yard: &Lists, list: &mut [i16]) -> Result<(), Refusal>
+pub fn tree_demands<'a>(yard: &Lists<'a>, list: &mut [i16]) -> Result<TreeLists<'a>, Refusal>
     requires { 256 ≤ length list.old }
     ensures result_value { paper_done result ≡ judge (listed yard.now) }
+    ensures tree_value { IfOk result (λ tree. tree.lists ≡ yard.now) }
     ensures list_value { list.new ≡ demands_then (listed yard.now) list.old }
 {
     test_lists(yard)?;
@@ -31,22 +33,23 @@ pub fn tree_demands(yard: &Lists, list: &mut [i16]) -> Result<(), Refusal>
     let left = gather(yard, &mut list[..n]);
     if left != 1 {
         clear(&mut list[..n]);
-        return test_shape(yard.parents);
+        return tree_of(yard);
     }
-    Ok(())
+    Ok(TreeLists { lists: *yard })
 }
 
 // The same, then refusal 7: the totals differ exactly if the root's demand is not 0. Refusal 7 comes
 // after the demands are written.
-pub fn matched_demands(yard: &Lists, list: &mut [i16]) -> Result<(), Refusal>
+pub fn matched_demands<'a>(yard: &Lists<'a>, list: &mut [i16]) -> Result<TreeLists<'a>, Refusal>
     requires { 256 ≤ length list.old }
     ensures result_value { paper_done result ≡ matched_fault (listed yard.now) }
+    ensures tree_value { IfOk result (λ tree. tree.lists ≡ yard.now) }
     ensures list_value { list.new ≡ demands_then (listed yard.now) list.old }
 {
-    tree_demands(yard, list)?;
-    let root = root_of(yard);
+    let tree = tree_demands(yard, list)?;
+    let root = root_of(&tree);
     if list[root] != 0 {
         return Err(Refusal::Totals);
     }
-    Ok(())
+    Ok(tree)
 }

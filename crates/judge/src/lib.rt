@@ -2,5 +2,7 @@
 #![tactic(auto)]
 
 pub mod circle;
+pub mod root;
 pub mod test;
 pub mod totals;
+pub mod tree;

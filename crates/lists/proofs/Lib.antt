@@ -1,4 +1,3 @@
 -- Laws of what a search finds, and of the larger of two numbers.
 pub mod Found
 pub mod Larger
-pub mod Rooted

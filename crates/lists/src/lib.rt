@@ -2,5 +2,4 @@
 #![tactic(auto)]
 
 pub mod find;
-pub mod root;
 pub mod total;

@@ -10,7 +10,8 @@ ghost use Rattle.moves.specs.Report.{output_room, Planned, plan_report, planShee
 
 use crate::report::split;
 use demand::fill::fill;
-use lists::root::root_of;
+use judge::root::root_of;
+use judge::tree::TreeLists;
 use model::Lists;
 use planner::plan::plan;
 use reader::read::read_sheet;
@@ -37,9 +38,10 @@ fn put_plan_report(yard: &Lists, plan: &[u8], out: &mut [u8], at: usize) -> usiz
     ensures upper_bound { result ≤ at + report_room (length yard.now.parents.now) }
 {
     let n = yard.parents.len();
+    let tree = TreeLists { lists: *yard };
     let mut demands = [0i16; 256];
-    fill(yard, &mut demands[..n]);
-    let root = root_of(yard);
+    fill(&tree, &mut demands[..n]);
+    let root = root_of(&tree);
     let mut ups = [0u32; 256];
     let mut downs = [0u32; 256];
     split(&demands[..n], &mut ups[..n], &mut downs[..n]);

@@ -1,7 +1,6 @@
 // The call.
 ghost use Rattle.std.specs.Prelude.{◌≡◌, ◌*◌, ◌≤◌, length, take};
 ghost use Rattle.model.specs.Yard.{Matched};
-ghost use Rattle.model.specs.Judge.{Tree};
 ghost use Rattle.model.specs.Given.{listed};
 ghost use Rattle.model.specs.Calls.Answers.{answer, lent, overwrite};
 ghost use Rattle.model.specs.Calls.Openings.{openings_answer, openings_list};
@@ -11,16 +10,17 @@ ghost use Rattle.openings.specs.Listing.{Demands, ListedAll, room_fault};
 use crate::edges::mark_edges;
 use crate::list::list_openings;
 use demand::matched::matched_demands;
+use judge::tree::TreeLists;
 use model::{Lists, Refusal};
 
 // Lists the openings of a tree with as many pebbles as targets, by its demands: there are fewer than nodes, so a list of 512 bytes has room for them.
-fn list_apart(yard: &Lists, demands: &[i16], moves: &mut [u8]) -> usize
-    requires tree { Tree (listed yard.now) × Matched (listed yard.now) × Demands (listed yard.now) demands.now }
+fn list_apart(yard: &TreeLists, demands: &[i16], moves: &mut [u8]) -> usize
+    requires matched { Matched (listed yard.now.lists) × Demands (listed yard.now.lists) demands.now }
     requires moves_len { length moves.old ≡ 512 }
-    ensures { ListedAll (listed yard.now) moves.new result }
+    ensures { ListedAll (listed yard.now.lists) moves.new result }
 {
     let t = mark_edges(yard, demands);
-    list_openings(&t, yard.parents, moves)
+    list_openings(&t, yard.lists.parents, moves)
 }
 
 // Copies so many moves to the front of a list, or refuses one that is too short: 8 with their number.
@@ -43,8 +43,8 @@ pub fn openings(yard: &Lists, list: &mut [u8]) -> Result<usize, Refusal>
     ensures list_value { list.new ≡ openings_list (listed yard.now) list.old }
 {
     let mut demands = [0i16; 256];
-    matched_demands(yard, &mut demands)?;
+    let tree = matched_demands(yard, &mut demands)?;
     let mut moves = [0u8; 512];
-    let count = list_apart(yard, &demands, &mut moves);
+    let count = list_apart(&tree, &demands, &mut moves);
     hand_over(&moves, count, list)
 }

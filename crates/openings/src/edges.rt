@@ -1,12 +1,11 @@
 // Which opening goes over each edge: one at most, as its demand has one sign. Those that go down are linked by the node that they start from.
 ghost use Rattle.std.specs.Prelude.{◌≡◌};
 ghost use Rattle.model.specs.Yard.{Matched};
-ghost use Rattle.model.specs.Judge.{Tree};
 ghost use Rattle.model.specs.Given.{listed};
 ghost use Rattle.openings.specs.Listing.{Demands, Marked};
 ghost use Rattle.openings.specs.Ways.{wayOver};
 
-use model::Lists;
+use judge::tree::TreeLists;
 use serve::tree::Children;
 
 // The way of an opening over an edge: down from the parent, or up to it.
@@ -38,10 +37,11 @@ fn way_over(demand: i16, pebbles: u8, depth: u8, above: u8, limit: u8) -> Option
 }
 
 // That of every edge, by the node below it, and the children to which one goes linked: from the highest node down, so that each node's come in rising order.
-pub fn mark_edges(yard: &Lists, demands: &[i16]) -> Marks
-    requires { Tree (listed yard.now) × Matched (listed yard.now) × Demands (listed yard.now) demands.now }
-    ensures { Marked 0 (listed yard.now) result }
+pub fn mark_edges(yard: &TreeLists, demands: &[i16]) -> Marks
+    requires { Matched (listed yard.now.lists) × Demands (listed yard.now.lists) demands.now }
+    ensures { Marked 0 (listed yard.now.lists) result }
 {
+    let yard = yard.lists;
     let mut t = Marks {
         ways: [None; 256],
         down: Children::unlinked(yard.parents.len()),

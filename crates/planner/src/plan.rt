@@ -9,7 +9,7 @@ ghost use Rattle.laws.specs.Demand3.{Demand3};
 use crate::balance::balance_subtrees;
 use crate::state::start;
 use demand::signed::sizes;
-use lists::root::root_of;
+use judge::root::root_of;
 use model::{Lists, Refusal};
 use serve::state::State;
 use serve::tree::tables;
@@ -20,14 +20,14 @@ fn plan_sheet(yard: &Lists, plan: &mut [u8]) -> Result<usize, Refusal>
     ensures plan_value { plan.new ≡ plan_list (listed yard.now) plan.old }
 {
     let mut s = State::new();
-    start(yard, &mut s)?;
+    let tree = start(yard, &mut s)?;
     let n = yard.parents.len();
     let length = sizes(&s.demands[..n]);
     if plan.len() / 2 < length {
         return Err(Refusal::ListTooShort(length));
     }
     let t = tables(yard.parents);
-    let root = root_of(yard);
+    let root = root_of(&tree);
     let mut moves = [0u8; 512];
     let count = balance_subtrees(&t, &mut s, plan, &mut moves, yard.parents, root, n);
     Ok(count)

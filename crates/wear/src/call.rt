@@ -1,7 +1,7 @@
 // The call.
 ghost use Rattle.std.specs.Prelude.{◌≡◌, ◌&&◌, ◌≤◌, ◌<◌, length, leb, ltb};
 ghost use Rattle.model.specs.Given.{listed};
-ghost use Rattle.model.specs.Judge.{first_of, Tree};
+ghost use Rattle.model.specs.Judge.{first_of};
 ghost use Rattle.model.specs.Wear as Wear;
 ghost use Rattle.model.specs.Calls.Answers.{answer};
 ghost use Rattle.model.specs.Calls.Plans.{moves_of};
@@ -14,18 +14,19 @@ use crate::count::count_copy;
 use checker::check::test_plan;
 use checker::obey::whole_plan;
 use judge::totals::test_matched;
+use judge::tree::TreeLists;
 use lists::find::first_below;
 use model::{Lists, Refusal, Worn};
 
 // Obeys a whole plan on a copy of the pebbles of a tree, counting: refusals 10 to 13 move by move, then 14.
-fn wear_to_end(yard: &Lists, plan: &[u8], width: usize) -> Result<Worn, Refusal>
-    requires { Tree (listed yard.now) × AskedWear plan.now width }
-    ensures { paper_worn result ≡ answer (first_of (obey_tests (listed yard.now) (moves_of plan.now))) (Wear.wear (listed yard.now) width (moves_of plan.now)) }
+fn wear_to_end(yard: &TreeLists, plan: &[u8], width: usize) -> Result<Worn, Refusal>
+    requires { AskedWear plan.now width }
+    ensures { paper_worn result ≡ answer (first_of (obey_tests (listed yard.now.lists) (moves_of plan.now))) (Wear.wear (listed yard.now.lists) width (moves_of plan.now)) }
 {
-    let n = yard.parents.len();
+    let n = yard.lists.parents.len();
     let mut counts = [0u8; 256];
     let worn = count_copy(yard, &mut counts[..n], plan, width)?;
-    if let Some(empty) = first_below(&counts[..n], yard.targets) {
+    if let Some(empty) = first_below(&counts[..n], yard.lists.targets) {
         return Err(Refusal::TargetEmpty(empty));
     }
     Ok(worn)
@@ -36,11 +37,11 @@ fn wear_of_stretches(yard: &Lists, plan: &[u8], width: usize) -> Result<Worn, Re
     requires { (0 < width) × (width ≤ length (moves_of plan.now)) }
     ensures { paper_worn result ≡ wear_answer (listed yard.now) plan.now width }
 {
-    test_matched(yard)?;
+    let tree = test_matched(yard)?;
     if !whole_plan(plan) {
         return Err(Refusal::PlanLength);
     }
-    wear_to_end(yard, plan, width)
+    wear_to_end(&tree, plan, width)
 }
 
 // Whether a plan has a stretch of this width: else refusal 28 meets it.

@@ -13,7 +13,8 @@ ghost use Rattle.model.specs.Paper.{paper_done, paper_worn};
 ghost use Rattle.yard.specs.Given.{given_bare, Alike};
 ghost use Rattle.wear.specs.Wearing.{move_in, edge_in, taken, added, obeyed_of, AskedWear, AskedShift};
 
-use model::{Lists, Refusal, Worn};
+use judge::tree::TreeLists;
+use model::{Refusal, Worn};
 use yard::step::step;
 
 // Makes move i of a plan, or refuses it.
@@ -128,16 +129,17 @@ fn obey_and_count(
 
 // The same, on a copy of the pebbles: `counts` is written, whatever it held.
 pub fn count_copy(
-    yard: &Lists,
+    yard: &TreeLists,
     counts: &mut [u8],
     plan: &[u8],
     width: usize,
 ) -> Result<Worn, Refusal>
-    requires tree { Tree (listed yard.now) × AskedWear plan.now width }
-    requires counts_len { length counts.old ≡ length yard.now.pebbles.now }
-    ensures result_value { paper_worn result ≡ answer (moves_fault 0 (listed yard.now) (moves_of plan.now)) (Wear.wear (listed yard.now) width (moves_of plan.now)) }
-    ensures counts_value { counts.new ≡ after (listed yard.now) (obeyed_of (moves_fault 0 (listed yard.now) (moves_of plan.now)) plan.now) }
+    requires asked { AskedWear plan.now width }
+    requires counts_len { length counts.old ≡ length yard.now.lists.pebbles.now }
+    ensures result_value { paper_worn result ≡ answer (moves_fault 0 (listed yard.now.lists) (moves_of plan.now)) (Wear.wear (listed yard.now.lists) width (moves_of plan.now)) }
+    ensures counts_value { counts.new ≡ after (listed yard.now.lists) (obeyed_of (moves_fault 0 (listed yard.now.lists) (moves_of plan.now)) plan.now) }
 {
+    let yard = yard.lists;
     counts.copy_from_slice(yard.pebbles);
     obey_and_count(yard.parents, counts, yard.targets, yard.depths, plan, width)
 }

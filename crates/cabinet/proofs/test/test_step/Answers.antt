@@ -17,28 +17,26 @@ use Rattle.cabinet.proofs.test.test_step.Goals as goal
 told : (bs : List ℕ) (r : Registers) {f : Option Fault} → register_fault (length bs / 2) r ≡ f → register_fault (whole_moves bs) r ≡ f
 told bs r h = ap (λ (n : ℕ). register_fault n r) (sym (moves_half bs)) ∙ h
 
-pub returns-in_err-test_yard : goal.returns-in_err-test_yard
+pub returns-in_err-tree : goal.returns-in_err-tree
 unfolding step_fault
-returns-in_err-test_yard c = passed_on _ _ c.from_residual.ensures.1 (rw (sym c.in_err-test_yard.ensures))
+returns-in_err-tree c = passed_on _ _ c.from_residual.ensures.1 (rw (sym c.in_err-tree.ensures.result_value))
 
 pub returns-in_err-test_registers : goal.returns-in_err-test_registers
 unfolding step_fault
 returns-in_err-test_registers c =
     let r = c.args.r in
-    let tree = (sym c.in_ok-test_yard.ensures) in
+    let tree = (sym c.in_ok-tree.ensures.result_value) in
     let fault = told c.args.plan.now r (sym c.in_err-test_registers.ensures) in
     passed_on _ _ c.from_residual-in_err-test_registers.ensures.1 (rw (tree, length_block_of r, registers_of_block_of r, fault))
 
 pub test_task-requires : goal.test_task-requires
-test_task-requires c = (
-  (sym c.in_ok-test_yard.ensures),
-  told c.args.plan.now c.args.r (sym c.in_ok-test_registers.ensures),
-)
+test_task-requires c = told c.args.plan.now c.args.r (sym c.in_ok-test_registers.ensures)
 
 pub returns : goal.returns
 unfolding step_fault
 returns c =
     let r = c.args.r in
-    let tree = (sym c.in_ok-test_yard.ensures) in
+    let tree = (sym c.in_ok-tree.ensures.result_value) in
     let none = told c.args.plan.now r (sym c.in_ok-test_registers.ensures) in
-    c.test_task.ensures ∙ rw (tree, length_block_of r, registers_of_block_of r, none) (sym (single _))
+    let task = rw c.in_ok-tree.ensures.tree_value at c.test_task.ensures in
+    task ∙ rw (tree, length_block_of r, registers_of_block_of r, none) (sym (single _))

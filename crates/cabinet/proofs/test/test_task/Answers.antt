@@ -16,8 +16,8 @@ returns-in-1-default c = rw (c.in-1-default.is-0, ne_eqb _ 0 c.in-1-default.is-1
 
 pub test_next-requires : goal.test_next-requires
 test_next-requires c =
-    let h = (register_fault_none (whole_moves c.args.plan.now) c.args.r).0 c.requires.1 in
-    (c.requires.0, running_left h c.in-0-eq1.is-1, h.left_le)
+    let h = (register_fault_none (whole_moves c.args.plan.now) c.args.r).0 c.requires in
+    (running_left h c.in-0-eq1.is-1, h.left_le)
 
 pub returns-in-0-eq1 : goal.returns-in-0-eq1
 unfolding task_fault

@@ -12,8 +12,8 @@ returns-in_err-test_plan c =
     let r = answers_exact _ _ _ (check_refused _ _ _ (sym c.in_err-test_plan.ensures)) in
     rw (is_passed _ _ c.from_residual.ensures.1) (record { result_value = r.0; checker_exact = r.1 })
 
-pub shortest_length-length-requires : goal.shortest_length-length-requires
-shortest_length-length-requires c = (check_fit _ _ (sym c.in_ok-test_plan.ensures)).0
+pub invariant_of-shortest_length : goal.invariant_of-shortest_length
+invariant_of-shortest_length c = record { tree = (check_fit _ _ (sym c.in_ok-test_plan.ensures)).0 }
 
 pub overflow_sub-result : goal.overflow_sub-result
 overflow_sub-result c =

@@ -6,9 +6,11 @@ use Rattle.checker.proofs.check.test_matched_plan.Goals as goal
 pub returns-then-not-whole_plan : goal.returns-then-not-whole_plan
 returns-then-not-whole_plan c =
     let w = c.whole_plan in
-    sym (check_bytes _ c.requires.0 c.requires.1 _ _ (not_whole w.result w.ensures (rw c.if-not-whole_plan.true)))
+    let t = c.args.yard.now.tree in
+    sym (check_bytes _ t c.requires _ _ (not_whole w.result w.ensures (rw c.if-not-whole_plan.true)))
 
 pub returns : goal.returns
 returns c =
     let w = c.whole_plan in
-    c.obey_to_end.ensures ∙ sym (check_moves _ c.requires.0 c.requires.1 _ (whole w.result w.ensures (rw c.if-not-whole_plan.false)))
+    let e = whole w.result w.ensures (rw c.if-not-whole_plan.false) in
+    c.obey_to_end.ensures ∙ sym (check_moves _ c.args.yard.now.tree c.requires _ e)

@@ -2,7 +2,7 @@
 use Rattle.checker.proofs.obey.obey_copy.Goals as goal
 
 pub obey-requires : goal.obey-requires
-obey-requires c = rw c.copy_from_slice.ensures.after c.requires.tree
+obey-requires c = rw c.copy_from_slice.ensures.after (c.args.yard.now.tree, c.requires.plan_len)
 
 pub returns : goal.returns
 returns c = record {

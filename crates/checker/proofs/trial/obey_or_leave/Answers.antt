@@ -13,7 +13,7 @@ slice_bounds-obey_copy-end c = sym (front_zeros _ (facts _ c.requires.0).few.1)
 pub obey_copy-requires : goal.obey_copy-requires
 obey_copy-requires c =
     let f = facts _ c.requires.0 in
-    record { tree = c.requires; counts_len = front_zeros _ f.few.1 ∙ sym f.pebbles_size }
+    record { plan_len = c.requires.1; counts_len = front_zeros _ f.few.1 ∙ sym f.pebbles_size }
 
 pub slice_bounds-counts-end-2 : goal.slice_bounds-counts-end-2
 slice_bounds-counts-end-2 c = (came_back _ _ (facts _ c.requires.0).few.1 c.obey_copy.auto.counts).fits

@@ -68,5 +68,5 @@ returns c =
       out_value = (written_front (accepted_written y h k c.root_of-root.ensures (written_append t l) c.put_report.ensures) fits).1;
     }
 
-pub root_of-root-requires : goal.root_of-root-requires
-root_of-root-requires c = accepted_tree _ c.requires.0
+pub invariant_of-root_of : goal.invariant_of-root_of
+invariant_of-root_of c = record { tree = accepted_tree _ c.requires.0 }

@@ -8,11 +8,11 @@ use Rattle.laws.proofs.Refused.{passed_on}
 use Rattle.demand.proofs.Answers.{refuses, accepts, demands_refused, demands_length, demands_none}
 use Rattle.demand.proofs.call.demands.Goals as goal
 
-pub returns-in_err-test_yard : goal.returns-in_err-test_yard
-returns-in_err-test_yard c =
+pub returns-in_err-tree : goal.returns-in_err-tree
+returns-in_err-tree c =
     let a = c.args in
     let y = listed a.yard.now in
-    let e = demands_refused y a.list.now (sym c.in_err-test_yard.ensures) in record {
+    let e = demands_refused y a.list.now (sym c.in_err-tree.ensures.result_value) in record {
       result_value = passed_on _ _ c.from_residual.ensures.1 (refuses a.list.now (demands_of y) e).0;
       list_value = (refuses a.list.now (demands_of y) e).1;
     }
@@ -21,7 +21,7 @@ pub returns-then-list-yard : goal.returns-then-list-yard
 returns-then-list-yard c =
     let a = c.args in
     let y = listed a.yard.now in
-    let e = demands_length y a.list.now (sym c.in_ok-test_yard.ensures) (λ e. omega arith) in record {
+    let e = demands_length y a.list.now (sym c.in_ok-tree.ensures.result_value) (λ e. omega arith) in record {
       result_value = (refuses a.list.now (demands_of y) e).0;
       list_value = (refuses a.list.now (demands_of y) e).1;
     }
@@ -30,7 +30,7 @@ pub returns : goal.returns
 returns c =
     let a = c.args in
     let y = listed a.yard.now in
-    let e = demands_none y a.list.now (sym c.in_ok-test_yard.ensures) (omega arith) in record {
-      result_value = (accepts a.list.now e c.fill.ensures).0;
-      list_value = (accepts a.list.now e c.fill.ensures).1;
+    let e = demands_none y a.list.now (sym c.in_ok-tree.ensures.result_value) (omega arith) in record {
+      result_value = (accepts a.list.now e (rw c.in_ok-tree.ensures.tree_value at c.fill.ensures)).0;
+      list_value = (accepts a.list.now e (rw c.in_ok-tree.ensures.tree_value at c.fill.ensures)).1;
     }

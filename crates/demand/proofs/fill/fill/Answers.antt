@@ -7,12 +7,12 @@ use Rattle.demand.proofs.fill.fill.Goals as goal
 pub gather-requires : goal.gather-requires
 gather-requires c =
     let a = c.args in
-    let y = listed a.yard.now in
-    (tree_lists y c.requires.0, c.requires.1)
+    let y = listed a.yard.now.lists in
+    (tree_lists y a.yard.now.tree, c.requires)
 
 pub returns : goal.returns
 returns c =
     let a = c.args in
-    let y = listed a.yard.now in
+    let y = listed a.yard.now.lists in
     let e = c.gather.ensures in
-    (only_demands y c.requires.0 _ e.long).0 (e.meets (e.tree c.requires.0))
+    (only_demands y a.yard.now.tree _ e.long).0 (e.meets (e.tree a.yard.now.tree))

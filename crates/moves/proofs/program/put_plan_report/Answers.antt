@@ -54,7 +54,7 @@ pub slice_bounds-fill-end : goal.slice_bounds-fill-end
 slice_bounds-fill-end c = sym (length-take-le _ _ (few _ c.requires.0.tree))
 
 pub fill-requires : goal.fill-requires
-fill-requires c = (c.requires.0.tree, length-take-le _ _ (few _ c.requires.0.tree))
+fill-requires c = length-take-le _ _ (few _ c.requires.0.tree)
 
 pub slice_bounds-demands-end-2 : goal.slice_bounds-demands-end-2
 slice_bounds-demands-end-2 c = simp length-append (omega (arith, c.fill.auto.list ∙ length-take-le _ _ (few _ c.requires.0.tree)))

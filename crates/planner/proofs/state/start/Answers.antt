@@ -10,7 +10,7 @@ use Rattle.planner.proofs.state.start.Goals as goal
 
 pub place-requires : goal.place-requires
 place-requires c =
-    let f = facts _ (matched_tree _ (sym c.in_ok-matched_demands.ensures.result_value)).0 in
+    let f = facts _ (matched_tree _ (sym c.in_ok-tree.ensures.result_value)).0 in
     (omega (arith, f.few, f.pebbles_size), f.depths_size ∙ sym f.pebbles_size)
 
 pub returns-clause-kept : goal.returns-clause-kept
