@@ -1,32 +1,38 @@
 // A plan checked or tried, and its wear.
-use crate::given::Lists;
-use anyhow::Result;
-use cases::lists::{entries, number};
-use cases::print::{Answer, Entries};
+use cases::lines::field;
+use cases::lists::{NONE, decimal, entries, short};
+use cases::print::{checked, list, tried, worn};
 use checker::check::check;
 use checker::trial::trial;
-use std::alloc::Global;
+use model::Lists;
 use wear::call::wear;
 
-pub fn check_plan(alloc: Global, lists: &Lists, plan: &str) -> Result<String> {
-    let answer = Answer(check(&lists.lent(), &entries(alloc, plan)?));
-    Ok(format!(in alloc; "{answer}")?)
+pub fn check_plan(line: &[u8], lists: &Lists) {
+    let mut plan = [0u8; 262146];
+    let plan = entries(field(line, 6), &mut plan);
+    checked(check(lists, plan));
 }
 
 // The answer, and the pebble list after the trial.
-pub fn try_plan(alloc: Global, lists: &mut Lists, plan: &str, budget: &str) -> Result<String> {
-    let answer = Answer(trial(
-        &lists.parents,
-        &mut lists.pebbles,
-        &lists.targets,
-        &lists.depths,
-        &entries(alloc, plan)?,
-        number(budget)?,
+pub fn try_plan(line: &[u8], lists: &Lists) {
+    let mut pebbles = [0u8; 300];
+    let pebbles = entries(field(line, 3), &mut pebbles);
+    let mut plan = [0u8; 262146];
+    let plan = entries(field(line, 6), &mut plan);
+    tried(trial(
+        lists.parents,
+        pebbles,
+        lists.targets,
+        lists.depths,
+        plan,
+        short(field(line, 7)),
     ));
-    Ok(format!(in alloc; "{answer}, pebbles{}", Entries(&lists.pebbles))?)
+    list(b", pebbles", pebbles);
 }
 
-pub fn wear_of_plan(alloc: Global, lists: &Lists, plan: &str, width: &str) -> Result<String> {
-    let answer = Answer(wear(&lists.lent(), &entries(alloc, plan)?, number(width)?));
-    Ok(format!(in alloc; "{answer}")?)
+pub fn wear_plan(line: &[u8], lists: &Lists) {
+    let mut plan = [0u8; 262146];
+    let plan = entries(field(line, 6), &mut plan);
+    let width = decimal(field(line, 7)).unwrap_or(NONE);
+    worn(wear(lists, plan, (width % 4294967296) as u32));
 }

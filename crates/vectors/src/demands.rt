@@ -1,35 +1,35 @@
 // The account call, the bound, the displaced, and the longest plan of n nodes.
-use crate::given::Lists;
-use crate::signed::Demands;
-use anyhow::Result;
-use cases::lists::number;
-use cases::print::Answer;
+use crate::signed::{signed_list, signed_part};
+use cases::lines::field;
+use cases::lists::value;
+use cases::print::{counted, done, measured, text};
 use demand::call::demands;
 use figures::bound::{length_bound, longest_plan};
 use figures::displaced::displaced;
-use std::alloc::Global;
+use model::Lists;
 
-// The answer, and the list of a length, which is full of 9 before the call.
-pub fn account(alloc: Global, lists: &Lists, length: &str) -> Result<String> {
-    let mut list = vec![in alloc; 9; number(length)?]?;
-    let answer = Answer(demands(&lists.lent(), &mut list));
-    Ok(format!(in alloc; "{answer}, list{}", Demands(&list))?)
+// The answer, and the list, which is full of 9 before the call.
+pub fn account(line: &[u8], lists: &Lists) {
+    let mut list = [9i16; 300];
+    let list = signed_part(field(line, 6), &mut list);
+    done(demands(lists, list));
+    signed_list(b", list", list);
 }
 
 // The answer for 256 nodes, and the first two and the last two demands.
-pub fn account_ends(alloc: Global, lists: &Lists) -> Result<String> {
-    let mut list = [9; 256];
-    let answer = Answer(demands(&lists.lent(), &mut list));
-    let ends = [list[0], list[1], list[254], list[255]];
-    Ok(format!(in alloc; "{answer}, ends{}", Demands(&ends))?)
+pub fn account_ends(lists: &Lists) {
+    let mut list = [9i16; 256];
+    done(demands(lists, &mut list));
+    signed_list(b", ends", &[list[0], list[1], list[254], list[255]]);
 }
 
-pub fn figures(alloc: Global, lists: &Lists) -> Result<String> {
-    let bound = Answer(length_bound(&lists.lent()));
-    let displaced = Answer(displaced(&lists.lent()));
-    Ok(format!(in alloc; "bound {bound}, displaced {displaced}")?)
+pub fn figures(lists: &Lists) {
+    text(b"bound ");
+    measured(length_bound(lists));
+    text(b", displaced ");
+    counted(displaced(lists));
 }
 
-pub fn longest(alloc: Global, n: &str) -> Result<String> {
-    Ok(format!(in alloc; "{}", Answer(longest_plan(number(n)?)))?)
+pub fn longest(line: &[u8]) {
+    counted(longest_plan(value(field(line, 2))));
 }

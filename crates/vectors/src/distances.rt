@@ -1,19 +1,18 @@
 // The nearest pebble, and those within reach.
-use crate::given::Lists;
-use anyhow::Result;
-use cases::lists::number;
-use cases::print::{Answer, Entries};
+use cases::lines::field;
+use cases::lists::{part, short, value};
+use cases::print::{counted, list, located};
 use distance::call::{nearest, reach};
-use std::alloc::Global;
+use model::Lists;
 
-pub fn nearest_pebble(alloc: Global, lists: &Lists, node: &str) -> Result<String> {
-    let answer = Answer(nearest(&lists.lent(), number(node)?));
-    Ok(format!(in alloc; "{answer}")?)
+pub fn nearest_pebble(line: &[u8], lists: &Lists) {
+    located(nearest(lists, value(field(line, 6))));
 }
 
-// The answer, and the list of a length, which is full of 9 before the call.
-pub fn within(alloc: Global, lists: &Lists, length: &str, node: &str, far: &str) -> Result<String> {
-    let mut counts = vec![in alloc; 9; number(length)?]?;
-    let answer = Answer(reach(&lists.lent(), &mut counts, number(node)?, number(far)?));
-    Ok(format!(in alloc; "{answer}, list{}", Entries(&counts))?)
+// The answer, and the list, which is full of 9 before the call.
+pub fn within(line: &[u8], lists: &Lists) {
+    let mut counts = [9u8; 300];
+    let counts = part(field(line, 6), &mut counts);
+    counted(reach(lists, counts, value(field(line, 7)), short(field(line, 8))));
+    list(b", list", counts);
 }

@@ -1,38 +1,63 @@
 // Events at a node.
-use crate::given::Lists;
-use crate::signed::Demands;
-use anyhow::Result;
-use cases::lists::number;
-use cases::print::{Answer, Entries};
+use crate::signed::{signed_list, signed_part};
+use cases::lines::{bad, field};
+use cases::lists::{entries, value};
+use cases::print::{done, list};
 use demand::call::demands;
 use event::call::event_at;
-use model::Event;
-use std::alloc::Global;
+use model::{Event, Lists};
 
-// The answer, and the three lists then. The demand list has a length and is the yard's, but for the
-// entry at a place, if the list has that.
-pub fn happen(
-    alloc: Global,
-    lists: &mut Lists,
-    event: Event,
-    [node, length, place, entry]: [&str; 4],
-) -> Result<String> {
-    let mut list = vec![in alloc; 0; number(length)?]?;
-    let _ = demands(&lists.lent(), &mut list);
-    if let Some(demand) = list.get_mut(number::<usize>(place)?) {
-        *demand = number(entry)?;
+// An entry, of those that the cases need.
+fn entry(word: &[u8]) -> i16 {
+    match word {
+        b"2049" => 2049,
+        b"-2049" => -2049,
+        b"1" => 1,
+        b"2" => 2,
+        b"-2" => -2,
+        b"7" => 7,
+        _ => {
+            bad(word);
+            0
+        }
     }
-    let answer = Answer(event_at(
-        &lists.parents,
-        &mut lists.pebbles,
-        &mut lists.targets,
-        &lists.depths,
-        &mut list,
+}
+
+// Puts an entry at an index, if the list has it.
+fn put(list: &mut [i16], at: usize, entry: i16) {
+    if at < list.len() {
+        list[at] = entry;
+    }
+}
+
+// The answer, and the three lists then. The demand list is the yard's, but for one entry.
+pub fn happen(line: &[u8], lists: &Lists, event: Event) {
+    let mut pebbles = [0u8; 300];
+    let mut targets = [0u8; 300];
+    let mut account = [0i16; 300];
+    let pebbles = entries(field(line, 3), &mut pebbles);
+    let targets = entries(field(line, 4), &mut targets);
+    let account = signed_part(field(line, 7), &mut account);
+    let _ = demands(
+        &Lists {
+            parents: lists.parents,
+            pebbles,
+            targets,
+            depths: lists.depths,
+        },
+        account,
+    );
+    put(account, value(field(line, 8)), entry(field(line, 9)));
+    done(event_at(
+        lists.parents,
+        pebbles,
+        targets,
+        lists.depths,
+        account,
         event,
-        number(node)?,
+        value(field(line, 6)),
     ));
-    let pebbles = Entries(&lists.pebbles);
-    let targets = Entries(&lists.targets);
-    let demands = Demands(&list);
-    Ok(format!(in alloc; "{answer}, pebbles{pebbles}, targets{targets}, demands{demands}")?)
+    list(b", pebbles", pebbles);
+    list(b", targets", targets);
+    signed_list(b", demands", account);
 }

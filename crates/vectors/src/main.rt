@@ -7,7 +7,6 @@ mod checks;
 mod demands;
 mod distances;
 mod events;
-mod given;
 mod plans;
 mod reads;
 mod signed;
@@ -16,94 +15,108 @@ mod steps;
 mod writes;
 mod yards;
 
-use anyhow::{Result, bail};
-use cases::lines::{fields, is_case};
-use given::Lists;
+use cases::kinds::kind;
+use cases::lines::{bad, field, is_case, line_at, next_line};
+use cases::lists::entries;
+use cases::print::{end, label};
 use model::Event::{PebbleArrives, PebbleLeaves, TargetCleared, TargetSet};
-use std::alloc::Global;
-use std::io;
+use model::Lists;
 use yard::state::Yard;
 
-// What a case on four lists gives, by its kind and the fields behind the lists.
-fn on_lists(
-    alloc: Global,
-    line: &str,
-    kind: &str,
-    lists: &mut Lists,
-    more: &[&str],
-    yard: &mut Yard,
-) -> Result<String> {
-    match (kind, more) {
-        ("made", []) => states::make(alloc, yard, lists),
-        ("state", [size, from, to]) => states::push_state(alloc, yard, lists, size, from, to),
-        ("test", []) => yards::test(alloc, lists),
-        ("push", [from, to]) => yards::push(alloc, lists, from, to, true),
-        ("last", [from, to]) => yards::push(alloc, lists, from, to, false),
-        ("account", [length]) => demands::account(alloc, lists, length),
-        ("ends", []) => demands::account_ends(alloc, lists),
-        ("figures", []) => demands::figures(alloc, lists),
-        ("arrives", &[node, length, place, entry]) => {
-            events::happen(alloc, lists, PebbleArrives, [node, length, place, entry])
-        }
-        ("leaves", &[node, length, place, entry]) => {
-            events::happen(alloc, lists, PebbleLeaves, [node, length, place, entry])
-        }
-        ("set", &[node, length, place, entry]) => {
-            events::happen(alloc, lists, TargetSet, [node, length, place, entry])
-        }
-        ("cleared", &[node, length, place, entry]) => {
-            events::happen(alloc, lists, TargetCleared, [node, length, place, entry])
-        }
-        ("nearest", [node]) => distances::nearest_pebble(alloc, lists, node),
-        ("reach", [length, node, far]) => distances::within(alloc, lists, length, node, far),
-        ("plan", [moves]) => plans::plan_short(alloc, lists, moves),
-        ("long-plan", [moves, room]) => plans::plan_long(alloc, lists, moves, room),
-        ("parts", [moves, parts]) => plans::in_parts(alloc, lists, moves, parts, true),
-        ("long-parts", [moves, parts]) => plans::in_parts(alloc, lists, moves, parts, false),
-        ("openings", [moves]) => plans::first_moves(alloc, lists, moves, true),
-        ("long-openings", [moves]) => plans::first_moves(alloc, lists, moves, false),
-        ("check", [plan]) => checks::check_plan(alloc, lists, plan),
-        ("trial", [plan, budget]) => checks::try_plan(alloc, lists, plan, budget),
-        ("wear", [plan, width]) => checks::wear_of_plan(alloc, lists, plan, width),
-        ("step", [plan, block]) => steps::step(alloc, lists, plan, block, false),
-        ("fails", [plan, block]) => steps::step(alloc, lists, plan, block, true),
-        ("write", [length]) => writes::write_small(alloc, lists, length),
-        ("long-sheet", [length, room]) => writes::write_long(alloc, lists, length, room),
-        ("back", [length, count]) => writes::write_and_read(alloc, lists, length, count),
-        _ => bail!("{line}"),
+// A case on four lists.
+fn on_lists(line: &[u8], lists: &Lists) {
+    match kind(line) {
+        (b"test", 5) => yards::test(lists),
+        (b"push", 7) => yards::push(line, lists, true),
+        (b"last", 7) => yards::push(line, lists, false),
+        (b"account", 6) => demands::account(line, lists),
+        (b"ends", 5) => demands::account_ends(lists),
+        (b"figures", 5) => demands::figures(lists),
+        (b"arrives", 9) => events::happen(line, lists, PebbleArrives),
+        (b"leaves", 9) => events::happen(line, lists, PebbleLeaves),
+        (b"set", 9) => events::happen(line, lists, TargetSet),
+        (b"cleared", 9) => events::happen(line, lists, TargetCleared),
+        (b"nearest", 6) => distances::nearest_pebble(line, lists),
+        (b"reach", 8) => distances::within(line, lists),
+        (b"plan", 6) => plans::plan_short(line, lists),
+        (b"long-plan", 7) => plans::plan_long(line, lists),
+        (b"parts", 7) => plans::in_parts(line, lists, true),
+        (b"long-parts", 7) => plans::in_parts(line, lists, false),
+        (b"openings", 6) => plans::first_moves(line, lists, true),
+        (b"long-openings", 6) => plans::first_moves(line, lists, false),
+        (b"check", 6) => checks::check_plan(line, lists),
+        (b"trial", 7) => checks::try_plan(line, lists),
+        (b"wear", 7) => checks::wear_plan(line, lists),
+        (b"step", 7) => steps::step(line, lists, false),
+        (b"fails", 7) => steps::step(line, lists, true),
+        (b"write", 6) => writes::write_small(line, lists),
+        (b"long-sheet", 7) => writes::write_long(line, lists),
+        (b"back", 7) => writes::write_and_read(line, lists),
+        _ => bad(line),
     }
 }
 
-// What a case gives. The yard is the one that came back from the case of a state before it.
-fn answer(alloc: Global, line: &str, fields: &[&str], yard: &mut Yard) -> Result<String> {
-    match fields {
-        ["fresh", _, from, to] => states::push_fresh(alloc, yard, from, to),
-        ["then", _, from, to] => states::push(alloc, yard, from, to),
-        ["longest", _, n] => demands::longest(alloc, n),
-        ["read", _, sheet] => reads::read_small(alloc, sheet),
-        ["lists", _, sheet, parents, pebbles, targets, depths] => {
-            reads::read_to_lists(alloc, sheet, [parents, pebbles, targets, depths])
-        }
-        [kind, _, parents, pebbles, targets, depths, more @ ..] => {
-            let mut lists = Lists::read(alloc, [parents, pebbles, targets, depths])?;
-            on_lists(alloc, line, kind, &mut lists, more, yard)
-        }
-        _ => bail!("{line}"),
-    }
+// A case whose fields behind the label begin with a yard's four lists.
+fn with_lists(line: &[u8]) {
+    let mut parents = [0u8; 300];
+    let mut pebbles = [0u8; 300];
+    let mut targets = [0u8; 300];
+    let mut depths = [0u8; 300];
+    let parents = entries(field(line, 2), &mut parents);
+    let pebbles = entries(field(line, 3), &mut pebbles);
+    let targets = entries(field(line, 4), &mut targets);
+    let depths = entries(field(line, 5), &mut depths);
+    on_lists(
+        line,
+        &Lists {
+            parents,
+            pebbles,
+            targets,
+            depths,
+        },
+    );
 }
 
-fn main(rt: HostRuntime) -> Result<()> {
-    let alloc = rt.alloc();
-    let input = io::read_to_string(alloc, rt.stdin())?;
+// A case, with the yard state of the case before it; the state after it.
+fn case(line: &[u8], yard: Yard) -> Yard {
+    match kind(line) {
+        (b"fresh", 3) => return states::push_state(line, Yard::new(), 2, 3),
+        (b"made", 5) => return states::made(line),
+        (b"then", 3) => return states::push_state(line, yard, 2, 3),
+        (b"state", 8) => return states::push_state(line, states::state(line), 7, 8),
+        (b"longest", 2) => demands::longest(line),
+        (b"read", 2) => reads::read_small(line),
+        (b"lists", 6) => reads::read_to_lists(line),
+        _ => with_lists(line),
+    }
+    yard
+}
+
+// A line of the input, which is a case, a comment or empty.
+fn told(line: &[u8], yard: Yard) -> Yard {
+    if !is_case(line) {
+        return yard;
+    }
+    label(field(line, 1));
+    let next = case(line, yard);
+    end();
+    next
+}
+
+fn run(input: &[u8]) {
     let mut yard = Yard::new();
-    for line in input.lines().filter(|line| is_case(line)) {
-        let fields = fields(alloc, line)?;
-        let label = fields.get(1).copied().unwrap_or("");
-        match answer(alloc, line, &fields, &mut yard) {
-            Ok(answer) => println!(rt; "{label}: {answer}")?,
-            // What cannot be read is told, so that the output is not the stored one.
-            Err(unread) => println!(rt; "{label}: BAD: {unread}\n")?,
-        }
+    let mut at = 0;
+    while at < input.len() {
+        yard = told(line_at(input, at), yard);
+        at = next_line(input, at);
     }
-    Ok(())
+}
+
+fn main() {
+    let mut input = [0u8; 65536];
+    let count = io::read_full(0, &mut input);
+    if count == 65536 {
+        bad(b"too many cases");
+    }
+    run(&input[..count]);
 }

@@ -1,59 +1,59 @@
 // A yard planned into a list, whole or part by part, and the moves that a plan can start with.
-use crate::given::Lists;
-use anyhow::{Context, Result};
-use cases::lists::{entries, number};
-use cases::print::{Answer, Ends, Entries};
+use cases::lines::field;
+use cases::lists::{entries, part};
+use cases::print::{counted, digest, first, last, list};
+use model::Lists;
 use openings::call::openings;
 use parts::plan::plan_parts;
 use planner::plan::plan;
-use std::alloc::{AllocError, Global};
 
 // The answer, and the whole list.
-pub fn plan_short(alloc: Global, lists: &Lists, moves: &str) -> Result<String> {
-    let mut moves = entries(alloc, moves)?;
-    let answer = Answer(plan(&lists.lent(), &mut moves));
-    Ok(format!(in alloc; "{answer}, list{}", Entries(&moves))?)
+pub fn plan_short(line: &[u8], lists: &Lists) {
+    let mut moves = [0u8; 262144];
+    let moves = entries(field(line, 6), &mut moves);
+    counted(plan(lists, moves));
+    list(b", list", moves);
 }
 
-// The answer for the first bytes of the list, as many as `room`, and the ends of the list.
-pub fn plan_long(alloc: Global, lists: &Lists, moves: &str, room: &str) -> Result<String> {
-    let mut moves = entries(alloc, moves)?;
-    let front = moves.as_mut_slice().get_mut(..number(room)?).context(room)?;
-    let answer = Answer(plan(&lists.lent(), front));
-    Ok(format!(in alloc; "{answer}, first{}", Ends(&moves))?)
+// The first and the last four bytes of a list, and its digest.
+fn ends(name: &[u8], bytes: &[u8]) {
+    first(name, bytes, 4);
+    last(b", last", bytes, 4);
+    digest(b", digest ", bytes);
 }
 
-// A list in print: the whole of it, or its ends.
-fn told(alloc: Global, list: &[u8], whole: bool) -> Result<String, AllocError> {
+// The answer for the first bytes of the list, as many as a field says, and the ends of the list.
+pub fn plan_long(line: &[u8], lists: &Lists) {
+    let mut moves = [0u8; 262144];
+    let moves = entries(field(line, 6), &mut moves);
+    counted(plan(lists, part(field(line, 7), moves)));
+    ends(b", first", moves);
+}
+
+// The answer, and both lists: the whole of them, or their ends.
+pub fn in_parts(line: &[u8], lists: &Lists, whole: bool) {
+    let mut moves = [0u8; 262144];
+    let mut parts = [0u8; 300];
+    let moves = entries(field(line, 6), &mut moves);
+    let parts = entries(field(line, 7), &mut parts);
+    counted(plan_parts(lists, moves, parts));
     if whole {
-        format!(in alloc; "{}", Entries(list))
+        list(b", list", moves);
+        list(b", parts", parts);
     } else {
-        format!(in alloc; "{}", Ends(list))
+        ends(b", first", moves);
+        ends(b", parts", parts);
     }
 }
 
-// The answer, and both lists.
-pub fn in_parts(
-    alloc: Global,
-    lists: &Lists,
-    moves: &str,
-    parts: &str,
-    whole: bool,
-) -> Result<String> {
-    let mut moves = entries(alloc, moves)?;
-    let mut parts = entries(alloc, parts)?;
-    let answer = Answer(plan_parts(&lists.lent(), &mut moves, &mut parts));
-    let title = if whole { "list" } else { "first" };
-    let moves = told(alloc, &moves, whole)?;
-    let parts = told(alloc, &parts, whole)?;
-    Ok(format!(in alloc; "{answer}, {title}{moves}, parts{parts}")?)
-}
-
-// The answer, and the list.
-pub fn first_moves(alloc: Global, lists: &Lists, moves: &str, whole: bool) -> Result<String> {
-    let mut moves = entries(alloc, moves)?;
-    let answer = Answer(openings(&lists.lent(), &mut moves));
-    let title = if whole { "list" } else { "first" };
-    let moves = told(alloc, &moves, whole)?;
-    Ok(format!(in alloc; "{answer}, {title}{moves}")?)
+// The answer, and the list: the whole of it, or its ends.
+pub fn first_moves(line: &[u8], lists: &Lists, whole: bool) {
+    let mut moves = [0u8; 600];
+    let moves = entries(field(line, 6), &mut moves);
+    counted(openings(lists, moves));
+    if whole {
+        list(b", list", moves);
+    } else {
+        ends(b", first", moves);
+    }
 }

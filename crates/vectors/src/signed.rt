@@ -1,21 +1,32 @@
-// Lists of demands in print.
-use std::fmt;
+// Lists of demands: parts of them, and in print.
+use cases::lines::bad;
+use cases::lists::value;
+use cases::print::{figure, text};
+use demand::signed::size;
 
-// The demands of a list, each behind a space. A number outside −2,048 to 2,048, which no demand is,
-// is told as 9999 with its sign.
-#[derive(Drop)]
-pub struct Demands<'a>(pub &'a [i16]);
+// As many of a list's first entries as a field says.
+pub fn signed_part<'a>(digits: &[u8], list: &'a mut [i16]) -> &'a mut [i16] {
+    let n = value(digits);
+    if n < list.len() {
+        return &mut list[..n];
+    }
+    bad(digits);
+    list
+}
 
-impl fmt::Display for Demands<'_> {
-    fn fmt<W: fmt::Write>(&self, f: &mut fmt::Formatter<W>) -> fmt::Result {
-        for &demand in self.0 {
-            let told = match demand {
-                ..-2048 => -9999,
-                -2048..=2048 => demand,
-                _ => 9999,
-            };
-            write!(f, " {told}")?;
-        }
-        Ok(())
+// A number's size, and 9,999 for a number outside −2,048 to 2,048, which no demand is.
+fn magnitude(x: i16) -> usize {
+    match x {
+        -2048..=2048 => size(x),
+        _ => 9999,
+    }
+}
+
+// A list with its name before it.
+pub fn signed_list(name: &[u8], list: &[i16]) {
+    text(name);
+    for &x in list {
+        let sign: &[u8] = if x < 0 { b" -" } else { b" " };
+        figure(sign, magnitude(x));
     }
 }

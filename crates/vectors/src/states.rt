@@ -1,64 +1,60 @@
 // Yard states, and pushes of them. What is told ends with the size and the first four pebbles of
-// the yard that came back, which is then the state.
-use crate::given::Lists;
-use anyhow::{Context, Result};
-use cases::lists::number;
-use cases::print::{Answer, first};
-use std::alloc::{AllocError, Global};
-use std::mem;
+// the yard that came back.
+use cases::lines::field;
+use cases::lists::{entries, value};
+use cases::print::{done, figure, first};
+use model::Lists;
 use yard::state::{Answered, Yard};
 
-fn told(alloc: Global, state: &mut Yard, answered: Answered) -> Result<String, AllocError> {
-    *state = answered.yard;
-    let answer = Answer(answered.answer);
-    let size = state.size;
-    format!(in alloc; "{answer}, size {size} pebbles{}", first(&state.pebbles))
+fn show(a: Answered) -> Yard {
+    let Answered { yard, answer } = a;
+    done(answer);
+    figure(b", size ", yard.size);
+    first(b" pebbles", &yard.pebbles, 4);
+    yard
 }
 
-// A push of the state.
-pub fn push(alloc: Global, state: &mut Yard, from: &str, to: &str) -> Result<String> {
-    let (from, to) = (number(from)?, number(to)?);
-    let before = mem::replace(state, Yard::new());
-    Ok(told(alloc, state, before.push(from, to))?)
-}
-
-// A push of a fresh yard.
-pub fn push_fresh(alloc: Global, state: &mut Yard, from: &str, to: &str) -> Result<String> {
-    *state = Yard::new();
-    push(alloc, state, from, to)
+// A push; its nodes stand in two fields.
+pub fn push_state(line: &[u8], yard: Yard, from_field: usize, to_field: usize) -> Yard {
+    let from = value(field(line, from_field));
+    let to = value(field(line, to_field));
+    show(yard.push(from, to))
 }
 
 // A yard made from lists.
-pub fn make(alloc: Global, state: &mut Yard, lists: &Lists) -> Result<String> {
-    let made = Yard::from_lists(&lists.lent());
-    Ok(told(alloc, state, made)?)
+pub fn made(line: &[u8]) -> Yard {
+    let mut parents = [0u8; 300];
+    let mut pebbles = [0u8; 300];
+    let mut targets = [0u8; 300];
+    let mut depths = [0u8; 300];
+    let parents = entries(field(line, 2), &mut parents);
+    let pebbles = entries(field(line, 3), &mut pebbles);
+    let targets = entries(field(line, 4), &mut targets);
+    let depths = entries(field(line, 5), &mut depths);
+    show(Yard::from_lists(&Lists {
+        parents,
+        pebbles,
+        targets,
+        depths,
+    }))
 }
 
-// A list with zeros behind it.
-fn padded(list: &[u8]) -> Result<[u8; Yard::MAX]> {
-    let mut array = [0; Yard::MAX];
-    let front = array
-        .get_mut(..list.len())
-        .context("a list that is too long")?;
-    front.copy_from_slice(list);
-    Ok(array)
-}
-
-// A push of a state whose arrays begin with the lists and go on with zeros.
-pub fn push_state(
-    alloc: Global,
-    state: &mut Yard,
-    lists: &Lists,
-    size: &str,
-    from: &str,
-    to: &str,
-) -> Result<String> {
-    *state = Yard {
-        parents: padded(&lists.parents)?,
-        pebbles: padded(&lists.pebbles)?,
-        targets: padded(&lists.targets)?,
-        depths: padded(&lists.depths)?,
-        size: number(size)?,
-    };
-    push(alloc, state, from, to)
+// A state as it stands in the fields, with zeros behind each list.
+pub fn state(line: &[u8]) -> Yard {
+    let mut parents = [0u8; Yard::MAX];
+    let mut pebbles = [0u8; Yard::MAX];
+    let mut targets = [0u8; Yard::MAX];
+    let mut depths = [0u8; Yard::MAX];
+    entries(field(line, 2), &mut parents);
+    entries(field(line, 3), &mut pebbles);
+    entries(field(line, 4), &mut targets);
+    entries(field(line, 5), &mut depths);
+    let size = value(field(line, 6));
+    Yard {
+        parents,
+        pebbles,
+        targets,
+        depths,
+        size,
+    }
 }

@@ -1,30 +1,27 @@
 // Steps of the pusher cabinet.
-use crate::given::Lists;
-use anyhow::Result;
 use cabinet::call::step_block;
+use cases::lines::field;
 use cases::lists::entries;
-use cases::print::{Answer, Entries};
-use std::alloc::Global;
+use cases::print::{list, signalled};
+use model::Lists;
 
 // The answer, the pebbles and the block then.
-pub fn step(
-    alloc: Global,
-    lists: &mut Lists,
-    plan: &str,
-    block: &str,
-    failed: bool,
-) -> Result<String> {
-    let mut block = entries(alloc, block)?;
-    let answer = Answer(step_block(
-        &lists.parents,
-        &mut lists.pebbles,
-        &lists.targets,
-        &lists.depths,
-        &entries(alloc, plan)?,
-        &mut block,
+pub fn step(line: &[u8], lists: &Lists, failed: bool) {
+    let mut pebbles = [0u8; 300];
+    let mut plan = [0u8; 262146];
+    let mut block = [0u8; 300];
+    let pebbles = entries(field(line, 3), &mut pebbles);
+    let plan = entries(field(line, 6), &mut plan);
+    let block = entries(field(line, 7), &mut block);
+    signalled(step_block(
+        lists.parents,
+        pebbles,
+        lists.targets,
+        lists.depths,
+        plan,
+        block,
         failed,
     ));
-    let pebbles = Entries(&lists.pebbles);
-    let block = Entries(&block);
-    Ok(format!(in alloc; "{answer}, pebbles{pebbles}, block{block}")?)
+    list(b", pebbles", pebbles);
+    list(b", block", block);
 }

@@ -1,64 +1,66 @@
 // Yard sheets written, and read back.
-use crate::given::Lists;
-use anyhow::{Context, Result};
-use cases::lists::number;
-use cases::print::{Answer, Digest};
+use cases::lines::field;
+use cases::lists::part;
+use cases::print::{counted, digest, text};
+use model::Lists;
 use reader::read::read_sheet;
 use sheet::writer::write_sheet;
-use std::alloc::Global;
 
-// The answer, and the list of a length; a line feed in it begins a line.
-pub fn write_small(alloc: Global, lists: &Lists, length: &str) -> Result<String> {
-    let mut sheet = vec![in alloc; b'.'; number(length)?]?;
-    let answer = Answer(write_sheet(
-        &lists.parents,
-        &lists.pebbles,
-        &lists.targets,
-        &lists.depths,
-        &mut sheet,
+// The answer, and the list; a line feed in it begins a line.
+pub fn write_small(line: &[u8], lists: &Lists) {
+    let mut sheet = [b'.'; 5041];
+    let sheet = part(field(line, 6), &mut sheet);
+    counted(write_sheet(
+        lists.parents,
+        lists.pebbles,
+        lists.targets,
+        lists.depths,
+        sheet,
     ));
-    let text = String::from_utf8_lossy(alloc, &sheet)?;
-    Ok(format!(in alloc; "{answer}, list:\n{text}")?)
+    text(b", list:\n");
+    text(sheet);
 }
 
-// The answer for the first bytes of the list, as many as `room`; then digests of the parents and of
-// the list.
-pub fn write_long(alloc: Global, lists: &Lists, length: &str, room: &str) -> Result<String> {
-    let mut sheet = vec![in alloc; b'.'; number(length)?]?;
-    let front = sheet.as_mut_slice().get_mut(..number(room)?).context(room)?;
-    let answer = Answer(write_sheet(
-        &lists.parents,
-        &lists.pebbles,
-        &lists.targets,
-        &lists.depths,
-        front,
+// The answer for the first bytes of the list, as many as a field says; then digests of the parents
+// and of the list.
+pub fn write_long(line: &[u8], lists: &Lists) {
+    let mut sheet = [b'.'; 5041];
+    let sheet = part(field(line, 6), &mut sheet);
+    counted(write_sheet(
+        lists.parents,
+        lists.pebbles,
+        lists.targets,
+        lists.depths,
+        part(field(line, 7), sheet),
     ));
-    let values = Digest(&lists.parents);
-    let list = Digest(&sheet);
-    Ok(format!(in alloc; "{answer}, values {values}, list {list}")?)
+    digest(b", values ", lists.parents);
+    digest(b", list ", sheet);
 }
 
-// What the first bytes of a written sheet say, as many as `count`: digests of its lists.
-pub fn write_and_read(alloc: Global, lists: &Lists, length: &str, count: &str) -> Result<String> {
-    let mut sheet = vec![in alloc; b'.'; number(length)?]?;
+// What a sheet says.
+fn read_back(sheet: &[u8]) {
+    let mut parents = [0u8; 256];
+    let mut pebbles = [0u8; 256];
+    let mut targets = [0u8; 256];
+    let mut depths = [0u8; 256];
+    counted(read_sheet(sheet, &mut parents, &mut pebbles, &mut targets, &mut depths));
+    digest(b", parents ", &parents);
+    digest(b", pebbles ", &pebbles);
+    digest(b", targets ", &targets);
+    digest(b", depths ", &depths);
+}
+
+// What the first bytes of a written sheet say, as many as a field says.
+pub fn write_and_read(line: &[u8], lists: &Lists) {
+    let mut sheet = [b'.'; 5041];
+    let sheet = part(field(line, 6), &mut sheet);
     let _ = write_sheet(
-        &lists.parents,
-        &lists.pebbles,
-        &lists.targets,
-        &lists.depths,
-        &mut sheet,
+        lists.parents,
+        lists.pebbles,
+        lists.targets,
+        lists.depths,
+        sheet,
     );
-    let front = sheet.get(..number(count)?).context(count)?;
-    let mut parents = [0; 256];
-    let mut pebbles = [0; 256];
-    let mut targets = [0; 256];
-    let mut depths = [0; 256];
-    let answer = Answer(read_sheet(front, &mut parents, &mut pebbles, &mut targets, &mut depths));
-    Ok(format!(in alloc;
-        "{answer}, parents {}, pebbles {}, targets {}, depths {}",
-        Digest(&parents),
-        Digest(&pebbles),
-        Digest(&targets),
-        Digest(&depths)
-    )?)
+    let sheet = part(field(line, 7), sheet);
+    read_back(sheet);
 }

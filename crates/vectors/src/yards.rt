@@ -1,34 +1,32 @@
 // The test of a yard, and one push of its lists.
-use crate::given::Lists;
-use anyhow::Result;
-use cases::lists::number;
-use cases::print::{Answer, Entries};
+use cases::lines::field;
+use cases::lists::{entries, value};
+use cases::print::{done, last, list};
 use judge::test::test_yard;
-use std::alloc::Global;
+use model::Lists;
 use yard::push::push_lists;
 
-pub fn test(alloc: Global, lists: &Lists) -> Result<String> {
-    let answer = Answer(test_yard(&lists.lent()));
-    Ok(format!(in alloc; "{answer}")?)
+pub fn test(lists: &Lists) {
+    done(test_yard(lists));
 }
 
-// The answer, and the pebble list after the push: the whole of it, or its last two entries, if it
-// has so many.
-pub fn push(alloc: Global, lists: &mut Lists, from: &str, to: &str, whole: bool) -> Result<String> {
-    let answer = Answer(push_lists(
-        &lists.parents,
-        &mut lists.pebbles,
-        &lists.targets,
-        &lists.depths,
-        number(from)?,
-        number(to)?,
+// The answer, and the pebble list after the push: the whole of it, or its last two entries.
+pub fn push(line: &[u8], lists: &Lists, whole: bool) {
+    let mut pebbles = [0u8; 300];
+    let pebbles = entries(field(line, 3), &mut pebbles);
+    let from = value(field(line, 6));
+    let to = value(field(line, 7));
+    done(push_lists(
+        lists.parents,
+        pebbles,
+        lists.targets,
+        lists.depths,
+        from,
+        to,
     ));
-    let pebbles = lists.pebbles.as_slice();
-    Ok(if whole {
-        format!(in alloc; "{answer}, pebbles{}", Entries(pebbles))?
-    } else if let Some(last) = pebbles.last_chunk::<2>() {
-        format!(in alloc; "{answer}, last pebbles{}", Entries(last))?
+    if whole {
+        list(b", pebbles", pebbles);
     } else {
-        format!(in alloc; "{answer}")?
-    })
+        last(b", last pebbles", pebbles, 2);
+    }
 }
