@@ -1,13 +1,13 @@
--- The next move by its two bytes, and what a step is told of it; the tests of a step, and what
--- an accepted one leaves.
+-- The block's nine stores; the next move by its two bytes, and what a step is told of it; the tests
+-- of a step, and what an accepted one leaves.
 use mathlib.Core.Path.{◌≡◌, refl, sym, ap, subst, ◌∙◌}
 use mathlib.Core.Logic.{◌≢◌}
 use mathlib.Core.Bool.{Bool, not, ◌&&◌, ◌||◌}
-use mathlib.Core.List.{List, []}
+use mathlib.Core.List.{List, [], ◌∷◌}
 use mathlib.Core.Option.{Option, none, some}
 use Prim.Native.Nat.{ℕ, zero, suc, ◌+◌, ◌-◌, ◌*◌, ◌/◌, ◌≤◌, ◌<◌}
 use native.Mathlib.Omega.{arith}
-use lib.ListN.{length, get_or, get_or-eq_default}
+use lib.ListN.{length, get_or, set, get_or-eq_default}
 use lib.Dec.{leb, ltb, eqb}
 use borrow.Author.Tests.{lt-ltb, ne_eqb}
 use Rattle.model.specs.declared.Registers.{Registers}
@@ -25,6 +25,21 @@ use Rattle.laws.proofs.Blocks.{registers_of_block_of, block_of_registers_of, reg
 use Rattle.laws.proofs.Cabinet.{then_held}
 use Rattle.cabinet.specs.declared.registers.Told.{Told}
 use Rattle.cabinet.specs.Step.{told_of, next_of}
+
+-- nine stores into a list of nine leave the nine values
+pub nine : (xs : List ℕ) (a b c d e f g h i : ℕ) → length xs ≡ 9
+    → set (set (set (set (set (set (set (set (set xs 0 a) 1 b) 2 c) 3 d) 4 e) 5 f) 6 g) 7 h) 8 i ≡ a ∷ b ∷ c ∷ d ∷ e ∷ f ∷ g ∷ h ∷ i ∷ []
+nine (_ ∷ _ ∷ _ ∷ _ ∷ _ ∷ _ ∷ _ ∷ _ ∷ _ ∷ []) a b c d e f g h i l = refl
+nine (_ ∷ _ ∷ _ ∷ _ ∷ _ ∷ _ ∷ _ ∷ _ ∷ _ ∷ _ ∷ xs) a b c d e f g h i l = absurd (omega (arith, l))
+nine [] a b c d e f g h i l = absurd (omega (arith, l))
+nine (_ ∷ []) a b c d e f g h i l = absurd (omega (arith, l))
+nine (_ ∷ _ ∷ []) a b c d e f g h i l = absurd (omega (arith, l))
+nine (_ ∷ _ ∷ _ ∷ []) a b c d e f g h i l = absurd (omega (arith, l))
+nine (_ ∷ _ ∷ _ ∷ _ ∷ []) a b c d e f g h i l = absurd (omega (arith, l))
+nine (_ ∷ _ ∷ _ ∷ _ ∷ _ ∷ []) a b c d e f g h i l = absurd (omega (arith, l))
+nine (_ ∷ _ ∷ _ ∷ _ ∷ _ ∷ _ ∷ []) a b c d e f g h i l = absurd (omega (arith, l))
+nine (_ ∷ _ ∷ _ ∷ _ ∷ _ ∷ _ ∷ _ ∷ []) a b c d e f g h i l = absurd (omega (arith, l))
+nine (_ ∷ _ ∷ _ ∷ _ ∷ _ ∷ _ ∷ _ ∷ _ ∷ []) a b c d e f g h i l = absurd (omega (arith, l))
 
 -- the next move
 module _ (bs : List ℕ) (r : Registers) where

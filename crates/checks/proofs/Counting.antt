@@ -2,17 +2,18 @@
 use mathlib.Core.Path.{◌≡◌, refl, sym, ap, ◌∙◌}
 use mathlib.Core.Bool.{Bool, true, false, ◌&&◌}
 use mathlib.Core.List.{List, [], ◌∷◌, ◌++◌}
-use Prim.Native.Nat.{ℕ, zero, suc, ◌+◌, ◌≤◌, ◌<◌}
+use Prim.Native.Nat.{ℕ, zero, suc, ◌+◌, ◌*◌, ◌/◌, ◌≤◌, ◌<◌}
+use native.Mathlib.Numerals.{add-one}
 use native.Mathlib.Omega.{arith}
 use native.Mathlib.Decide.{ℕ_discrete}
-use lib.ListN.{length, get_or, set, replicate, length-set, length-append, get_or-append}
-use lib.Seq.{get_or-set_same, get_or-set_other}
+use lib.ListN.{length, get_or, set, take, replicate, length-set, length-append, get_or-append}
+use lib.Seq.{take-suc, length-take-le, get_or-set_same, get_or-set_other}
 use lib.Dec.{eqb}
 use borrow.Author.Tests.{eq-eqb, ne_eqb}
 use Rattle.model.specs.Yard.{up, one}
 use Rattle.model.specs.Push.{Move, push, is_up, is_down, count}
 use Rattle.laws.proofs.Basics.{eqb_sym}
-use Rattle.laws.proofs.Wear.{count_le}
+use Rattle.laws.proofs.Wear.{count_append, count_le}
 use Rattle.model.specs.Calls.Plans.{moves_of}
 use Rattle.laws.proofs.Calls.{moves_of_half}
 use Rattle.checks.specs.Crossings.{raised, bare, InYard, CrossingsOf, Counted}
@@ -50,6 +51,34 @@ module _ (ps : List ℕ) where
 
   down_is : (a b v : ℕ) → ((eqb (up ps b) a) && (eqb v b)) ≡ is_down (bare ps) v (push a b)
   down_is a b v = same_edge b v (λ u. eqb (up ps u) a) ∙ rw (eqb_sym v b, eqb_sym (up ps v) a)
+
+  module _ (ms : List Move) (k : ℕ) (l : k < length ms) where
+    next : (p : Move → Bool) → count p (take (k + 1) ms) ≡ count p (take k ms) + one (p (get_or ms k (push 0 0)))
+    unfolding count
+    next p =
+        let m = get_or ms k (push 0 0) in
+        rw (add-one k, take-suc ms k (push 0 0) l) (omega (arith, count_append p (take k ms) (m ∷ [])))
+
+    pub crossed_next : (a b : ℕ) (us ds : List ℕ) → get_or ms k (push 0 0) ≡ push a b → a < length us → b < length ds
+        → CrossingsOf ps (take k ms) us ds
+        → CrossingsOf ps (take (k + 1) ms) (raised a (eqb (up ps a) b) us) (raised b (eqb (up ps b) a) ds)
+    crossed_next a b us ds e la lb c v = (
+      entry_raised a v (eqb (up ps a) b) us la ∙ rw (next (is_up (bare ps) v), e, up_is a b v, (c v).0),
+      entry_raised b v (eqb (up ps b) a) ds lb ∙ rw (next (is_down (bare ps) v), e, down_is a b v, (c v).1),
+    )
+
+  pub crossed_few : (ms : List Move) (k : ℕ) (us ds : List ℕ) → k ≤ length ms → CrossingsOf ps (take k ms) us ds
+      → (v : ℕ) → (get_or us v 0 ≤ k) × (get_or ds v 0 ≤ k)
+  crossed_few ms k us ds l c v =
+      let n = length-take-le k ms l in (
+        omega (arith, (c v).0, count_le (is_up (bare ps) v) (take k ms), n),
+        omega (arith, (c v).1, count_le (is_down (bare ps) v) (take k ms), n),
+      )
+
+-- a move of the plan: its two bytes, and its place among the moves
+module _ {ps plan : List ℕ} (y : InYard ps plan) (k : ℕ) (l : k < length plan / 2) where
+  pub turn : (2 * k + 1 < length plan) × (k < length (moves_of plan))
+  turn = (omega (arith, l), omega (arith, l, moves_of_half plan))
 
 -- an array of zeros
 pub zero_entry : (n v : ℕ) → get_or (replicate {A = ℕ} n 0) v 0 ≡ 0

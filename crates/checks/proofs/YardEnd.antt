@@ -4,7 +4,8 @@ use mathlib.Core.Bool.{Bool, true, false, not, ◌&&◌}
 use mathlib.Core.List.{List}
 use Prim.Native.Nat.{ℕ, suc, ◌+◌, ◌≤◌, ◌<◌}
 use lib.ListN.{length, drop, get_or, drop_of_length-le}
-use lib.Dec.{eqb}
+use lib.Dec.{leb, eqb}
+use borrow.Author.Tests.{lt-leb, le-leb}
 use Rattle.std.specs.Char.{is_ascii_digit}
 use Rattle.model.specs.Sheets.{line_feed}
 use Rattle.model.specs.CheckSheets.{digit_first, yard_part}
@@ -19,6 +20,14 @@ module _ (l : List ℕ) (i : ℕ) where
     pub digit_here : is_ascii_digit (get_or l i 0) ≡ digit_first (drop i l)
     unfolding digit_first
     digit_here = rw (drop_next l i h)
+
+    pub digit_low : get_or l i 0 < 48 → false ≡ digit_first (drop i l)
+    unfolding digit_first
+    digit_low b = rw (drop_next l i h, lt-leb 48 (get_or l i 0) b)
+
+    pub digit_high : 48 ≤ get_or l i 0 → leb (get_or l i 0) 57 ≡ digit_first (drop i l)
+    unfolding digit_first
+    digit_high b = rw (drop_next l i h, le-leb 48 (get_or l i 0) b)
 
     abbrev last : Bool
     last = (eqb (get_or l i 0) line_feed) && (not (digit_first (drop (i + 1) l)))

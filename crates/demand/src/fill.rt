@@ -27,14 +27,15 @@ pub(crate) fn gather(yard: &Lists, list: &mut [i16]) -> usize
     requires { (first_of (list_tests (listed yard.now)) ≡ none) × (length list.old ≡ length yard.now.parents.now) }
     ensures { Gathered (listed yard.now) result list.new }
 {
-    let n = yard.parents.len();
+    let parents = yard.parents;
+    let n = parents.len();
     own(yard.pebbles, yard.targets, list);
-    let mut pending = count_children(yard.parents);
+    let mut pending = count_children(parents);
     let mut left = n;
     for v in 0..n {
         let mut u = v;
         while pending[u] == 1 {
-            let p = yard.parents[u] as usize;
+            let p = parents[u] as usize;
             list[p] = plus(list[p], list[u]);
             pending[p] -= 1;
             pending[u] = 0;

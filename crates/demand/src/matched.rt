@@ -8,7 +8,7 @@ ghost use Rattle.demand.specs.Filling.{demands_then};
 use crate::fill::gather;
 use judge::root::root_of;
 use judge::test::test_lists;
-use judge::tree::{TreeLists, tree_of};
+use judge::tree::{TreeLists, tree_of_tested};
 use model::{Lists, Refusal};
 
 // Writes 0 into every entry.
@@ -33,7 +33,7 @@ pub fn tree_demands<'a>(yard: &Lists<'a>, list: &mut [i16]) -> Result<TreeLists<
     let left = gather(yard, &mut list[..n]);
     if left != 1 {
         clear(&mut list[..n]);
-        return tree_of(yard);
+        return tree_of_tested(yard);
     }
     Ok(TreeLists { lists: *yard })
 }

@@ -4,7 +4,7 @@ use mathlib.Core.Logic.{◌≢◌}
 use mathlib.Core.Bool.{true, false, and-eq-true_iff, false≢true}
 use mathlib.Core.List.{List, [], ◌∷◌, map}
 use mathlib.Core.Option.{Option, none, some}
-use Prim.Native.Nat.{ℕ, ◌+◌, ◌≤◌, ◌<◌}
+use Prim.Native.Nat.{ℕ, ◌+◌, min, ◌≤◌, ◌<◌}
 use native.Mathlib.Numerals.{add-one}
 use native.Mathlib.Omega.{arith}
 use native.Mathlib.Decide.{ℕ_discrete, dec_lt}
@@ -48,6 +48,30 @@ nearest_rest y a t l = rw (t, lt-ltb a (size y) l) (go (empty_fault y))
     go : (f : Option Fault) → answer (first_of (f ∷ [])) (nearestOf y a) ≡ answer f (nearestOf y a)
     go none = refl
     go (some f) = refl
+
+-- the least distance so far, none seen
+pub least_start : {pebbles far : List ℕ} → Least pebbles far 0 unknown
+least_start = record { few = omega arith; least = λ v l. absurd (omega arith); met = λ d. absurd (d refl) }
+
+-- and one node more
+pub least_next : {pebbles far : List ℕ} {v r c : ℕ} → Least pebbles far v r
+    → (0 < get_or pebbles v 0 → c ≡ get_or far v 0) → (get_or pebbles v 0 ≡ 0 → c ≡ unknown)
+    → Least pebbles far (v + 1) (min r c)
+least_next {pebbles} {far} {v} {r} {c} h p q = record {
+  few = omega (arith, h.few);
+  least = λ w l k. at w l k (ℕ_discrete w v);
+  met = λ d. from d (dec_lt c r) (dec_lt 0 (get_or pebbles v 0));
+}
+  where
+    at : (w : ℕ) → w < v + 1 → 0 < get_or pebbles w 0 → Dec (w ≡ v) → min r c ≤ get_or far w 0
+    at w l k (yes e) = rw e (omega (arith, p (rw (sym e) k)))
+    at w l k (no e) = omega (arith, h.least w (omega arith) k)
+
+    from : min r c ≢ unknown → Dec (c < r) → Dec (0 < get_or pebbles v 0)
+        → (w : ℕ) × (w < v + 1) × (0 < get_or pebbles w 0) × (get_or far w 0 ≡ min r c)
+    from d (yes l) (yes k) = (v, omega arith, k, omega (arith, p k))
+    from d (yes l) (no k) = absurd (omega (arith, d, l, q (omega arith), h.few))
+    from d (no l) _ = let m = h.met (λ e. d (omega (arith, e))) in (m.0, omega (arith, m.1), m.2, omega (arith, m.3))
 
 module _ {y : Yard} {a : ℕ} {pebbles far : List ℕ} (q : Asked y a pebbles far) where
   pub as_many : (length pebbles ≡ size y) × (size y ≤ 256)

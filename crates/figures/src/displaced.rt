@@ -61,7 +61,7 @@ fn moving(pebbles: &[u8], depths: &[u8], demands: &[i16], out: &[usize]) -> usiz
     let mut count = 0;
     for (v, pebble) in pebbles.iter().enumerate() {
         let pebble = *pebble as usize;
-        count += pebble.saturating_sub(staying(depths[v] as usize, pebble, demands[v], out[v]));
+        count += pebble - staying(depths[v] as usize, pebble, demands[v], out[v]);
     }
     count
 }

@@ -17,3 +17,6 @@ pub defaults : {A : Type 0} (d : A) (m w : ℕ) → get_or (replicate m d) w d �
 defaults d zero w = refl
 defaults d (suc m) zero = refl
 defaults d (suc m) (suc w) = defaults d m w
+
+pub zeros : (m w : ℕ) → get_or {A = ℕ} (replicate m 0) w 0 ≡ 0
+zeros m w = defaults 0 m w

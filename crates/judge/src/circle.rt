@@ -5,8 +5,9 @@ ghost use Rattle.model.specs.Judge.{Parents};
 ghost use Rattle.lists.specs.Find.{someBelow};
 ghost use Rattle.judge.specs.Climb.{lost, Marked};
 
-// The lowest node that does not climb to `root`. Nodes that are known to reach the root end a climb, so that all climbs together take at most two steps
-// a node, and one that meets a circle at most n more. Mostly the parent is known already.
+// The lowest node that does not climb to `root`. Nodes that are known to reach the root end a climb,
+// so that all climbs together take at most two steps a node, and one that meets a circle at most n
+// more. Mostly the parent is known already.
 pub fn first_circle(parents: &[u8], root: usize) -> Option<usize>
     requires { Parents parents.now × (root < length parents.now) }
     ensures { result ≡ someBelow (length parents.now) (lowest (length parents.now) (lost parents.now root)) }
@@ -14,23 +15,25 @@ pub fn first_circle(parents: &[u8], root: usize) -> Option<usize>
     let n = parents.len();
     let mut known = [false; 256];
     known[root] = true;
-    for v in 0..n {
+    let mut found = None;
+    'nodes: for v in 0..n {
         if known[parents[v] as usize] {
             known[v] = true;
-            continue;
+            continue 'nodes;
         }
         let mut u = v;
         let mut steps = 0;
         while !known[u] {
             if steps == n {
-                return Some(v);
+                found = Some(v);
+                break 'nodes;
             }
             u = parents[u] as usize;
             steps += 1;
         }
         mark(parents, &mut known, v, steps);
     }
-    None
+    found
 }
 
 // Marks the first `steps` nodes of the climb from `v`. Shown is that it marks no other: a mark only spares steps.

@@ -1,11 +1,14 @@
 -- The columns of the crossing report by the demands: each is short, and they are the crossings of the plan.
-use mathlib.Core.Path.{◌≡◌, sym, ap, ◌∙◌}
+use mathlib.Core.Path.{◌≡◌, refl, sym, ap, ◌∙◌}
 use mathlib.Core.List.{List, ◌++◌}
 use Prim.Native.Nat.{ℕ, ◌*◌, ◌/◌, ◌≤◌, ◌<◌}
 use native.Mathlib.Omega.{arith}
 use native.Mathlib.Decide.{dec_lt}
 use lib.ListN.{length, get_or, get_or-eq_default}
-use lib.IntN.{ℤ, pos, nat_abs}
+use lib.IntN.{ℤ, pos, negsuc, nat_abs}
+use lib.Signed.{lt_z}
+use mathlib.Core.Bool.{true, false}
+use borrow.Author.Tests.{ltb-true}
 use Rattle.model.specs.Yard.{Yard, size, root, demand}
 use Rattle.model.specs.Plan.{plan}
 use Rattle.model.specs.Calls.Answers.{rowUnit}
@@ -19,6 +22,23 @@ use Rattle.laws.proofs.Demand3.{plan_fits, plan_optimal}
 use Rattle.sheet.specs.Report.{Columns, report_of}
 use Rattle.sheet.proofs.Edges.{report_is}
 use Rattle.moves.specs.Report.{Demands, Split, Planned, plan_report, planSheet}
+
+-- how far a demand is below 0, and above it
+pub below_negative : (d : ℤ) → lt_z d (pos 0) ≡ true → nat_abs d ≡ below0 d
+below_negative (pos n) h = absurd (omega (arith, ltb-true n 0 h))
+below_negative (negsuc n) h = refl
+
+pub below_other : (d : ℤ) → lt_z d (pos 0) ≡ false → 0 ≡ below0 d
+below_other (pos n) h = refl
+below_other (negsuc n) h = let no : ◌≡◌ {A = ℕ} 0 1 = cc in absurd (omega arith)
+
+pub above_negative : (d : ℤ) → lt_z d (pos 0) ≡ true → 0 ≡ above0 d
+above_negative (pos n) h = absurd (omega (arith, ltb-true n 0 h))
+above_negative (negsuc n) h = refl
+
+pub above_other : (d : ℤ) → lt_z d (pos 0) ≡ false → nat_abs d ≡ above0 d
+above_other (pos n) h = refl
+above_other (negsuc n) h = let no : ◌≡◌ {A = ℕ} 0 1 = cc in absurd (omega arith)
 
 -- the columns: short, and the crossings of the plan
 module _ (ds : List ℤ) (xs zs : List ℕ) (d : Demands ds) (l : length xs ≡ length ds) (k : length zs ≡ length ds) (s : Split ds xs zs (length ds)) where

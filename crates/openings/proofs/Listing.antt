@@ -145,6 +145,10 @@ pub record Walking (y : Yard) (list : List ℕ) (a c end k : ℕ) : Type 0 where
   pub only : (b : ℕ) → at ≤ b → b < end → opening y (push a b) ≡ true → Child y.parents a b
   pub holds : Holds (up_to y a at) list k
 
+pub walk_first : {y : Yard} {t : Marks} {list : List ℕ} {a i c end k : ℕ} → AskedChildren y t list a i c end k
+    → Walking y list a c end k
+walk_first {i = i} h = record { at = i; at_le = h.low; lowest = h.at; only = h.only; holds = h.holds }
+
 module _ {y : Yard} {list : List ℕ} {a c end k : ℕ} (w : Walking y list a c end k) where
   -- a child to which an opening goes
   goes_down : {b i : ℕ} → Child y.parents a b → opening y (push a b) ≡ true → i ≤ b → down_from y a i b ≡ true
@@ -304,6 +308,9 @@ module _ {y : Yard} {t : Marks} {parents list : List ℕ} {n : ℕ} (h : AskedAl
   pub list_none : Holds (collect 0 (openings_from y)) list 0
   unfolding bytes
   list_none = rw (collect_none (openings_from y)) (record { room = h.long; front = refl; counted = refl })
+
+  pub asked_from : {new : List ℕ} {a k : ℕ} → a < n → Holds (collect a (openings_from y)) new k → AskedFrom y t parents new a n k
+  asked_from l s = record { own = h.own; sees = h.sees; node = omega (arith, h.all); all = h.all; holds = s }
 
   pub list_whole : {new : List ℕ} {a k : ℕ} → a ≡ n → Holds (collect a (openings_from y)) new k → ListedAll y new k
   unfolding openings

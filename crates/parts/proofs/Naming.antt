@@ -11,7 +11,8 @@ use lib.Seq.{get_or-set_same, get_or-set_other}
 use lib.IntN.{ℤ, pos, negsuc, nat_abs}
 use lib.Dec.{eqb}
 use mir.Syntax.{w16}
-use mir.Val.{SFits, of_z}
+use mir.Val.{SFits, to_z, of_z}
+use mir.ValLaws.{to_z-of_z}
 use borrow.Author.Count.{below_more}
 use borrow.Author.Tests.{ne_eqb}
 use Rattle.model.specs.Yard.{Yard, size, parent, Matched}
@@ -23,12 +24,28 @@ use Rattle.laws.proofs.Demands.{weight, weight_le}
 use Rattle.laws.proofs.Judged.{facts, wood}
 use Rattle.laws.proofs.Signed.{demand_size}
 use Rattle.laws.proofs.Parts.{topmost_cut, topmost_uncut, topmost_top, parent_heavier, topmost_heavier}
-use Rattle.parts.specs.Naming.{Cut, Lead, Leads, AskedName, AskedShort, Named, AskedNames}
+use Rattle.parts.specs.Naming.{onward, Cut, Lead, Leads, AskedName, AskedShort, Named, AskedNames}
 
 -- a demand is 0 just where its bits are
 pub bits_size : (z : ℤ) → SFits w16 z → eqb (nat_abs z) 0 ≡ eqb (of_z w16 z) 0
 bits_size (pos n) f = refl
 bits_size (negsuc n) f = ne_eqb (suc n) 0 (omega arith) ∙ sym (ne_eqb (65_536 - suc n) 0 (omega (arith, f.sfits)))
+
+-- the edges are cut, node by node
+module _ {parents : List ℕ} {demands : List ℤ} where
+  pub cut_none : {list : List ℕ} → length list ≡ length parents → Cut parents demands list 0
+  cut_none e = record { long = e; entries = λ v l. absurd (omega arith) }
+
+  pub cut_next : {list : List ℕ} {v x : ℕ} → Cut parents demands list v → v < length parents
+      → SFits w16 (get_or demands v (pos 0))
+      → x ≡ onward v (get_or parents v 0) (to_z w16 (of_z w16 (get_or demands v (pos 0))))
+      → Cut parents demands (set list v x) (v + 1)
+  cut_next {list} {v} {x} c l f e = record {
+    long = length-set list v x ∙ c.long;
+    entries = below_more _ v (λ w k. get_or-set_other list v w x 0 (omega arith) ∙ c.entries w k)
+        (get_or-set_same list v x 0 (omega (arith, c.long)) ∙ e
+        ∙ ap (onward v (get_or parents v 0)) (to_z-of_z w16 (get_or demands v (pos 0)) f));
+  }
 
 module _ (y : Yard) (t : Tree y) (m : Matched y) where
   -- one step up the part, if its edge is not cut, leads on; and so does the topmost node at once
@@ -65,6 +82,9 @@ pub record Climbing (y : Yard) (v u k : ℕ) : Type 0 where
   pub first : k ≡ 0 → u ≡ v
 
 module _ {y : Yard} {parts : List ℕ} {v : ℕ} (a : AskedName y parts v) where
+  pub climb_first : Climbing y v v 0
+  climb_first = record { node = a.node; same = refl; few = omega arith; first = λ _. refl }
+
   module _ {u k : ℕ} (c : Climbing y v u k) where
     pub climb_few : (u < length parts) × (k ≤ length parts)
     climb_few = omega (arith, c.node, c.few, weight_le y.parents u, a.leads.long)
@@ -127,6 +147,9 @@ module _ {y : Yard} {before : List ℕ} {v top steps : ℕ} (a : AskedShort y be
 
 -- the node that v leads to
 module _ {y : Yard} {parts : List ℕ} {v : ℕ} (a : AskedName y parts v) where
+  pub asked_in : v < length parts
+  asked_in = omega (arith, a.node, a.leads.long)
+
   pub asked_on : {w : ℕ} → w ≡ get_or parts v 0 → AskedName y parts w
   asked_on e = record { leads = a.leads; node = rw e (a.leads.lead v a.node).node }
 
@@ -142,6 +165,9 @@ short_once {y} {parts} {v} {w} {t} a p q e =
 pub record Names (y : Yard) (list : List ℕ) (v : ℕ) : Type 0 where
   pub leads : Leads y list
   pub below : (w : ℕ) → w < v → get_or list w 0 ≡ topmost y w
+
+pub names_none : {y : Yard} {list : List ℕ} → Leads y list → Names y list 0
+names_none h = record { leads = h; below = λ w l. absurd (omega arith) }
 
 pub names_next : {y : Yard} {before list : List ℕ} {v : ℕ} → Names y before v → Named y before list v → Names y list (v + 1)
 names_next n d = record { leads = d.leads; below = below_more _ _ (λ w l. d.stay w (n.below w l)) d.here }

@@ -50,6 +50,6 @@ pub fn plan_parts(yard: &Lists, plan: &mut [u8], parts: &mut [u8]) -> Result<usi
     }
     name_parts(yard.parents, &s.demands, parts);
     let t = tables(yard.parents);
-    let count = plan_each(&t, &mut s, plan, parts);
+    let count = plan_each(&t.children, &mut s, plan, parts);
     Ok(count)
 }

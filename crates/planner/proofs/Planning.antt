@@ -86,6 +86,9 @@ module _ (y : Yard) (t : Tree y) (s : State) (k : Kept y s) where
   pub front_length : length (take (size y) s.demands) ≡ size y
   front_length = length-take-le (size y) s.demands (omega (arith, k.long.demands, (facts y t).few))
 
+  pub front_long : size y ≤ length s.demands
+  front_long = omega (arith, k.long.demands, (facts y t).few)
+
   pub sizes_range : (v : ℕ) → nat_abs (get_or (take (size y) s.demands) v (pos 0)) ≤ 2_048
   sizes_range v = go (dec_lt v (size y))
     where

@@ -29,7 +29,7 @@ fn plan_sheet(yard: &Lists, plan: &mut [u8]) -> Result<usize, Refusal>
     let t = tables(yard.parents);
     let root = root_of(&tree);
     let mut moves = [0u8; 512];
-    let count = balance_subtrees(&t, &mut s, plan, &mut moves, yard.parents, root, n);
+    let count = balance_subtrees(&t.children, &mut s, plan, &mut moves, yard.parents, root, n);
     Ok(count)
 }
 

@@ -2,7 +2,7 @@
 -- decimal has only digits, no zero before another, and a number that grows with each of them.
 use mathlib.Core.Path.{◌≡◌, refl, sym, ap, ◌∙◌}
 use mathlib.Core.Bool.{Bool, true, not, ◌&&◌, and-eq-true_iff}
-use mathlib.Core.List.{List, [], ◌∷◌, ◌++◌}
+use mathlib.Core.List.{List, [], ◌∷◌, ◌++◌, append_assoc}
 use mathlib.Core.Option.{Option, none, some}
 use Prim.Native.Nat.{ℕ, ◌+◌, ◌-◌, ◌*◌, ◌/◌, ◌%◌, ◌≤◌, ◌<◌}
 use native.Mathlib.Omega.{arith}
@@ -12,7 +12,7 @@ use borrow.Author.Tests.{leb-true, ltb-true, not-false}
 use Rattle.model.specs.Yard.{below}
 use Rattle.model.specs.Sheets.{digits, decimal, Field, field}
 use Rattle.std.specs.Prelude as Std
-use Rattle.std.specs.Prelude.{Ok, Err}
+use Rattle.std.specs.Prelude.{Ok, Err, Some}
 use Rattle.std.specs.Result.{OkIff, result_ok}
 use Rattle.reader.specs.Reading.{Extended}
 use Rattle.laws.proofs.Basics.{below_none}
@@ -156,3 +156,7 @@ pub field_begins : (l : List ℕ) (i : ℕ) → i < length l → 48 ≤ get_or l
 field_begins l i h low high =
     let e : 48 + (get_or l i 0 - 48) ≡ get_or l i 0 = omega arith in
     drop_next l i h ∙ sym (rw (decimal_low (get_or l i 0 - 48) (omega arith), e))
+
+pub field_goes_on : (bs l : List ℕ) (i u : ℕ) {r : ℕ} → i < length l → bs ≡ decimal u ++ drop i l
+    → Extended u (get_or l i 0) (Some r) → bs ≡ decimal r ++ drop (i + 1) l
+field_goes_on bs l i u h z x = z ∙ rw (drop_next l i h, x.1) (sym (append_assoc (decimal u) (get_or l i 0 ∷ []) (drop (i + 1) l)))

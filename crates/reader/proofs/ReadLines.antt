@@ -1,20 +1,22 @@
 -- A line field by field, and the nodes of a sheet line by line: what the fields or lines so far say stands in front of what the others do.
 use mathlib.Core.Path.{◌≡◌, refl, sym, ap, ◌∙◌}
 use mathlib.Core.Option.{Option, none, some, map}
+use mathlib.Core.Bool.{Bool, true, false}
 use mathlib.Core.List.{List, [], ◌∷◌, ◌++◌, append_assoc, append-nil}
 use Prim.Native.Nat.{ℕ, suc, ◌+◌, ◌-◌, ◌<◌}
 use native.Mathlib.Nat.{sub-zero, sub_self}
 use native.Mathlib.Numerals.{add-one}
 use native.Mathlib.Omega.{arith}
 use lib.ListN.{length, take, drop, set, get_or, length-set}
-use lib.Seq.{take-suc-set, take_all}
+use lib.Seq.{take-suc-set, take_all, get_or-take}
 use Rattle.model.specs.Yard.{Yard, yard_of, max_size}
 use Rattle.model.specs.Judge.{row}
 use Rattle.model.specs.Calls.Answers.{Answer, answered, refused, mapAnswer}
 use lib.Pointwise.{pointwise}
 use lib.Dec.{eqb}
 use Rattle.model.specs.Sheets.{begins, ◌>>=◌, text, header, stopBefore, line_values, field, Line, readLine, node_of, same, columns, readNodes}
-use Rattle.laws.proofs.Basics.{eqb_sym}
+use Rattle.laws.proofs.Basics.{eqb_sym, not_so}
+use Rattle.laws.proofs.Lines.{same_true, same_self}
 use Rattle.laws.proofs.Sheets.{read_nodes_end, read_nodes_over, read_nodes_shape, read_nodes_other, read_nodes_next}
 use Rattle.reader.specs.Reading.{Full, lines_say}
 use Rattle.sheet.proofs.Writing.{drop_next}
@@ -75,6 +77,24 @@ same_is (a ∷ xs) (b ∷ ys) = rw (eqb_sym a b, same_is xs ys)
 
 pub begun_is : (list head : List ℕ) → pointwise eqb head (take (length head) list) ≡ begins head list
 begun_is list head = same_is head (take (length head) list)
+
+-- a list that begins with another
+module _ (list head : List ℕ) where
+  abbrev begun : Bool
+  begun = same (take (length head) list) head
+
+  front_of : begun ≡ true → take (length head) list ≡ head
+  front_of e = same_true (take (length head) list) head e
+
+  pub begins_short : length list < length head → false ≡ begun
+  begins_short h = sym (not_so begun (λ e. omega (arith, ap length (sym (take_all (length head) list (omega arith)) ∙ front_of e))))
+
+  pub begins_not : (i : ℕ) → i < length head → (get_or list i 0 ≡ get_or head i 0 → ⊥) → false ≡ begun
+  begins_not i h n =
+      sym (not_so begun (λ e. n (sym (get_or-take (length head) list i 0 h) ∙ ap (λ (l : List ℕ). get_or l i 0) (front_of e))))
+
+  pub begins_all : take (length head) list ≡ head → true ≡ begun
+  begins_all e = sym (rw e (same_self head))
 
 -- what the first v lines say, in front of what the others do
 abbrev front : List ℕ → List ℕ → List ℕ → List ℕ → Yard → Yard

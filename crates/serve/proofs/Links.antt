@@ -11,6 +11,7 @@ use native.Mathlib.Decide.{ℕ_discrete}
 use lib.ListN.{length, get_or, set, length-set}
 use lib.Seq.{get_or-set_same, get_or-set_other}
 use lib.Dec.{eqb}
+use borrow.Author.Count.{below_more}
 use borrow.Author.Tests.{le-leb, lt-leb, eq-eqb, ne_eqb}
 use Rattle.model.specs.Yard.{up, head_or, is_child}
 use Rattle.laws.proofs.Found.{found, missed, from_next}
@@ -26,6 +27,22 @@ alone {ps} f = record {
   first = λ u k. record { is = f.first u k ∙ missed (length ps) u (is_child_from ps u (length ps)) (λ v m. rw (lt-leb (length ps) v m)) };
   next = λ c k m d. absurd (omega arith);
 }
+
+-- the nodes below i are entered
+pub record Entered (i : ℕ) (t : Children) : Type 0 where
+  pub long : (length t.lowest ≡ 256) × (length t.next ≡ 256)
+  pub first : (u : ℕ) → u < i → get_or t.lowest u 0 ≡ u
+
+pub enter : {i : ℕ} {t : Children} → Entered i t → i < 256 → Entered (i + 1) (record t { lowest = set t.lowest i i })
+enter {i} {t} f l = record {
+  long = (length-set t.lowest i i ∙ f.long.0, f.long.1);
+  first = below_more _ i (λ u k. get_or-set_other t.lowest i u i 0 (omega arith) ∙ f.first u k)
+      (get_or-set_same t.lowest i i 0 (omega (arith, f.long.0)));
+}
+
+-- all are entered, and none is linked yet
+pub entered : {i : ℕ} {ps : List ℕ} {t : Children} → Entered i t → length ps ≤ i → Linked (length ps) ps t
+entered {i} {ps} f l = alone (record { lowest_long = f.long.0; next_long = f.long.1; first = λ u k. f.first u (omega arith) })
 
 module _ (v : ℕ) {ps : List ℕ} {t : Children} (f : Linked (v + 1) ps t) where
   -- linking v changes nothing for a node u that is not its parent

@@ -42,7 +42,7 @@ next_undo false (negsuc (suc n)) = refl
 pub step_undo : (b : Bool) (i : ℕ) (s : List ℤ) → i < length s → stepped (not b) i (stepped b i s) ≡ s
 step_undo b i s l = rw (get_or-set_same s i (nextℤ b (get_or s i (pos 0))) (pos 0) l, next_undo b (get_or s i (pos 0)), set_twice s i (nextℤ b (get_or s i (pos 0))) (get_or s i (pos 0))) (set-get_or s i (pos 0))
 
-step_redo : (b : Bool) (i : ℕ) (s : List ℤ) → i < length s → stepped b i (stepped (not b) i s) ≡ s
+pub step_redo : (b : Bool) (i : ℕ) (s : List ℤ) → i < length s → stepped b i (stepped (not b) i s) ≡ s
 step_redo true i s l = step_undo false i s l
 step_redo false i s l = step_undo true i s l
 
@@ -67,7 +67,7 @@ step_near b i j s = go (ℕ_discrete j i) (dec_lt i (length s))
 step_set : (b : Bool) (i j : ℕ) (a : ℤ) (s : List ℤ) → i ≢ j → stepped b i (set s j a) ≡ set (stepped b i s) j a
 step_set b i j a s d = rw (get_or-set_other s j i a (pos 0) d) (set_swap s j i a (nextℤ b (get_or s i (pos 0))) (λ e. d (sym e)))
 
-step_step : (b c : Bool) (i j : ℕ) (s : List ℤ) → i ≢ j → stepped b i (stepped c j s) ≡ stepped c j (stepped b i s)
+pub step_step : (b c : Bool) (i j : ℕ) (s : List ℤ) → i ≢ j → stepped b i (stepped c j s) ≡ stepped c j (stepped b i s)
 step_step b c i j s d = step_set b i j (nextℤ c (get_or s j (pos 0))) s d ∙ rw (get_or-set_other s i j (nextℤ b (get_or s i (pos 0))) (pos 0) (λ e. d (sym e)))
 
 -- two steps of a count, there and back
@@ -80,9 +80,12 @@ count_redo b v s l = ap (λ (p : List ℤ). record s { pebbles = p }) (step_redo
 pub count_count : (b c : Bool) (v w : ℕ) (s : State) → v ≢ w → pebble_counted b v (pebble_counted c w s) ≡ pebble_counted c w (pebble_counted b v s)
 count_count b c v w s d = ap (λ (p : List ℤ). record s { pebbles = p }) (step_step b c v w s.pebbles d)
 
--- a child picked: the pebbles stay; the one served last is read where it was written, and
--- elsewhere it stays
+-- a child picked, and a pebble counted: the pebbles stay; the one served last is read where it was
+-- written, and elsewhere it stays
 module _ (b : Bool) (u c : ℕ) (s : State) where
+  pub count_pick : (a : Bool) (v : ℕ) → pebble_counted a v (picked_state b u c s) ≡ picked_state b u c (pebble_counted a v s)
+  count_pick a v = refl
+
   pub pick_reads : (v : ℕ) → get_or (picked_state b u c s).pebbles v (pos 0) ≡ get_or s.pebbles v (pos 0)
   pick_reads v = refl
 
@@ -126,7 +129,7 @@ pub shift_steps : (t : List ℕ) (b : Bool) (v : ℕ) (s : State) → v ≢ up t
 shift_steps t true v s d = refl
 shift_steps t false v s d = count_count false true (up t v) v (picked_state false (up t v) v s) (λ e. d (sym e))
 
--- some moves more, and how long the pebbles are
+-- some moves more, and how long the lists of the state are
 pub moved_append : (b : Bool) (ms ns : List Move) (s : State) → moved_all b (ms ++ ns) s ≡ moved_all b ns (moved_all b ms s)
 unfolding moved_all
 moved_append b [] ns s = refl
@@ -137,7 +140,19 @@ unfolding moved_all
 moved_crossing t true v s = refl
 moved_crossing t false v s = refl
 
-pub moved_length : (b : Bool) (ms : List Move) (s : State) → length (moved_all b ms s).pebbles ≡ length s.pebbles
+abbrev AsLong : State → State → Type 0
+AsLong z s =
+    (length z.demands ≡ length s.demands) × (length z.pebbles ≡ length s.pebbles) × (length z.last_filled ≡ length s.last_filled)
+    × (length z.last_drawn ≡ length s.last_drawn) × (length z.depths ≡ length s.depths)
+
+pub moved_length : (b : Bool) (ms : List Move) (s : State) → AsLong (moved_all b ms s) s
 unfolding moved_all
-moved_length b [] s = refl
-moved_length b (m ∷ ms) s = moved_length b ms (moved_state b (cond b m.from m.to) (cond b m.to m.from) s) ∙ simp length-set refl
+moved_length b [] s = (refl, refl, refl, refl, refl)
+moved_length b (m ∷ ms) s =
+    let r = moved_length b ms (moved_state b (cond b m.from m.to) (cond b m.to m.from) s) in
+    let n = one b (cond b m.from m.to) (cond b m.to m.from) in
+    (r.0 ∙ n.0, r.1 ∙ n.1, r.2 ∙ n.2, r.3 ∙ n.3, r.4 ∙ n.4)
+  where
+    one : (b : Bool) (p v : ℕ) → AsLong (moved_state b p v s) s
+    one true p v = (simp length-set refl, simp length-set refl, simp length-set refl, refl, refl)
+    one false p v = (simp length-set refl, simp length-set refl, refl, simp length-set refl, refl)

@@ -261,7 +261,9 @@ filled_last {b} {y} {t} {n} {end} {u} {v} {k} {s} {s'} {list} a h l q c = record
     here = record { lt = a.due.lt; up = refl; other = λ e. a.due.off_root ((wood y tree).root_only v a.due.lt (sym e)) }
 
     long : length s'.pebbles ≡ 256
-    long = sym (length-set s'.pebbles v (nextℤ b (get_or s'.pebbles v (pos 0)))) ∙ ap (λ (z : State). length z.pebbles) c.state ∙ moved_length b c.moves s ∙ a.halfway.long.pebbles
+    long =
+        sym (length-set s'.pebbles v (nextℤ b (get_or s'.pebbles v (pos 0)))) ∙ ap (λ (z : State). length z.pebbles) c.state
+        ∙ (moved_length b c.moves s).1 ∙ a.halfway.long.pebbles
 
 -- a turn at u, whose child v was picked: what filling v or drawing from it asks, and the counts of both
 module _ {b : Bool} {y : Yard} {t : Children} {s₀ s : State} {plan : List ℕ} {u v : ℕ} (a : AskedServe b y t s₀ s plan u v) where

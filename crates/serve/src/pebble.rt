@@ -7,6 +7,7 @@ ghost use Rattle.serve.specs.Serving.{Small, Room, pebble_counted, recorded, Ask
 use crate::choose::{nearer, pick};
 use crate::state::State;
 use crate::tree::Children;
+use lists::copy::copy;
 
 // How many moves the list of a filling has places for, and how many bytes it has.
 const PLACES: usize = 256;
@@ -115,7 +116,7 @@ fn hand_over(moves: &[u8], k: usize, plan: &mut [u8]) -> usize
     ensures k_value { result + k ≡ 256 }
     ensures plan_value { plan.new ≡ overwrite (drop (2 * k) moves.now) plan.old }
 {
-    plan[..LIST_BYTES - 2 * k].copy_from_slice(&moves[2 * k..]);
+    copy(&moves[2 * k..], &mut plan[..LIST_BYTES - 2 * k]);
     PLACES - k
 }
 

@@ -37,10 +37,18 @@ impl Children {
     }
 }
 
+// The parents of a tree's nodes, and their children.
+#[derive(Drop)]
+pub struct Family<'a> {
+    pub parents: &'a [u8],
+    pub children: Children,
+}
+
 // Linked from the highest node down, so that each parent's children come in rising order.
-pub fn tables(parents: &[u8]) -> Children
+pub fn tables(parents: &[u8]) -> Family<'_>
     requires { Parents parents.now }
-    ensures { Tables parents.now result }
+    ensures parents { result.parents.now ≡ parents.now }
+    ensures children { Tables parents.now result.children }
 {
     let mut t = Children::unlinked(parents.len());
     for v in (0..parents.len()).rev() {
@@ -49,5 +57,8 @@ pub fn tables(parents: &[u8]) -> Children
             t.link(v, p);
         }
     }
-    t
+    Family {
+        parents,
+        children: t,
+    }
 }

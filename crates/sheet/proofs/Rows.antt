@@ -76,6 +76,14 @@ moves_next (a ∷ []) rest h = absurd (omega arith)
 moves_next (a ∷ b ∷ []) rest h = refl
 moves_next (a ∷ b ∷ d ∷ pair) rest h = absurd (omega arith)
 
+pub length_moves_next : (plan : List ℕ) (i : ℕ) → i + 1 < length plan
+    → length (moves (drop i plan)) ≡ length (line (get_or plan i 0 ∷ get_or plan (i + 1) 0 ∷ [])) + length (moves (drop (i + 2) plan))
+unfolding lines moves_of
+length_moves_next plan i h =
+    let n : i + 1 + 1 ≡ i + 2 = omega arith in
+    rw (drop_next plan i (omega arith), drop_next plan (i + 1) h, n)
+    (length-append (line (get_or plan i 0 ∷ get_or plan (i + 1) 0 ∷ [])) (moves (drop (i + 2) plan)))
+
 pub moves_end : (plan : List ℕ) → length plan < 2 → moves plan ≡ []
 unfolding lines moves_of
 moves_end [] h = refl

@@ -33,8 +33,8 @@ returns-then-left-ne1 c =
     let g = c.gather-left in
     let room : length y.parents ≤ length (g.new.list ++ drop (length y.parents) a.list.now) =
     omega (arith, length-append {A = ℤ} g.new.list (drop (length y.parents) a.list.now), g.ensures.long) in record {
-      result_value = c.tree_of.ensures.result_value;
-      tree_value = c.tree_of.ensures.tree_value;
+      result_value = c.tree_of_tested.ensures.result_value;
+      tree_value = c.tree_of_tested.ensures.tree_value;
       list_value = ap (λ (rest : List ℤ). c.clear.new.list ++ rest) (drop_at g.new.list _ (length y.parents) g.ensures.long)
           ∙ then_shape y _ passed (λ t. c.if-left-ne1.true (omega (arith, g.ensures.tree t)))
           (c.clear.ensures ∙ ap (λ (n : ℕ). replicate n (pos 0)) (length-take-le _ _ room));

@@ -27,6 +27,6 @@ loop-v-preserved c =
     let p = get_or a.pebbles.now v 0 in
     let f = λ (z : ℤ). staying_of (get_or a.depths.now v 0) p z (get_or a.out.now v 0) in
     let stays : c.staying.result ≡ f d = c.staying.ensures ∙ ap f (to_z-of_z w16 d (small_fits d (c.requires.by_index v))) in
-    let adds : c.saturating_sub-count.result ≡ moving_at a.pebbles.now a.depths.now a.demands.now a.out.now v
-    = c.saturating_sub-count.ensures ∙ ap (λ (x : ℕ). p - x) stays in
-    (rw add-one (omega (arith, adds)), omega (arith, c.saturating_sub-count.ensures, (c.type_inv.pebbles v).fits))
+    let adds : p - c.staying.result ≡ moving_at a.pebbles.now a.depths.now a.demands.now a.out.now v
+    = ap (λ (x : ℕ). p - x) stays in
+    (rw add-one (omega (arith, adds)), omega (arith, (c.type_inv.pebbles v).fits))

@@ -68,7 +68,7 @@ plan_each-count-requires c =
     let l = c.sizes-length.ensures ∙ sizes_shortest _ m.0 _ k in
     let h : c.sizes-length.result ≤ length c.args.plan.now / 2 = omega (arith, c.if-plan-length.false) in
     let d = c.name_parts.ensures _ (names_asked _ m.0 m.1 _ k _ n) in
-    (_, parts_asked _ m.0 m.1 _ k _ c.tables-t.ensures _ _ l h _ d)
+    (_, parts_asked _ m.0 m.1 _ k _ c.tables-t.ensures.children _ _ l h _ d)
 
 pub returns : goal.returns
 returns c =
@@ -79,6 +79,6 @@ returns c =
     let l = c.sizes-length.ensures ∙ sizes_shortest _ m.0 _ k in
     let h : c.sizes-length.result ≤ length c.args.plan.now / 2 = omega (arith, c.if-plan-length.false) in
     let d = c.name_parts.ensures _ (names_asked _ m.0 m.1 _ k _ n) in
-    let r = c.plan_each-count.ensures _ (parts_asked _ m.0 m.1 _ k _ c.tables-t.ensures _ _ l h _ d) in
+    let r = c.plan_each-count.ensures _ (parts_asked _ m.0 m.1 _ k _ c.tables-t.ensures.children _ _ l h _ d) in
     let f = parts_accepted _ c.args.plan.now c.args.parts.now m.0 m.1 n _ l h in
     record { result_value = rw (f, ← r.counted) refl; plan_value = rw f r.written; parts_value = rw f d }

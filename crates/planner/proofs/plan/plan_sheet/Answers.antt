@@ -49,7 +49,7 @@ balance_subtrees-count-requires c =
     let l = c.sizes-length.ensures ∙ sizes_shortest _ m.0 _ k in
     let h : c.sizes-length.result ≤ length c.args.plan.now / 2 = omega (arith, c.if-plan-length.false) in
     let r = rw c.in_ok-tree.ensures.tree_value at c.root_of-root.ensures in
-    (_, root_asked _ m.0 m.1 _ _ l h _ _ c.tables-t.ensures k _ r, weight_le c.args.yard.now.parents.now _, omega arith)
+    (_, root_asked _ m.0 m.1 _ _ l h _ _ c.tables-t.ensures.children k _ r, weight_le c.args.yard.now.parents.now _, omega arith)
 
 pub returns : goal.returns
 returns c =
@@ -59,7 +59,7 @@ returns c =
     let l = c.sizes-length.ensures ∙ sizes_shortest _ m.0 _ k in
     let h : c.sizes-length.result ≤ length c.args.plan.now / 2 = omega (arith, c.if-plan-length.false) in
     let r = rw c.in_ok-tree.ensures.tree_value at c.root_of-root.ensures in
-    let a = root_asked _ m.0 m.1 _ _ l h _ _ c.tables-t.ensures k _ r in
+    let a = root_asked _ m.0 m.1 _ _ l h _ _ c.tables-t.ensures.children k _ r in
     let p = plan_written _ m.0 m.1 _ _ l h _ r _ _ _ (c.balance_subtrees-count.ensures _ a) in
     let f = plan_accepted _ m.0 m.1 c.args.plan.now _ l h in
     record { result_value = rw (f, ← p.0) refl; plan_value = rw f p.1 }
