@@ -4,4 +4,7 @@
 pub mod kinds;
 pub mod lines;
 pub mod lists;
+mod long;
 pub mod print;
+#[cfg(test)]
+mod tests;

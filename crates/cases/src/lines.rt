@@ -1,9 +1,11 @@
 // Cases as text, one to a line: a kind, a label, then lists and numbers, between bars. A line that
 // begins with # is a comment.
-ghost use Rattle.std.specs.Prelude.{◌≤◌, ◌<◌, length};
+ghost use Rattle.std.specs.Prelude.{◌≡◌, ◌≤◌, ◌<◌, IfOk, length, map};
 ghost use Rattle.io.specs.Counts.{IsPrefixLen};
+ghost use Rattle.cases.specs.Reading.{fields_of, without_first, without_last};
 
 use crate::print::text;
+use std::alloc::{AllocError, Global};
 
 // The first place from an index on where a byte stands, or the end.
 pub fn find(bytes: &[u8], from: usize, byte: u8) -> usize
@@ -74,4 +76,18 @@ pub fn field(line: &[u8], number: usize) -> &[u8] {
     let part = &line[from..to];
     let part = part.strip_prefix(b" ").unwrap_or(part);
     part.strip_suffix(b" ").unwrap_or(part)
+}
+
+// All fields of a case, each without the space on either side of it.
+pub fn fields(alloc: Global, line: &str) -> Result<Vec<&str>, AllocError>
+    ensures { IfOk result (λ v. map (λ field. field.now) v.items ≡ fields_of line.now) }
+{
+    line.split('|').map(without_spaces).collect(alloc)
+}
+
+fn without_spaces(field: &str) -> &str
+    ensures { result.now ≡ without_last (without_first field.now) }
+{
+    let field = field.strip_prefix(' ').unwrap_or(field);
+    field.strip_suffix(' ').unwrap_or(field)
 }

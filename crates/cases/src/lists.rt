@@ -1,10 +1,13 @@
 // Numbers and lists as text. A list's items are parted by a space: `7` is an entry, `7*3` is 7 7 7,
 // `3-6` is 3 4 5 6, and `^9` is what stands before it in the list, over and over, up to 9 entries.
 ghost use Rattle.std.specs.Prelude.{◌≤◌, length};
+ghost use Rattle.cases.specs.Reading.{NumberOf};
 
 use crate::lines::{bad, find};
+use anyhow::{Context, Result};
+use std::str::FromStr;
 
-// What stands for a number that cannot be read: above each that a text can say.
+// What stands for a number that cannot be read: above each that `decimal` reads.
 pub const NONE: usize = 1_000_000;
 
 // A number with a digit more.
@@ -170,4 +173,13 @@ pub fn part<'a>(digits: &[u8], list: &'a mut [u8]) -> &'a mut [u8] {
         bad(digits);
     }
     front(list, n)
+}
+
+// The number that a text says, of any type that can be read. An error is made of the text.
+pub fn number<N: FromStr>(text: &str) -> Result<N>
+where
+    N::Err: Drop,
+    ensures { NumberOf N.from_str_gives text.now result }
+{
+    text.parse().ok().context(text)
 }
