@@ -13,6 +13,7 @@ use Rattle.std.specs.Prelude.{Option, slice_index}
 use Rattle.std.specs.Option.{MatchOption, unwrap_or}
 use Rattle.cases.specs.Reading.{without_first, without_last}
 
+-- what is left of a text, or the text itself, is the text without a space at its front
 pub cut_first : (o : Option (Bor (List ℕ))) (text : Bor (List ℕ))
     → MatchOption o ((rest : List ℕ) → text.now ≢ 32 ∷ rest) (λ x. text.now ≡ 32 ∷ x.now)
     → (unwrap_or o text).now ≡ without_first text.now
@@ -27,12 +28,13 @@ cut_first None text h = go text.now h
         at (yes e) = absurd (n l (ap (λ (c : ℕ). c ∷ l) e))
         at (no d) = rw (ne_eqb b 32 d) refl
 
--- the last byte of a text that has one
+-- a text that is not empty is its front and its last byte
 last_of : (l : List ℕ) → 0 < length l → l ≡ take (length l - 1) l ++ (slice_index l (length l - 1) ∷ [])
 last_of l h =
     let n : length l - 1 + 1 ≡ length l = omega arith in
     sym (take_all (length l - 1 + 1) l (omega arith)) ∙ take_more l (length l - 1) 0 (omega arith)
 
+-- the same at its end
 pub cut_last : (o : Option (Bor (List ℕ))) (text : Bor (List ℕ))
     → MatchOption o ((front : List ℕ) → text.now ≢ front ++ (32 ∷ [])) (λ x. text.now ≡ x.now ++ (32 ∷ []))
     → (unwrap_or o text).now ≡ without_last text.now

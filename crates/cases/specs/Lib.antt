@@ -1,3 +1,3 @@
--- What the functions of this crate read and print that other crates call.
+-- What this crate's functions for other crates read and print.
 pub mod Printing
 pub mod Reading

@@ -22,7 +22,7 @@ abbrev pub answer_text : {A : Type 0} → (A → List ℕ) → Result A Refusal 
 answer_text f (Ok a) = f a
 answer_text f (Err r) = refusal_text r
 
--- the numbers of an answer, each behind its name
+-- the numbers of an answer, each after its name
 abbrev pub checked_text : Checked → List ℕ
 checked_text c = codes "moves " ++ decimal c.moves ++ codes " spare " ++ decimal c.excess
 
@@ -44,7 +44,7 @@ abbrev pub signalled_text : Signalled → List ℕ
 signalled_text Raised = codes "raised"
 signalled_text Quiet = codes "quiet"
 
--- the entries of a list, each as `text` says and behind a space
+-- the entries of a list, each as `text` says, after a space
 abbrev pub entries_text : {T : Type 0} → (T → Option (List ℕ)) → List T → Option (List ℕ)
 entries_text text [] = Some []
 entries_text text (x ∷ xs) = (Some (codes " ") ++? text x) ++? entries_text text xs

@@ -16,8 +16,8 @@ without_last l = if slice_index l (length l - 1) == 32 then take (length l - 1) 
 abbrev pub fields_of : List ℕ → List (List ℕ)
 fields_of line = map (λ part. without_last (without_first part)) (slice_split (λ b. b == 124) line)
 
--- the number that `reads`, the reading of its type, gives of a text; where that gives none, an
--- error that is made of the text
+-- the number that a text is read as, by its type's own `reads`; if that fails, an error made of the
+-- text
 abbrev pub NumberOf : {N E : Type 0} → (List ℕ → Result N E → Type 0) → List ℕ → Result N Error → Type 0
 NumberOf {N} {E} reads text result =
     (r : Result N E) × reads text r × MatchResult result (λ n. r ≡ Ok n) (λ e. IsErr r × IsMadeOf (Some text) e)

@@ -259,7 +259,7 @@ impl fmt::Display for Answer<Result<Signalled, Refusal>> {
     }
 }
 
-// The entries of a list, each behind a space.
+// The entries of a list, each after a space.
 #[derive(Drop)]
 pub struct Entries<'a, T>(pub &'a [T]);
 

@@ -1,4 +1,4 @@
--- `number` is what `parse` gives: by cases on that, and on what is told of it.
+-- `number` gives what `parse` gives: by cases on the two results.
 use mathlib.Core.Path.{refl, sym}
 use Rattle.std.proofs.Common.{◌≡◌, Ok, Err, Some, None}
 use Rattle.std.specs.Prelude.{Result, MatchResult, IsErr}

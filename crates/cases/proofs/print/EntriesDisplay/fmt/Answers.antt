@@ -1,4 +1,4 @@
--- `fmt` of `Entries`: one more entry is written behind the others.
+-- `fmt` of `Entries`: one more entry is written after the others.
 use mathlib.Core.Path.{refl}
 use Rattle.std.proofs.Common.{take, Ok}
 use Rattle.std.proofs.lemmas.List.{take_more}
